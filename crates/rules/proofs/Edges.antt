@@ -1,0 +1,8 @@
+-- P1 to P12 hold of the rules, by computation.
+use mathlib.Core.Path.{refl}
+use Rattle.rules.specs.Edges.{edges, Holds}
+use Rattle.rules.proofs.Opened.{rules}
+
+pub edges-hold : Holds edges
+unfolding rules
+edges-hold = (refl, (refl, (refl, (refl, (refl, (refl, (refl, (refl, (refl, (refl, (refl, (refl, (refl, (refl, (refl, (refl, tt))))))))))))))))

@@ -1,0 +1,240 @@
+-- What a line says: one JSON object with exactly one member, an action by its key.
+use mathlib.Core.Bool.{Bool, true, false}
+use mathlib.Core.Option.{Option, none, some}
+use mathlib.Core.List.{List, [], _∷_}
+use Prim.Native.Nat.{ℕ}
+use Prim.Native.String.{String}
+use lib.Dec.{leb}
+use lib.ListN.{length}
+use Rattle.rules.specs.Bytes.{Bytes, ascii, _>>=_, guard, first, among, same, distinct, firsts}
+use Rattle.rules.specs.Json.Text.{Text}
+use Rattle.rules.specs.Json.Numbers.{whole}
+use Rattle.rules.specs.Json.Values.{Member, objectOf}
+use Rattle.rules.specs.Json.Fields.{once, optional, ifThere, stringAt, wholeAt, boolOf, stringOrNull, stringsOf, unquoted}
+
+-- JSON nests at most 32 objects and arrays deep, line object included: what stands inside of 1, 2 and 3 of them
+unfoldable pub inLine : ℕ
+inLine = 31
+
+unfoldable pub inAction : ℕ
+inAction = 30
+
+unfoldable pub inField : ℕ
+inField = 29
+
+-- ---- add and remove
+
+-- partition columns, each with its value: none is null
+abbrev pub Pairs : Type 0
+Pairs = List (Bytes × Option Bytes)
+
+-- the facts of a file
+pub record Facts : Type 0 where
+  pub path : Bytes
+  pub size : ℕ
+  pub modificationTime : ℕ
+  pub numRecords : Option ℕ
+  pub partitionValues : Pairs
+
+-- path (1 to 512 decoded bytes)
+unfoldable pub pathAt : List Member → Option Bytes
+pathAt ms = do
+  p ← stringAt "path" ms
+  _ ← guard (among 1 512 (length p))
+  some p
+
+unfoldable pub pairs : List Member → Option Pairs
+pairs [] = some []
+pairs (m ∷ ms) = do
+  x ← stringOrNull (m .1)
+  xs ← pairs ms
+  some ((m .0, x) ∷ xs)
+
+-- partitionValues (object, distinct keys, each value a string or null)
+unfoldable pub partitionValuesAt : List Member → Option Pairs
+partitionValuesAt ms = do
+  v ← once "partitionValues" ms
+  o ← objectOf inField v
+  _ ← guard (distinct (firsts o))
+  pairs o
+
+unfoldable pub addOf : List Member → Option Facts
+addOf ms = do
+  p ← pathAt ms
+  s ← wholeAt "size" ms
+  t ← wholeAt "modificationTime" ms
+  c ← once "dataChange" ms
+  _ ← boolOf c
+  ps ← partitionValuesAt ms
+  v ← optional "numRecords" ms
+  n ← ifThere whole v
+  some (record { path = p; size = s; modificationTime = t; numRecords = n; partitionValues = ps })
+
+-- ---- protocol
+
+pub record Protocol : Type 0 where
+  pub minReaderVersion : ℕ
+  pub minWriterVersion : ℕ
+  pub readerFeatures : List Bytes
+  pub writerFeatures : List Bytes
+
+-- without a protocol line it is (1, 1), no features
+unfoldable pub unstated : Protocol
+unstated = record { minReaderVersion = 1; minWriterVersion = 1; readerFeatures = []; writerFeatures = [] }
+
+-- 1 to 2,147,483,647
+unfoldable pub protocolNumberAt : String → List Member → Option ℕ
+protocolNumberAt name ms = do
+  n ← wholeAt name ms
+  _ ← guard (among 1 2_147_483_647 n)
+  some n
+
+unfoldable pub orEmpty : Option (List Bytes) → List Bytes
+orEmpty none = []
+orEmpty (some xs) = xs
+
+-- arrays of strings, which may be missing or null, meaning empty
+unfoldable pub featuresAt : String → List Member → Option (List Bytes)
+featuresAt name ms = do
+  v ← optional name ms
+  xs ← ifThere (stringsOf inField) v
+  some (orEmpty xs)
+
+unfoldable pub protocolOf : List Member → Option Protocol
+protocolOf ms = do
+  r ← protocolNumberAt "minReaderVersion" ms
+  w ← protocolNumberAt "minWriterVersion" ms
+  rs ← featuresAt "readerFeatures" ms
+  ws ← featuresAt "writerFeatures" ms
+  some (record { minReaderVersion = r; minWriterVersion = w; readerFeatures = rs; writerFeatures = ws })
+
+-- ---- metaData
+
+pub record MetaData : Type 0 where
+  pub id : Bytes
+  pub partitionColumns : List Bytes
+
+unfoldable pub mostColumns : ℕ
+mostColumns = 16
+
+-- id (non-empty string), partitionColumns (array of at most 16 distinct strings)
+unfoldable pub metaDataOf : List Member → Option MetaData
+metaDataOf ms = do
+  i ← stringAt "id" ms
+  _ ← guard (leb 1 (length i))
+  v ← once "partitionColumns" ms
+  cs ← stringsOf inField v
+  _ ← guard (leb (length cs) mostColumns)
+  _ ← guard (distinct cs)
+  some (record { id = i; partitionColumns = cs })
+
+-- ---- the line
+
+pub data Key : Type 0 where
+  keyAdd keyRemove keyProtocol keyMetaData keyMergeskip keyOther : Key
+
+unfoldable pub keyOf : Bytes → Key
+keyOf k =
+    first
+    ((same k (ascii "add"), keyAdd)
+    ∷ (same k (ascii "remove"), keyRemove)
+    ∷ (same k (ascii "protocol"), keyProtocol)
+    ∷ (same k (ascii "metaData"), keyMetaData)
+    ∷ (same k (ascii "mergeskip"), keyMergeskip)
+    ∷ [])
+    keyOther
+
+pub data Action : Type 0 where
+  add : Facts → Action
+  remove : (path : Bytes) → Action
+  protocol : Protocol → Action
+  metaData : MetaData → Action
+  mergeskip : Action
+  other : Action
+
+-- protocol, metaData, add and remove need an object; any other key has any JSON value
+unfoldable pub actionBy : Key → (value : Text) → Option Action
+actionBy keyAdd v = do
+  ms ← objectOf inAction v
+  f ← addOf ms
+  some (add f)
+actionBy keyRemove v = do
+  ms ← objectOf inAction v
+  p ← pathAt ms
+  some (remove p)
+actionBy keyProtocol v = do
+  ms ← objectOf inAction v
+  p ← protocolOf ms
+  some (protocol p)
+actionBy keyMetaData v = do
+  ms ← objectOf inAction v
+  m ← metaDataOf ms
+  some (metaData m)
+actionBy keyMergeskip v = some mergeskip
+actionBy keyOther v = some other
+
+unfoldable pub onlyOne : List Member → Option Member
+onlyOne [] = none
+onlyOne (m ∷ []) = some m
+onlyOne (m ∷ n ∷ ms) = none
+
+-- the line's one member
+unfoldable pub lineMember : Text → Option Member
+lineMember line = do
+  ms ← objectOf inLine line
+  onlyOne ms
+
+-- none where the line is malformed
+unfoldable pub action : Text → Option Action
+action line = do
+  m ← lineMember line
+  actionBy (keyOf (m .0)) (m .1)
+
+-- ---- what is shown of one line
+
+unfoldable pub orNothing : Option Text → Text
+orNothing none = []
+orNothing (some t) = t
+
+-- the path as the line's add writes it, between its quotes
+unfoldable pub pathWritten : Text → Option Text
+pathWritten line = do
+  m ← lineMember line
+  ms ← objectOf inAction (m .1)
+  v ← once "path" ms
+  some (unquoted v)
+
+unfoldable pub pathIn : Option Action → Text → Text
+pathIn none line = []
+pathIn (some (add f)) line = orNothing (pathWritten line)
+pathIn (some (remove p)) line = []
+pathIn (some (protocol p)) line = []
+pathIn (some (metaData m)) line = []
+pathIn (some mergeskip) line = []
+pathIn (some other) line = []
+
+-- the raw path between its quotes; empty if the line is no well-formed add
+unfoldable pub pathShown : Text → Text
+pathShown line = pathIn (action line) line
+
+pub data Records : Type 0 where
+  records : ℕ → Records
+  missing : Records
+  noAdd : Records
+
+unfoldable pub recordsOf : Option ℕ → Records
+recordsOf none = missing
+recordsOf (some n) = records n
+
+unfoldable pub recordsIn : Option Action → Records
+recordsIn none = noAdd
+recordsIn (some (add f)) = recordsOf (f .numRecords)
+recordsIn (some (remove p)) = noAdd
+recordsIn (some (protocol p)) = noAdd
+recordsIn (some (metaData m)) = noAdd
+recordsIn (some mergeskip) = noAdd
+recordsIn (some other) = noAdd
+
+-- an add's number of records
+unfoldable pub recordsShown : Text → Records
+recordsShown line = recordsIn (action line)

@@ -1,0 +1,26 @@
+-- Paper 01 as definitions that compute, in its order.
+pub mod Bytes
+pub mod Numbers
+pub mod Bundle
+pub mod Names
+pub mod Json
+pub mod Lines
+pub mod Actions
+pub mod Live
+pub mod History
+pub mod Starts
+pub mod Marker
+pub mod Gate
+pub mod Query
+pub mod Picking
+pub mod Manifests
+pub mod Rooms
+pub mod Refusals
+pub mod Reading
+pub mod Keeping
+pub mod Agreement
+pub mod Cleaning
+pub mod Program
+pub mod Same
+pub mod Samples
+pub mod Edges
