@@ -9,7 +9,7 @@ use Rattle.rules.specs.Bytes.{Bytes}
 use Rattle.rules.specs.Bundle.{File}
 use Rattle.rules.specs.Lines.{lines, anyObject}
 use Rattle.rules.specs.Actions.{Protocol, unstated, MetaData, Action, add, remove, protocol, metaData, mergeskip, other, action}
-use Rattle.rules.specs.Live.{Row, put, takeOut}
+use Rattle.rules.specs.Live.{Row, pathOf, put, takeOut}
 use Rattle.rules.specs.Refusals.{Answer, accepted, refused, _>>=_, orRefuse, require, malformed, tooManyLive}
 
 -- what a log says: the metadata and the protocol in force, and the live files
@@ -22,8 +22,8 @@ pub record State : Type 0 where
 
 -- what the action of a line of `size` bytes at `at` does. Only version 0's metaData counts.
 unfoldable pub effect : (at size : ℕ) → Action → State → State
-effect at size (add f) st = record { table = st .table; inForce = st .inForce; live = put (record { at = at; size = size; facts = f }) (st .live) }
-effect at size (remove p) st = record { table = st .table; inForce = st .inForce; live = takeOut p (st .live) }
+effect at size (add f) st = record { table = st .table; inForce = st .inForce; live = put pathOf (record { at = at; size = size; facts = f }) (st .live) }
+effect at size (remove p) st = record { table = st .table; inForce = st .inForce; live = takeOut pathOf p (st .live) }
 effect at size (protocol p) st = record { table = st .table; inForce = p; live = st .live }
 effect at size (metaData m) st = st
 effect at size mergeskip st = st

@@ -14,22 +14,25 @@ pub record Row : Type 0 where
 unfoldable pub pathOf : Row → Bytes
 pathOf r = r .facts .path
 
--- how r goes in beside the first of the others, x, when its path stands so to x's
-unfoldable pub putBy : Order → Row → Row → List Row → (Unit {0} → List Row) → List Row
-putBy less r x xs further = r ∷ x ∷ xs
-putBy equal r x xs further = r ∷ xs
-putBy more r x xs further = x ∷ further tt
+-- ---- things in the order of their keys, as rows are in the order of their paths
 
--- an add puts its path into the live set or replaces the entry there
-unfoldable pub put : Row → List Row → List Row
-put r [] = r ∷ []
-put r (x ∷ xs) = putBy (order (pathOf r) (pathOf x)) r x xs (λ _. put r xs)
+-- how r goes in beside the first of the others, x, when its key stands so to x's
+unfoldable pub putBeside : {A : Type 0} → Order → A → A → List A → (Unit {0} → List A) → List A
+putBeside less r x xs further = r ∷ x ∷ xs
+putBeside equal r x xs further = r ∷ xs
+putBeside more r x xs further = x ∷ further tt
 
-unfoldable pub takeOutBy : Bool → Row → List Row → (Unit {0} → List Row) → List Row
-takeOutBy true x xs further = xs
-takeOutBy false x xs further = x ∷ further tt
+unfoldable pub takeIf : {A : Type 0} → Bool → A → List A → (Unit {0} → List A) → List A
+takeIf true x xs further = xs
+takeIf false x xs further = x ∷ further tt
 
--- a remove takes its path out, if there
-unfoldable pub takeOut : Bytes → List Row → List Row
-takeOut p [] = []
-takeOut p (x ∷ xs) = takeOutBy (same p (pathOf x)) x xs (λ _. takeOut p xs)
+module _ {A : Type 0} (key : A → Bytes) where
+  -- an add puts its path into the live set or replaces the entry there
+  unfoldable pub put : A → List A → List A
+  put r [] = r ∷ []
+  put r (x ∷ xs) = putBeside (order (key r) (key x)) r x xs (λ _. put r xs)
+
+  -- a remove takes its path out, if there
+  unfoldable pub takeOut : Bytes → List A → List A
+  takeOut k [] = []
+  takeOut k (x ∷ xs) = takeIf (same k (key x)) x xs (λ _. takeOut k xs)
