@@ -26,6 +26,7 @@ use Rattle.rules.specs.Cleaning
 use Rattle.rules.specs.Program
 use Rattle.rules.specs.Samples
 use Rattle.rules.specs.Edges
+use Rattle.rules.specs.Examples
 
 unfoldable pub inBytes : Unit {0}
 unfolding Bytes.ascii Bytes.first Bytes.among Bytes.isEmpty Bytes.keepIf Bytes.same Bytes.begins Bytes.order Bytes.isLess Bytes.isEqual Bytes.isMore Bytes.holds Bytes.distinct Bytes.allAmong Bytes.firsts
@@ -135,6 +136,10 @@ unfoldable pub inEdges : Unit {0}
 unfolding Edges.saysState Edges.saysListing Edges.saysNumbers Edges.noTable Edges.rule Edges.addOf Edges.removeOf Edges.v0 Edges.v1 Edges.v3 Edges.c2 Edges.m2 Edges.edges
 inEdges = tt
 
+unfoldable pub inExamples : Unit {0}
+unfolding Examples.sized Examples.school Examples.listings Examples.protocolled Examples.reader Examples.cleanable Examples.agreeing Examples.sides Examples.pupil Examples.pupils Examples.tempting Examples.digits4 Examples.adds Examples.manyLive Examples.manifestList Examples.stateOf Examples.refusals
+inExamples = tt
+
 unfoldable pub rules : Unit {0}
-unfolding inBytes inNumbers inBundle inNames inJsonText inJsonNumbers inJsonStrings inJsonValues inJsonFields inLines inActions inLive inHistory inStarts inMarker inGate inQuery inPicking inManifests inRooms inReading inKeeping inAgreement inCleaning inProgram inSamples inEdges
+unfolding inBytes inNumbers inBundle inNames inJsonText inJsonNumbers inJsonStrings inJsonValues inJsonFields inLines inActions inLive inHistory inStarts inMarker inGate inQuery inPicking inManifests inRooms inReading inKeeping inAgreement inCleaning inProgram inSamples inEdges inExamples
 rules = tt

@@ -24,3 +24,4 @@ pub mod Program
 pub mod Same
 pub mod Samples
 pub mod Edges
+pub mod Examples

@@ -1,0 +1,160 @@
+-- Examples beside P1 to P12, in tables of the same form: the program's listing, both sides of edges, the tempting and wrong readings,
+-- and a small case for each refusal number.
+use mathlib.Core.Bool.{Bool, true, false}
+use mathlib.Core.List.{List, [], _∷_, _++_}
+use Prim.Native.Nat.{ℕ, zero, suc, _+_, _/_, _%_}
+use Prim.Native.String.{String, _++_ as _+++_}
+use lib.IntN.{pos}
+use Rattle.rules.specs.Bytes.{Bytes, ascii}
+use Rattle.rules.specs.Names.{version, other, tooLarge}
+use Rattle.rules.specs.Query.{number, notNumber}
+use Rattle.rules.specs.Reading.{theLatest, theVersion}
+use Rattle.rules.specs.Samples.{Sample, json, bodyOf, file, bundleOf}
+use Rattle.rules.specs.Edges.{Question, name, numeral, apply, drops, read, keep, clean, print, Says, named, value, live, test, listed, numbers, text, refusal, addOf, removeOf, v0, v1, v3, c2, m2}
+
+-- ---- the Program section's example, down to the printed text
+
+unfoldable pub sized : (path size time : String) → String
+sized p s t = "{'add':{'path':'" +++ p +++ "','size':" +++ s +++ ",'modificationTime':" +++ t +++ ",'dataChange':true,'partitionValues':{}}}"
+
+unfoldable pub school : Bytes
+school =
+    bundleOf
+    (v0
+    ∷ file "00000000000000000001.json" 1 (sized "a.split" "100" "5" ∷ [])
+    ∷ file "00000000000000000002.json" 2 (sized "b.split" "50" "6" ∷ [])
+    ∷ file "00000000000000000003.json" 3 (removeOf "a.split" ∷ sized "b.split" "60" "7" ∷ [])
+    ∷ [])
+
+unfoldable pub listings : List (Question × Says)
+listings =
+    (print school, text (ascii "version 3 files 1 reader 1 writer 2 writable yes\n\"b.split\" 60 7 -\n"))
+    ∷ (print (bundleOf []), text (ascii "refused 4 entry 0 line 0\n"))
+    ∷ (print (bundleOf (v0 ∷ file "00000000000000000001.json" 1 (addOf "a" ∷ "" ∷ "{'add':{}}" ∷ []) ∷ [])), text (ascii "refused 6 entry 1 line 3\n"))
+    ∷ []
+
+-- ---- both sides of edges
+
+-- version 0 with this protocol
+unfoldable pub protocolled : String → Sample
+protocolled p = file "00000000000000000000.json" 0 (("{'protocol':{" +++ p +++ "}}") ∷ "{'metaData':{'id':'t','partitionColumns':['year','n']}}" ∷ [])
+
+unfoldable pub reader : String → Bytes
+reader n = bundleOf (protocolled ("'minReaderVersion':" +++ n +++ ",'minWriterVersion':1") ∷ [])
+
+-- versions 0 to 3, the third a checkpoint too, which the marker names; version file 1 was modified at `time`
+unfoldable pub cleanable : (time : ℕ) → (checkpoint : List String) → Bytes
+cleanable time checkpoint =
+    bundleOf
+    (v0
+    ∷ file "00000000000000000001.json" time (addOf "a" ∷ [])
+    ∷ file "00000000000000000002.json" 99 (addOf "b" ∷ [])
+    ∷ file "00000000000000000003.checkpoint.json" 0 checkpoint
+    ∷ file "00000000000000000003.json" 0 (removeOf "a" ∷ [])
+    ∷ file "_last_checkpoint" 0 ("{'version':3}" ∷ [])
+    ∷ [])
+
+unfoldable pub agreeing : List String
+agreeing = "{'protocol':{'minReaderVersion':1,'minWriterVersion':2}}" ∷ addOf "b" ∷ []
+
+unfoldable pub sides : List (Question × Says)
+sides =
+    (read theLatest "[]" (reader "3"), listed 0 [])
+    ∷ (read theLatest "[]" (reader "4"), refusal 8 0 0)
+    -- age 10: equal to retention not named, one more named; nor is what was modified after now
+    ∷ (clean 100 10 (cleanable 90 agreeing), numbers [])
+    ∷ (clean 100 10 (cleanable 89 agreeing), numbers (1 ∷ []))
+    ∷ (clean 100 0 (cleanable 101 agreeing), numbers (2 ∷ []))
+    -- the other start: none, so nothing is named; the marker unusable, so nothing is named
+    ∷ (clean 100 10 (bundleOf (v0 ∷ v1 ∷ c2 ∷ v3 ∷ m2 ∷ [])), numbers [])
+    ∷ (clean 100 10 (bundleOf (v0 ∷ v1 ∷ c2 ∷ v3 ∷ file "_last_checkpoint" 0 ("{'version':2,'parts':null}" ∷ []) ∷ [])), numbers [])
+    -- twenty digits, no fewer and no more
+    ∷ (name "0000000000000000010.json", named other)
+    ∷ (name "000000000000000000010.json", named other)
+    ∷ (name "99999999999999999999.checkpoint.json", named tooLarge)
+    ∷ (name "99999999999999999999.jsonl", named other)
+    ∷ []
+
+-- ---- tempting and wrong: a leading zero as octal; raw paths compared with escapes; "10" before "9" under number; a gap jumped over;
+-- a bad checkpoint refused when another start reaches v
+
+unfoldable pub pupil : (path n : String) → String
+pupil p n = "{'add':{'path':'" +++ p +++ "','size':1,'modificationTime':1,'dataChange':true,'partitionValues':{'year':'2024','n':'" +++ n +++ "'}}}"
+
+unfoldable pub pupils : Bytes
+pupils =
+    bundleOf
+    (protocolled "'minReaderVersion':1,'minWriterVersion':1"
+    ∷ file "00000000000000000001.json" 1 (pupil "ten" "10" ∷ pupil "nine" "9" ∷ pupil "none" "x" ∷ [])
+    ∷ [])
+
+unfoldable pub tempting : List (Question × Says)
+tempting =
+    (name "00000000000000000010.json", named (version 10))
+    ∷ (numeral "010", value (number (pos 10)))
+    ∷ (apply (addOf "a\\u002fb" ∷ removeOf "a\\/b" ∷ []), live [])
+    ∷ (read theLatest "[{'column':'n','as':'number','op':'gt','value':'9'}]" pupils, listed 1 (ascii "ten" ∷ []))
+    ∷ (read theLatest "[{'column':'n','as':'text','op':'gt','value':'9'}]" pupils, listed 1 (ascii "none" ∷ []))
+    ∷ (read theLatest "[]" (bundleOf (v0 ∷ v1 ∷ v3 ∷ [])), listed 1 (ascii "a.split" ∷ []))
+    ∷ (read (theVersion 1) "[]" (bundleOf (v0 ∷ file "00000000000000000001.checkpoint.json" 1 ("{'add':1}" ∷ []) ∷ v1 ∷ [])), listed 1 (ascii "a.split" ∷ []))
+    ∷ []
+
+-- ---- refusals
+
+-- four digits
+unfoldable pub digits4 : ℕ → Bytes
+digits4 n = (0x30 + n / 1000) ∷ (0x30 + n / 100 % 10) ∷ (0x30 + n / 10 % 10) ∷ (0x30 + n % 10) ∷ []
+
+-- n adds, of paths that ascend downwards
+unfoldable pub adds : ℕ → Bytes
+adds zero = []
+adds (suc n) =
+    json "{'add':{'path':'" ++ (digits4 n ++ (json "','size':0,'modificationTime':0,'dataChange':true,'partitionValues':{}}}" ++ 0x0A ∷ adds n))
+
+unfoldable pub manyLive : ℕ → Bytes
+manyLive n = bundleOf (v0 ∷ record { name = ascii "00000000000000000001.json"; time = 1; body = adds n } ∷ [])
+
+unfoldable pub manifestList : ℕ → Bytes
+manifestList zero = []
+manifestList (suc n) = json ",{'path':'m'}" ++ manifestList n
+
+-- a state of one manifest more than n
+unfoldable pub stateOf : ℕ → Bytes
+stateOf n = json "{'manifests':[{'path':'m','partitionBounds':{'n':{'min':'5','max':'07'}}}" ++ (manifestList n ++ json "]}")
+
+unfoldable pub refusals : List (Question × Says)
+refusals =
+    -- 2: a byte behind the last body; a name that is not below the next; five bytes and no entry
+    (read theLatest "[]" (bundleOf (v0 ∷ v1 ∷ []) ++ 0 ∷ []), refusal 2 0 0)
+    ∷ (read theLatest "[]" (bundleOf (v1 ∷ v0 ∷ [])), refusal 2 0 0)
+    ∷ (read theLatest "[]" (bundleOf [] ++ 0 ∷ []), refusal 2 0 0)
+    -- 3
+    ∷ (read theLatest "[]" (bundleOf (v0 ∷ file "09223372036854775808.json" 0 [] ∷ [])), refusal 3 0 0)
+    -- 4
+    ∷ (read theLatest "[]" (bundleOf (v1 ∷ [])), refusal 4 0 0)
+    -- 5, also over a broken version 0
+    ∷ (read (theVersion 9) "[]" (bundleOf (file "00000000000000000000.json" 0 ("{}" ∷ []) ∷ v1 ∷ [])), refusal 5 0 0)
+    -- 6: a line; a file with no object (line 0); version 0's metaData missing (line 0), there twice, and an add in it
+    ∷ (read theLatest "[]" (bundleOf (v0 ∷ file "00000000000000000001.json" 1 ("" ∷ addOf "" ∷ []) ∷ [])), refusal 6 1 2)
+    ∷ (read theLatest "[]" (bundleOf (v0 ∷ file "00000000000000000001.json" 1 ("" ∷ []) ∷ [])), refusal 6 1 0)
+    ∷ (read theLatest "[]" (bundleOf (file "00000000000000000000.json" 0 ("{'x':1}" ∷ []) ∷ [])), refusal 6 0 0)
+    ∷ (read theLatest "[]" (bundleOf (file "00000000000000000000.json" 0 ("{'metaData':{'id':'t','partitionColumns':[]}}" ∷ "{'metaData':{'id':'t','partitionColumns':[]}}" ∷ []) ∷ [])), refusal 6 0 2)
+    ∷ (read theLatest "[]" (bundleOf (file "00000000000000000000.json" 0 (addOf "a" ∷ "{'metaData':{'id':'t','partitionColumns':[]}}" ∷ []) ∷ [])), refusal 6 0 1)
+    -- 7: the 1,025th
+    ∷ (read theLatest "[]" (manyLive 1_025), refusal 7 1 1_025)
+    -- 8 is among the sides of edges; 9
+    ∷ (read theLatest "[]" (bundleOf (protocolled "'minReaderVersion':3,'minWriterVersion':9,'readerFeatures':['footerOffsets','tea']" ∷ [])), refusal 9 0 0)
+    -- 10, before 2
+    ∷ (read theLatest "[{'column':'n','value':'1','as':'text','op':'eq'}]" [], refusal 10 0 0)
+    -- 11, after 8
+    ∷ (read theLatest "[{'column':'m','as':'text','op':'eq','value':'1'}]" (reader "3"), refusal 11 0 0)
+    ∷ (read theLatest "[{'column':'m','as':'text','op':'eq','value':'1'}]" (reader "4"), refusal 8 0 0)
+    -- 12: the checkpoint's own protocol; 13
+    ∷ (clean 100 10 (cleanable 0 ("{'protocol':{'minReaderVersion':1,'minWriterVersion':4}}" ∷ addOf "b" ∷ [])), refusal 12 0 0)
+    ∷ (clean 100 10 (cleanable 0 ("{'protocol':{'minReaderVersion':1,'minWriterVersion':2}}" ∷ addOf "a" ∷ [])), refusal 13 0 0)
+    -- 14; 15: 256 manifests accepted, the first of them dropped, and one more refused
+    ∷ (keep (json "{'manifests':[{'path':''}]}") (json "[]"), refusal 14 0 0)
+    ∷ (keep (stateOf 2) (json "[{'column':'n','as':'number','op':'gt','value':'6'}]"), numbers (0 ∷ 1 ∷ 2 ∷ []))
+    ∷ (keep (stateOf 2) (json "[{'column':'n','as':'number','op':'gt','value':'7'}]"), numbers (1 ∷ 2 ∷ []))
+    ∷ (keep (stateOf 256) (json "[]"), refusal 15 0 0)
+    ∷ []
