@@ -137,7 +137,7 @@ unfolding Edges.saysState Edges.saysListing Edges.saysNumbers Edges.noTable Edge
 inEdges = tt
 
 unfoldable pub inExamples : Unit {0}
-unfolding Examples.sized Examples.school Examples.listings Examples.protocolled Examples.reader Examples.cleanable Examples.agreeing Examples.sides Examples.pupil Examples.pupils Examples.tempting Examples.digits4 Examples.adds Examples.manyLive Examples.manifestList Examples.stateOf Examples.refusals
+unfolding Examples.sized Examples.school Examples.listings Examples.protocolled Examples.reader Examples.cleanable Examples.agreeing Examples.sides Examples.pupil Examples.pupils Examples.tempting Examples.manifestList Examples.countFrom Examples.stateOf Examples.refusals
 inExamples = tt
 
 unfoldable pub rules : Unit {0}

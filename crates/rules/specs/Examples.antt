@@ -2,7 +2,7 @@
 -- and a small case for each refusal number.
 use mathlib.Core.Bool.{Bool, true, false}
 use mathlib.Core.List.{List, [], _∷_, _++_}
-use Prim.Native.Nat.{ℕ, zero, suc, _+_, _/_, _%_}
+use Prim.Native.Nat.{ℕ, zero, suc}
 use Prim.Native.String.{String, _++_ as _+++_}
 use lib.IntN.{pos}
 use Rattle.rules.specs.Bytes.{Bytes, ascii}
@@ -101,22 +101,14 @@ tempting =
 
 -- ---- refusals
 
--- four digits
-unfoldable pub digits4 : ℕ → Bytes
-digits4 n = (0x30 + n / 1000) ∷ (0x30 + n / 100 % 10) ∷ (0x30 + n / 10 % 10) ∷ (0x30 + n % 10) ∷ []
-
--- n adds, of paths that ascend downwards
-unfoldable pub adds : ℕ → Bytes
-adds zero = []
-adds (suc n) =
-    json "{'add':{'path':'" ++ (digits4 n ++ (json "','size':0,'modificationTime':0,'dataChange':true,'partitionValues':{}}}" ++ 0x0A ∷ adds n))
-
-unfoldable pub manyLive : ℕ → Bytes
-manyLive n = bundleOf (v0 ∷ record { name = ascii "00000000000000000001.json"; time = 1; body = adds n } ∷ [])
-
 unfoldable pub manifestList : ℕ → Bytes
 manifestList zero = []
 manifestList (suc n) = json ",{'path':'m'}" ++ manifestList n
+
+-- n numbers, from k on
+unfoldable pub countFrom : ℕ → ℕ → List ℕ
+countFrom k zero = []
+countFrom k (suc n) = k ∷ countFrom (suc k) n
 
 -- a state of one manifest more than n
 unfoldable pub stateOf : ℕ → Bytes
@@ -140,9 +132,7 @@ refusals =
     ∷ (read theLatest "[]" (bundleOf (file "00000000000000000000.json" 0 ("{'x':1}" ∷ []) ∷ [])), refusal 6 0 0)
     ∷ (read theLatest "[]" (bundleOf (file "00000000000000000000.json" 0 ("{'metaData':{'id':'t','partitionColumns':[]}}" ∷ "{'metaData':{'id':'t','partitionColumns':[]}}" ∷ []) ∷ [])), refusal 6 0 2)
     ∷ (read theLatest "[]" (bundleOf (file "00000000000000000000.json" 0 (addOf "a" ∷ "{'metaData':{'id':'t','partitionColumns':[]}}" ∷ []) ∷ [])), refusal 6 0 1)
-    -- 7: the 1,025th
-    ∷ (read theLatest "[]" (manyLive 1_025), refusal 7 1 1_025)
-    -- 8 is among the sides of edges; 9
+    -- 7 takes 1,025 lines, and stands in crate limits; 8 is among the sides of edges; 9
     ∷ (read theLatest "[]" (bundleOf (protocolled "'minReaderVersion':3,'minWriterVersion':9,'readerFeatures':['footerOffsets','tea']" ∷ [])), refusal 9 0 0)
     -- 10, before 2
     ∷ (read theLatest "[{'column':'n','value':'1','as':'text','op':'eq'}]" [], refusal 10 0 0)
@@ -152,9 +142,10 @@ refusals =
     -- 12: the checkpoint's own protocol; 13
     ∷ (clean 100 10 (cleanable 0 ("{'protocol':{'minReaderVersion':1,'minWriterVersion':4}}" ∷ addOf "b" ∷ [])), refusal 12 0 0)
     ∷ (clean 100 10 (cleanable 0 ("{'protocol':{'minReaderVersion':1,'minWriterVersion':2}}" ∷ addOf "a" ∷ [])), refusal 13 0 0)
-    -- 14; 15: 256 manifests accepted, the first of them dropped, and one more refused
+    -- 14; the first of three manifests kept and dropped; 15: 256 manifests accepted, one more refused
     ∷ (keep (json "{'manifests':[{'path':''}]}") (json "[]"), refusal 14 0 0)
     ∷ (keep (stateOf 2) (json "[{'column':'n','as':'number','op':'gt','value':'6'}]"), numbers (0 ∷ 1 ∷ 2 ∷ []))
     ∷ (keep (stateOf 2) (json "[{'column':'n','as':'number','op':'gt','value':'7'}]"), numbers (1 ∷ 2 ∷ []))
+    ∷ (keep (stateOf 255) (json "[]"), numbers (countFrom 0 256))
     ∷ (keep (stateOf 256) (json "[]"), refusal 15 0 0)
     ∷ []

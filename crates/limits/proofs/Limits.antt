@@ -1,0 +1,9 @@
+-- The limits hold of the rules, by computation.
+use mathlib.Core.Path.{refl}
+use Rattle.rules.specs.Edges.{Holds}
+use Rattle.rules.proofs.Opened.{rules}
+use Rattle.limits.specs.Limits.{limits, manyLive, adds, digits4}
+
+pub limits-hold : Holds limits
+unfolding rules limits manyLive adds digits4
+limits-hold = (refl, tt)
