@@ -1,3 +1,4 @@
 pub mod Opened
 pub mod Edges
 pub mod Tests
+pub mod Order
