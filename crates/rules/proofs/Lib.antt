@@ -2,3 +2,4 @@ pub mod Opened
 pub mod Edges
 pub mod Tests
 pub mod Order
+pub mod Holding
