@@ -3,3 +3,5 @@ pub mod Edges
 pub mod Tests
 pub mod Order
 pub mod Holding
+pub mod Ascending
+pub mod Live

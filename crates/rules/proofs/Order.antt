@@ -79,6 +79,13 @@ ne-same x y h = false-of (same x y) (λ e. h (same-true x y e))
 pub same-false : (x y : Bytes) → same x y ≡ false → x ≡ y → ⊥
 same-false x y f e = true-not-false (eq-same e) f
 
+pub same-or-not : (x y : Bytes) → (x ≡ y) ⊎ (x ≡ y → ⊥)
+same-or-not x y = go (same x y) refl
+  where
+    go : (b : Bool) → same x y ≡ b → (x ≡ y) ⊎ (x ≡ y → ⊥)
+    go true e = inl (same-true x y e)
+    go false e = inr (same-false x y e)
+
 -- ---- begins
 
 pub begins-append : (p y : Bytes) → begins p (p ++ y) ≡ true
