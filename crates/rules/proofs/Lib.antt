@@ -5,3 +5,5 @@ pub mod Order
 pub mod Holding
 pub mod Ascending
 pub mod Live
+pub mod Searching
+pub mod Replaying

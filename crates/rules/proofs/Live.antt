@@ -118,6 +118,17 @@ module _ {A : Type 0} (key : A → Bytes) where
       go ih equal e = rw (put-over r x xs (order-equal (key r) (key x) e))
       go ih more e = rw (put-past r x xs e) (ap suc (ih (sym (holds-past (key r) (key x) (map key xs) (order-more-ne (key r) (key x) e)) ∙ h)))
 
+  pub put-length-le : (r : A) (xs : List A) → (length xs ≤ length (put key r xs)) × (length (put key r xs) ≤ suc (length xs))
+  unfolding put
+  put-length-le r [] = (omega arith, omega arith)
+  put-length-le r (x ∷ xs) = go (put-length-le r xs) (order (key r) (key x)) refl
+    where
+      go : (length xs ≤ length (put key r xs)) × (length (put key r xs) ≤ suc (length xs)) → (o : Order) → order (key r) (key x) ≡ o
+          → (suc (length xs) ≤ length (put key r (x ∷ xs))) × (length (put key r (x ∷ xs)) ≤ suc (suc (length xs)))
+      go ih less e = rw (put-below r x xs e) (omega arith, omega arith)
+      go ih equal e = rw (put-over r x xs (order-equal (key r) (key x) e)) (omega arith, omega arith)
+      go ih more e = rw (put-past r x xs e) (omega arith, omega arith)
+
   pub takeOut-none : (k : Bytes) (xs : List A) → holds k (map key xs) ≡ false → takeOut key k xs ≡ xs
   unfolding takeOut
   takeOut-none k [] h = refl
