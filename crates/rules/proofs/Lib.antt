@@ -7,3 +7,4 @@ pub mod Ascending
 pub mod Live
 pub mod Searching
 pub mod Replaying
+pub mod Lines
