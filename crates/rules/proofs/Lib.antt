@@ -8,3 +8,6 @@ pub mod Live
 pub mod Searching
 pub mod Replaying
 pub mod Lines
+pub mod Sameness
+pub mod Agreement
+pub mod Dropping

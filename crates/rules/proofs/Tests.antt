@@ -27,6 +27,12 @@ pub true-of : (b : Bool) → (b ≡ false → ⊥) → b ≡ true
 true-of true h = refl
 true-of false h = absurd (h refl)
 
+pub not-of-true : {b : Bool} → b ≡ true → not b ≡ false
+not-of-true e = rw e
+
+pub not-of-false : {b : Bool} → b ≡ false → not b ≡ true
+not-of-false e = rw e
+
 -- two tests that pass together are equal
 pub tests-equal : (a b : Bool) → (a ≡ true → b ≡ true) → (b ≡ true → a ≡ true) → a ≡ b
 tests-equal true b f g = sym (f refl)
