@@ -3,12 +3,12 @@
 use mathlib.Core.Path.{_≡_, refl, sym, ap, _∙_}
 use mathlib.Core.Logic.{_⊎_, inl, inr}
 use mathlib.Core.Bool.{Bool, true, false, not, _||_}
-use Prim.Native.Nat.{ℕ, _≤_, _<_}
+use Prim.Native.Nat.{_<_}
 use native.Mathlib.Omega.{arith}
 use lib.IntN.{ℤ, pos, negsuc}
 use lib.Signed.{ltZ}
 use borrow.Author.Tests.{ltb-true, lt-ltb, le-ltb, not-true, not-false}
-use Rattle.rules.specs.Bytes.{Bytes, Order, less, equal, more, order, isLess, isEqual, isMore}
+use Rattle.rules.specs.Bytes.{Order, less, equal, more, order, isLess, isEqual, isMore}
 use Rattle.rules.specs.Query.{Op, eq, lt, le, gt, ge}
 use Rattle.rules.specs.Picking.{meets, orderOfNumbers}
 use Rattle.rules.specs.Manifests.{noneMeets, outside}

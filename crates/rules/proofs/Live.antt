@@ -1,17 +1,17 @@
 -- What putting in and taking out do to a live list: order, length and look-up by key, and the same through a map of the rows.
 use mathlib.Core.Path.{_≡_, refl, sym, ap, _∙_}
 use mathlib.Core.Logic.{_⊎_, inl, inr}
-use mathlib.Core.Bool.{Bool, true, false}
+use mathlib.Core.Bool.{true, false}
 use mathlib.Core.Option.{Option, none, some}
 use mathlib.Core.List.{List, [], _∷_, map}
-use Prim.Native.Nat.{ℕ, suc, _≤_, _<_}
+use Prim.Native.Nat.{suc, _≤_}
 use native.Mathlib.Omega.{arith}
 use lib.ListN.{length}
 use Rattle.rules.specs.Bytes.{Bytes, Order, less, equal, more, order, same, holds}
 use Rattle.rules.specs.Live.{put, putBeside, takeOut, takeIf}
 use Rattle.rules.proofs.Tests.{apart, decided, true-not-false}
-use Rattle.rules.proofs.Order.{order-trans, eq-order, order-equal, more-less, order-less-ne, order-more-ne, same-true, same-false, eq-same, ne-same, same-or-not}
-use Rattle.rules.proofs.Holding.{holds-head, holds-past, holds-cases}
+use Rattle.rules.proofs.Order.{eq-order, order-equal, more-less, order-more-ne, eq-same, ne-same, same-or-not}
+use Rattle.rules.proofs.Holding.{holds-head, holds-past}
 use Rattle.rules.proofs.Ascending.{Every, every-map, Below, Ascends, ascends-cons, below-not-held}
 
 -- the one whose key is k

@@ -3,15 +3,15 @@
 use mathlib.Core.Path.{_≡_, refl, sym, ap, _∙_}
 use mathlib.Core.Logic.{_⊎_, inl, inr}
 use mathlib.Core.Bool.{Bool, true, false}
-use mathlib.Core.List.{List, [], _∷_, _++_}
+use mathlib.Core.List.{[], _∷_, _++_}
 use Prim.Native.Nat.{ℕ, suc, _+_, _≤_, _<_}
 use native.Mathlib.Numerals.{add-one}
 use native.Mathlib.Omega.{arith}
 use lib.Dec.{eqb, ltb, leb}
 use lib.ListN.{length, take, drop, getD, drop-of-length-le}
-use lib.Seq.{drop-cons, take-nil}
+use lib.Seq.{drop-cons}
 use borrow.Author.Tests.{ltb-true, ltb-false, leb-true, lt-ltb, le-ltb, le-leb, eqb-true, eq-eqb, ne-eqb}
-use Rattle.rules.specs.Bytes.{Bytes, same, begins, among, Order, less, equal, more, order, isLess, isEqual, isMore}
+use Rattle.rules.specs.Bytes.{Bytes, same, begins, among, Order, less, equal, more, order, isEqual}
 use Rattle.rules.proofs.Tests.{apart, true-not-false, false-of, and-left, and-right, and-both}
 
 -- ---- numbers

@@ -1,5 +1,5 @@
 -- Sameness of facts, rows, protocols, states, listings and answers is reflexive, symmetric and transitive.
-use mathlib.Core.Path.{_≡_, refl, sym, _∙_}
+use mathlib.Core.Path.{refl, sym, _∙_}
 use mathlib.Core.List.{List, [], _∷_}
 use Rattle.rules.specs.Actions.{Facts, Protocol}
 use Rattle.rules.specs.Live.{Row}
