@@ -7,7 +7,7 @@ use Prim.Native.Nat.{ℕ, zero, suc, _<_, zero-le, suc-le-suc}
 use native.Mathlib.Nat.{le-of-suc-le-suc, not-suc-le-zero}
 use lib.ListN.{length, getD}
 use Rattle.rules.specs.Bytes.{Bytes, same, holds, distinct, allAmong}
-use Rattle.rules.proofs.Tests.{apart, true-not-false, false-of}
+use Rattle.rules.proofs.Tests.{apart, true-not-false, false-of, or-fails, or-fails-left, or-fails-right}
 use Rattle.rules.proofs.Order.{same-true, same-false, eq-same, ne-same}
 
 -- ---- holds
@@ -120,6 +120,33 @@ distinct-snoc (y ∷ ys) x = go (distinct-snoc ys x) (holds y ys) (same y x) ref
     go ih false true p false q e = absurd (same-false x y q (sym (same-true y x p)))
     go ih false false p true q e = absurd (same-false y x p (sym (same-true x y q)))
     go ih false false p false q e = rw e ih
+
+-- two lists, one behind the other
+pub distinct-append : (xs ys : List Bytes) → distinct xs ≡ true → distinct ys ≡ true → ((x : Bytes) → holds x xs ≡ true → holds x ys ≡ false) → distinct (xs ++ ys) ≡ true
+distinct-append [] ys d e h = e
+distinct-append (x ∷ xs) ys d e h =
+    distinct-cons x (xs ++ ys) (holds-append x xs ys ∙ or-fails (distinct-head x xs d) (h x (holds-head x x xs refl)))
+    ∙ distinct-append xs ys (distinct-tail x xs d) e (λ z t. h z (holds-tail z x xs t))
+
+pub distinct-append-left : (xs ys : List Bytes) → distinct (xs ++ ys) ≡ true → distinct xs ≡ true
+unfolding distinct
+distinct-append-left [] ys d = refl
+distinct-append-left (x ∷ xs) ys d =
+    distinct-cons x xs (or-fails-left (holds x xs) (holds x ys) (sym (holds-append x xs ys) ∙ distinct-head x (xs ++ ys) d))
+    ∙ distinct-append-left xs ys (distinct-tail x (xs ++ ys) d)
+
+pub distinct-append-right : (xs ys : List Bytes) → distinct (xs ++ ys) ≡ true → distinct ys ≡ true
+distinct-append-right [] ys d = d
+distinct-append-right (x ∷ xs) ys d = distinct-append-right xs ys (distinct-tail x (xs ++ ys) d)
+
+pub distinct-append-apart : (xs ys : List Bytes) → distinct (xs ++ ys) ≡ true → (x : Bytes) → holds x xs ≡ true → holds x ys ≡ false
+unfolding holds
+distinct-append-apart [] ys d x h = apart (cc)
+distinct-append-apart (y ∷ xs) ys d x h = go (distinct-append-apart xs ys (distinct-tail y (xs ++ ys) d) x) (holds-cases x y xs h)
+  where
+    go : (holds x xs ≡ true → holds x ys ≡ false) → (x ≡ y) ⊎ (holds x xs ≡ true) → holds x ys ≡ false
+    go ih (inl e) = rw e (or-fails-right (holds y xs) (holds y ys) (sym (holds-append y xs ys) ∙ distinct-head y (xs ++ ys) d))
+    go ih (inr t) = ih t
 
 -- ---- all among
 

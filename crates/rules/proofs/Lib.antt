@@ -10,4 +10,5 @@ pub mod Replaying
 pub mod Lines
 pub mod Sameness
 pub mod Agreement
+pub mod TotalOrders
 pub mod Dropping

@@ -190,6 +190,27 @@ module _ {A : Type 0} (key : A → Bytes) where
       go ih (inl e) = absurd (true-not-false (holds-head k (key x) (map key xs) e) h)
       go ih (inr n) = lookup-past k x xs n ∙ ih (sym (holds-past k (key x) (map key xs) n) ∙ h)
 
+  pub none-lookup : (k : Bytes) (xs : List A) → lookup key k xs ≡ none → holds k (map key xs) ≡ false
+  unfolding holds
+  none-lookup k [] h = refl
+  none-lookup k (x ∷ xs) h = go (none-lookup k xs) (same-or-not k (key x))
+    where
+      go : (lookup key k xs ≡ none → holds k (map key xs) ≡ false) → (k ≡ key x) ⊎ (k ≡ key x → ⊥) → holds k (key x ∷ map key xs) ≡ false
+      go ih (inl e) = apart (cc (lookup-here k x xs e))
+      go ih (inr n) = holds-past k (key x) (map key xs) n ∙ ih (sym (lookup-past k x xs n) ∙ h)
+
+  pub lookup-key : (k : Bytes) (xs : List A) (r : A) → lookup key k xs ≡ some r → key r ≡ k
+  unfolding lookup
+  lookup-key k [] r h = apart (cc)
+  lookup-key k (x ∷ xs) r h = go (lookup-key k xs r) (same-or-not k (key x))
+    where
+      go : (lookup key k xs ≡ some r → key r ≡ k) → (k ≡ key x) ⊎ (k ≡ key x → ⊥) → key r ≡ k
+      go ih (inl e) =
+          let q : some x ≡ some r = sym (lookup-here k x xs e) ∙ h in
+          let p : x ≡ r = cc in
+          rw (← p) (sym e)
+      go ih (inr n) = ih (sym (lookup-past k x xs n) ∙ h)
+
   pub lookup-takeOut : (k : Bytes) (xs : List A) → Ascends key xs → lookup key k (takeOut key k xs) ≡ none
   unfolding takeOut lookup
   lookup-takeOut k [] s = refl

@@ -1,12 +1,13 @@
--- Reading lines and files keeps the live list in path order and within the limit.
+-- Reading lines one by one, as they stand in a text; reading lines and files keeps the live list in path order and within the limit.
 use mathlib.Core.Path.{_≡_, refl, sym, ap, subst}
 use mathlib.Core.Logic.{_⊎_, inl, inr}
 use mathlib.Core.Bool.{Bool, true, false}
 use mathlib.Core.Option.{Option, none, some}
 use mathlib.Core.List.{List, [], _∷_}
-use Prim.Native.Nat.{ℕ, suc, _+_, _≤_, zero-le}
+use Prim.Native.Nat.{ℕ, suc, _+_, _≤_, _<_, zero-le}
 use lib.Dec.{leb}
-use lib.ListN.{length}
+use native.Mathlib.Omega.{arith}
+use lib.ListN.{length, getD}
 use borrow.Author.Tests.{leb-true}
 use Rattle.rules.specs.Bytes.{Bytes}
 use Rattle.rules.specs.Bundle.{File}
@@ -19,6 +20,7 @@ use Rattle.rules.specs.Starts.{Log, Way, fromZero, fromCheckpoint, andTh
 use Rattle.rules.specs.Reading.{mostLive, stateBy}
 use Rattle.rules.proofs.Tests.{apart}
 use Rattle.rules.proofs.Ascending.{Ascends}
+use Rattle.rules.proofs.Lines.{part, part-length, lines-part, lines-part-none}
 use Rattle.rules.proofs.Live.{ascends-put, ascends-takeOut}
 
 -- ---- answers
@@ -73,6 +75,20 @@ readLine-accepted limit e k at (b ∷ bs) st to h = go (action (b ∷ bs)) refl 
     go (some a) q h =
         let r = withinLimit-accepted limit e k (effect at size a st) h in
         inr (record { does = a; said = q; reached = r .0; fits = subst (λ (x : State). length (x .live) ≤ limit) (r .0) (r .1) })
+
+-- ---- lines as they stand in a text: the first of them from a on ends at e
+
+pub readLines-part : (limit n k : ℕ) (s : Bytes) (a e b : ℕ) (st : State) → a < b → b ≤ length s → a ≤ e → e ≤ b
+    → ((j : ℕ) → a ≤ j → j < e → getD s j 0 ≡ 0x0A → ⊥) → (e < b → getD s e 0 ≡ 0x0A)
+    → readLines limit n k a (lines (part s a b)) st ≡ (readLine limit n k a (part s a e) st >>= (λ next. readLines limit n (suc k) (e + 1) (lines (part s (e + 1) b)) next))
+unfolding readLines
+readLines-part limit n k s a e b st ab bs ae eb before feed =
+    let p : a + length (part s a e) + 1 ≡ e + 1 = omega (arith, part-length s a e (omega arith)) in
+    rw (lines-part s a e b ab bs ae eb before feed, p)
+
+pub readLines-none : (limit n k : ℕ) (s : Bytes) (a b : ℕ) (st : State) → b ≤ a → readLines limit n k a (lines (part s a b)) st ≡ accepted st
+unfolding readLines
+readLines-none limit n k s a b st h = rw (lines-part-none s a b h)
 
 -- ---- what every line keeps, lines, files and ways keep
 
