@@ -114,21 +114,19 @@ four a b c d h =
 pub agreeFacts-true : (f g : Facts) → agreeFacts f g ≡ true → SameFacts f g
 unfolding agreeFacts
 agreeFacts-true f g h =
-    go (same (f .path) (g .path)) refl (eqb (f .size) (g .size)) refl (eqb (f .modificationTime) (g .modificationTime)) refl
-    (agreeRecords (f .numRecords) (g .numRecords)) refl (agreePairs (f .partitionValues) (g .partitionValues)) refl h
-  where
-    go : (a : Bool) → same (f .path) (g .path) ≡ a → (b : Bool) → eqb (f .size) (g .size) ≡ b → (c : Bool) → eqb (f .modificationTime) (g .modificationTime) ≡ c
-        → (d : Bool) → agreeRecords (f .numRecords) (g .numRecords) ≡ d → (e : Bool) → agreePairs (f .partitionValues) (g .partitionValues) ≡ e
-        → (a && (b && (c && (d && e)))) ≡ true → SameFacts f g
-    go a p b q c r d s e t h =
-        let u = four b c d e (and-right a (b && (c && (d && e))) h) in
-        record {
-          path = same-true (f .path) (g .path) (p ∙ and-left a (b && (c && (d && e))) h);
-          size = eqb-true (f .size) (g .size) (q ∙ u .0);
-          modificationTime = eqb-true (f .modificationTime) (g .modificationTime) (r ∙ u .1);
-          numRecords = agreeRecords-true (f .numRecords) (g .numRecords) (s ∙ u .2);
-          partitionValues = agreePairs-true (f .partitionValues) (g .partitionValues) (t ∙ u .3);
-        }
+    let a : Bool = same (f .path) (g .path) in
+    let b : Bool = eqb (f .size) (g .size) in
+    let c : Bool = eqb (f .modificationTime) (g .modificationTime) in
+    let d : Bool = agreeRecords (f .numRecords) (g .numRecords) in
+    let e : Bool = agreePairs (f .partitionValues) (g .partitionValues) in
+    let u = four b c d e (and-right a (b && (c && (d && e))) h) in
+    record {
+      path = same-true (f .path) (g .path) (and-left a (b && (c && (d && e))) h);
+      size = eqb-true (f .size) (g .size) (u .0);
+      modificationTime = eqb-true (f .modificationTime) (g .modificationTime) (u .1);
+      numRecords = agreeRecords-true (f .numRecords) (g .numRecords) (u .2);
+      partitionValues = agreePairs-true (f .partitionValues) (g .partitionValues) (u .3);
+    }
 
 pub same-agreeFacts : {f g : Facts} → SameFacts f g → agreeFacts f g ≡ true
 unfolding agreeFacts
@@ -174,7 +172,7 @@ pub agreeProtocols-true : (p q : Protocol) → agreeProtocols p q ≡ true → S
 unfolding agreeProtocols
 agreeProtocols-true p q h =
     let u = four (eqb (p .minReaderVersion) (q .minReaderVersion)) (eqb (p .minWriterVersion) (q .minWriterVersion))
-        (agreeSets (p .readerFeatures) (q .readerFeatures)) (agreeSets (p .writerFeatures) (q .writerFeatures)) h in
+    (agreeSets (p .readerFeatures) (q .readerFeatures)) (agreeSets (p .writerFeatures) (q .writerFeatures)) h in
     record {
       minReaderVersion = eqb-true (p .minReaderVersion) (q .minReaderVersion) (u .0);
       minWriterVersion = eqb-true (p .minWriterVersion) (q .minWriterVersion) (u .1);

@@ -110,7 +110,7 @@ distinct-snoc (y ∷ ys) x = go (distinct-snoc ys x) (holds y ys) (same y x) ref
     go : distinct (ys ++ x ∷ []) ≡ (distinct ys && not (holds x ys)) → (b s : Bool) → same y x ≡ s → (t : Bool) → same x y ≡ t
         → holds y (ys ++ x ∷ []) ≡ (b || elim s [ true ↦ true | false ↦ false ])
         → elim (holds y (ys ++ x ∷ [])) [ true ↦ false | false ↦ distinct (ys ++ x ∷ []) ]
-            ≡ (elim b [ true ↦ false | false ↦ distinct ys ] && not (elim t [ true ↦ true | false ↦ holds x ys ]))
+        ≡ (elim b [ true ↦ false | false ↦ distinct ys ] && not (elim t [ true ↦ true | false ↦ holds x ys ]))
     go ih true s p t q e = rw e
     go ih false true p true q e = rw e (last (distinct ys))
       where

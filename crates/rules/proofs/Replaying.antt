@@ -182,6 +182,7 @@ stateBy-live log way st h = go (bind-accepted (orRefuse noVersionZero (log .vers
     go r =
         let t = bind-accepted (orRefuse notKept way) (withWay (r .0)) (r .2) in
         let u = bind-accepted (readZero (r .0)) (λ z. follow mostLive z (t .0)) (t .2) in
-        let e : u .0 .live ≡ [] = readZero-live (r .0) (u .0) (u .1) in
-        (follow-keeps mostLive Ordered (ordered-kept mostLive) (u .0) (t .0) st (u .2) (rw e tt) tt,
-         follow-keeps mostLive (Fits mostLive) (fits-kept mostLive) (u .0) (t .0) st (u .2) (rw e zero-le) zero-le)
+        let e : u .0 .live ≡ [] = readZero-live (r .0) (u .0) (u .1) in (
+          follow-keeps mostLive Ordered (ordered-kept mostLive) (u .0) (t .0) st (u .2) (rw e tt) tt,
+          follow-keeps mostLive (Fits mostLive) (fits-kept mostLive) (u .0) (t .0) st (u .2) (rw e zero-le) zero-le,
+        )
