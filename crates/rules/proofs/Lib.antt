@@ -1,3 +1,15 @@
 pub mod Opened
 pub mod Edges
 pub mod Examples
+pub mod Tests
+pub mod Order
+pub mod Holding
+pub mod Ascending
+pub mod Live
+pub mod Searching
+pub mod Replaying
+pub mod Lines
+pub mod Sameness
+pub mod Agreement
+pub mod TotalOrders
+pub mod Dropping

@@ -96,19 +96,37 @@ elements value = list (spelled value) 0x5D
 unfoldable pub scalar : Reader
 scalar [] = none
 scalar (b ∷ t) =
-    elim (eqb b 0x22) [ true ↦ behind (string t) | false ↦
-    elim (eqb b 0x66) [ true ↦ word (ascii "alse") t | false ↦
-    elim (eqb b 0x6E) [ true ↦ word (ascii "ull") t | false ↦
-    elim (eqb b 0x74) [ true ↦ word (ascii "rue") t | false ↦
-    number (b ∷ t) ] ] ] ]
+    elim (eqb b 0x22) [
+      | true ↦ behind (string t)
+      | false ↦
+          elim (eqb b 0x66) [
+            | true ↦ word (ascii "alse") t
+            | false ↦
+                elim (eqb b 0x6E) [
+                  | true ↦ word (ascii "ull") t
+                  | false ↦
+                      elim (eqb b 0x74) [
+                        | true ↦ word (ascii "rue") t
+                        | false ↦
+                            number (b ∷ t)
+                      ]
+                ]
+          ]
+    ]
 
 -- value = false / null / true / object / array / number / string, where objects and arrays are read as given
 unfoldable pub valueBy : (object array : Reader) → Reader
 valueBy object array [] = none
 valueBy object array (b ∷ t) =
-    elim (eqb b 0x7B) [ true ↦ object t | false ↦
-    elim (eqb b 0x5B) [ true ↦ array t | false ↦
-    scalar (b ∷ t) ] ]
+    elim (eqb b 0x7B) [
+      | true ↦ object t
+      | false ↦
+          elim (eqb b 0x5B) [
+            | true ↦ array t
+            | false ↦
+                scalar (b ∷ t)
+          ]
+    ]
 
 -- a value in which objects and arrays nest at most d deep
 unfoldable pub value : (d : ℕ) → Reader

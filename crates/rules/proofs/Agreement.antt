@@ -1,0 +1,202 @@
+-- The cleaner's test is the relation: two states agree exactly where they are the same in the sense of demand 3.
+use mathlib.Core.Path.{_≡_, refl, sym, ap, _∙_, subst}
+use mathlib.Core.Logic.{_⊎_, inl, inr}
+use mathlib.Core.Bool.{Bool, true, false, _&&_}
+use mathlib.Core.Option.{Option, none, some}
+use mathlib.Core.List.{List, [], _∷_}
+use Prim.Native.Nat.{ℕ}
+use lib.Dec.{eqb}
+use borrow.Author.Tests.{eqb-true, eq-eqb}
+use Rattle.rules.specs.Bytes.{Bytes, same, holds, allAmong}
+use Rattle.rules.specs.Actions.{Facts, Pairs, Protocol}
+use Rattle.rules.specs.Live.{Row}
+use Rattle.rules.specs.History.{State}
+use Rattle.rules.specs.Picking.{valueAt}
+use Rattle.rules.specs.Agreement.{agreeValue, agreeFound, agreeOn, agreePairs, agreeRecords, agreeFacts, agreeRows, agreeSets, agreeProtocols, agree}
+use Rattle.rules.specs.Same.{SameFacts, SameRows, no-rows, row, SameProtocol, SameState}
+use Rattle.rules.proofs.Tests.{apart, tests-equal, and-left, and-right, and-both}
+use Rattle.rules.proofs.Order.{same-true, eq-same, ne-same, same-or-not}
+use Rattle.rules.proofs.Holding.{allAmong-holds, holds-allAmong}
+
+-- ---- values that may be missing
+
+pub agreeValue-true : (x y : Option Bytes) → agreeValue x y ≡ true → x ≡ y
+unfolding agreeValue
+agreeValue-true none none e = refl
+agreeValue-true none (some y) e = apart (cc)
+agreeValue-true (some x) none e = apart (cc)
+agreeValue-true (some x) (some y) e = ap some (same-true x y e)
+
+pub agreeValue-refl : (x : Option Bytes) → agreeValue x x ≡ true
+unfolding agreeValue
+agreeValue-refl none = refl
+agreeValue-refl (some x) = eq-same refl
+
+pub agreeFound-true : (x y : Option (Option Bytes)) → agreeFound x y ≡ true → x ≡ y
+unfolding agreeFound
+agreeFound-true none none e = refl
+agreeFound-true none (some y) e = apart (cc)
+agreeFound-true (some x) none e = apart (cc)
+agreeFound-true (some x) (some y) e = ap some (agreeValue-true x y e)
+
+pub agreeFound-refl : (x : Option (Option Bytes)) → agreeFound x x ≡ true
+unfolding agreeFound
+agreeFound-refl none = refl
+agreeFound-refl (some x) = agreeValue-refl x
+
+pub agreeRecords-true : (x y : Option ℕ) → agreeRecords x y ≡ true → x ≡ y
+unfolding agreeRecords
+agreeRecords-true none none e = refl
+agreeRecords-true none (some y) e = apart (cc)
+agreeRecords-true (some x) none e = apart (cc)
+agreeRecords-true (some x) (some y) e = ap some (eqb-true x y e)
+
+pub agreeRecords-refl : (x : Option ℕ) → agreeRecords x x ≡ true
+unfolding agreeRecords
+agreeRecords-refl none = refl
+agreeRecords-refl (some x) = eq-eqb x x refl
+
+-- ---- partition pairs
+
+module _ (column : Bytes) (p : Bytes × Option Bytes) (ps : Pairs) where
+  pub valueAt-here : column ≡ p .0 → valueAt column (p ∷ ps) ≡ some (p .1)
+  unfolding valueAt
+  valueAt-here e = rw (eq-same e, valueAt)
+
+  pub valueAt-past : (column ≡ p .0 → ⊥) → valueAt column (p ∷ ps) ≡ valueAt column ps
+  unfolding valueAt
+  valueAt-past h = rw (ne-same column (p .0) h, valueAt)
+
+module _ (ps qs : Pairs) where
+  -- a column of `these` has the same value in both
+  agreeOn-at : (these : Pairs) → agreeOn these ps qs ≡ true → (column : Bytes) → (valueAt column these ≡ none) ⊎ (valueAt column ps ≡ valueAt column qs)
+  unfolding agreeOn valueAt
+  agreeOn-at [] h column = inl refl
+  agreeOn-at (c ∷ these) h column = go (agreeFound (valueAt (c .0) ps) (valueAt (c .0) qs)) refl h (λ e. agreeOn-at these e column) (same-or-not column (c .0))
+    where
+      go : (b : Bool) → agreeFound (valueAt (c .0) ps) (valueAt (c .0) qs) ≡ b → elim b [ true ↦ agreeOn these ps qs | false ↦ false ] ≡ true
+          → (agreeOn these ps qs ≡ true → (valueAt column these ≡ none) ⊎ (valueAt column ps ≡ valueAt column qs)) → (column ≡ c .0) ⊎ (column ≡ c .0 → ⊥)
+          → (valueAt column (c ∷ these) ≡ none) ⊎ (valueAt column ps ≡ valueAt column qs)
+      go true e h ih (inl q) = inr (rw q (agreeFound-true (valueAt (c .0) ps) (valueAt (c .0) qs) e))
+      go true e h ih (inr n) = rw (valueAt-past column c these n) (ih h)
+      go false e h ih q = apart (cc)
+
+  agreeOn-all : (these : Pairs) → ((column : Bytes) → valueAt column ps ≡ valueAt column qs) → agreeOn these ps qs ≡ true
+  unfolding agreeOn
+  agreeOn-all [] h = refl
+  agreeOn-all (c ∷ these) h =
+      let e : agreeFound (valueAt (c .0) ps) (valueAt (c .0) qs) ≡ true = rw (h (c .0)) (agreeFound-refl (valueAt (c .0) qs)) in
+      rw (e, agreeOn) (agreeOn-all these h)
+
+  pub agreePairs-true : agreePairs ps qs ≡ true → (column : Bytes) → valueAt column ps ≡ valueAt column qs
+  unfolding agreePairs
+  agreePairs-true h column =
+      go (agreeOn-at ps (and-left (agreeOn ps ps qs) (agreeOn qs ps qs) h) column) (agreeOn-at qs (and-right (agreeOn ps ps qs) (agreeOn qs ps qs) h) column)
+    where
+      go : (valueAt column ps ≡ none) ⊎ (valueAt column ps ≡ valueAt column qs) → (valueAt column qs ≡ none) ⊎ (valueAt column ps ≡ valueAt column qs)
+          → valueAt column ps ≡ valueAt column qs
+      go (inr e) d = e
+      go (inl n) (inr e) = e
+      go (inl n) (inl m) = n ∙ sym m
+
+  pub all-agreePairs : ((column : Bytes) → valueAt column ps ≡ valueAt column qs) → agreePairs ps qs ≡ true
+  unfolding agreePairs
+  all-agreePairs h = and-both (agreeOn-all ps h) (agreeOn-all qs h)
+
+-- ---- facts and rows
+
+four : (a b c d : Bool) → (a && (b && (c && d))) ≡ true → (a ≡ true) × (b ≡ true) × (c ≡ true) × (d ≡ true)
+four a b c d h =
+    let t : (b && (c && d)) ≡ true = and-right a (b && (c && d)) h in
+    let u : (c && d) ≡ true = and-right b (c && d) t in
+    (and-left a (b && (c && d)) h, and-left b (c && d) t, and-left c d u, and-right c d u)
+
+pub agreeFacts-true : (f g : Facts) → agreeFacts f g ≡ true → SameFacts f g
+unfolding agreeFacts
+agreeFacts-true f g h =
+    let a : Bool = same (f .path) (g .path) in
+    let b : Bool = eqb (f .size) (g .size) in
+    let c : Bool = eqb (f .modificationTime) (g .modificationTime) in
+    let d : Bool = agreeRecords (f .numRecords) (g .numRecords) in
+    let e : Bool = agreePairs (f .partitionValues) (g .partitionValues) in
+    let u = four b c d e (and-right a (b && (c && (d && e))) h) in
+    record {
+      path = same-true (f .path) (g .path) (and-left a (b && (c && (d && e))) h);
+      size = eqb-true (f .size) (g .size) (u .0);
+      modificationTime = eqb-true (f .modificationTime) (g .modificationTime) (u .1);
+      numRecords = agreeRecords-true (f .numRecords) (g .numRecords) (u .2);
+      partitionValues = agreePairs-true (f .partitionValues) (g .partitionValues) (u .3);
+    }
+
+pub same-agreeFacts : {f g : Facts} → SameFacts f g → agreeFacts f g ≡ true
+unfolding agreeFacts
+same-agreeFacts {f} {g} s =
+    let e : agreeRecords (f .numRecords) (g .numRecords) ≡ true = subst (λ (n : Option ℕ). agreeRecords (f .numRecords) n ≡ true) (s .numRecords) (agreeRecords-refl (f .numRecords)) in
+    and-both (eq-same (s .path))
+    (and-both (eq-eqb (f .size) (g .size) (s .size))
+    (and-both (eq-eqb (f .modificationTime) (g .modificationTime) (s .modificationTime))
+    (and-both e
+    (all-agreePairs (f .partitionValues) (g .partitionValues) (s .partitionValues)))))
+
+pub agreeRows-true : (rs ss : List Row) → agreeRows rs ss ≡ true → SameRows rs ss
+unfolding agreeRows
+agreeRows-true [] [] h = no-rows
+agreeRows-true [] (s ∷ ss) h = apart (cc)
+agreeRows-true (r ∷ rs) [] h = apart (cc)
+agreeRows-true (r ∷ rs) (s ∷ ss) h = go (agreeFacts (r .facts) (s .facts)) refl h (agreeRows-true rs ss)
+  where
+    go : (b : Bool) → agreeFacts (r .facts) (s .facts) ≡ b → elim b [ true ↦ agreeRows rs ss | false ↦ false ] ≡ true
+        → (agreeRows rs ss ≡ true → SameRows rs ss) → SameRows (r ∷ rs) (s ∷ ss)
+    go true e h ih = row (agreeFacts-true (r .facts) (s .facts) e) (ih h)
+    go false e h ih = apart (cc)
+
+pub same-agreeRows : {rs ss : List Row} → SameRows rs ss → agreeRows rs ss ≡ true
+unfolding agreeRows
+same-agreeRows no-rows = refl
+same-agreeRows (row f s) = rw (same-agreeFacts f, agreeRows) (same-agreeRows s)
+
+-- ---- protocols
+
+pub agreeSets-true : (xs ys : List Bytes) → agreeSets xs ys ≡ true → (name : Bytes) → holds name xs ≡ holds name ys
+unfolding agreeSets
+agreeSets-true xs ys h name =
+    tests-equal (holds name xs) (holds name ys)
+    (allAmong-holds ys xs (and-left (allAmong ys xs) (allAmong xs ys) h) name)
+    (allAmong-holds xs ys (and-right (allAmong ys xs) (allAmong xs ys) h) name)
+
+pub same-agreeSets : (xs ys : List Bytes) → ((name : Bytes) → holds name xs ≡ holds name ys) → agreeSets xs ys ≡ true
+unfolding agreeSets
+same-agreeSets xs ys h = and-both (holds-allAmong ys xs (λ x t. sym (h x) ∙ t)) (holds-allAmong xs ys (λ x t. h x ∙ t))
+
+pub agreeProtocols-true : (p q : Protocol) → agreeProtocols p q ≡ true → SameProtocol p q
+unfolding agreeProtocols
+agreeProtocols-true p q h =
+    let u = four (eqb (p .minReaderVersion) (q .minReaderVersion)) (eqb (p .minWriterVersion) (q .minWriterVersion))
+    (agreeSets (p .readerFeatures) (q .readerFeatures)) (agreeSets (p .writerFeatures) (q .writerFeatures)) h in
+    record {
+      minReaderVersion = eqb-true (p .minReaderVersion) (q .minReaderVersion) (u .0);
+      minWriterVersion = eqb-true (p .minWriterVersion) (q .minWriterVersion) (u .1);
+      readerFeatures = agreeSets-true (p .readerFeatures) (q .readerFeatures) (u .2);
+      writerFeatures = agreeSets-true (p .writerFeatures) (q .writerFeatures) (u .3);
+    }
+
+pub same-agreeProtocols : {p q : Protocol} → SameProtocol p q → agreeProtocols p q ≡ true
+unfolding agreeProtocols
+same-agreeProtocols {p} {q} s =
+    and-both (eq-eqb (p .minReaderVersion) (q .minReaderVersion) (s .minReaderVersion))
+    (and-both (eq-eqb (p .minWriterVersion) (q .minWriterVersion) (s .minWriterVersion))
+    (and-both (same-agreeSets (p .readerFeatures) (q .readerFeatures) (s .readerFeatures))
+    (same-agreeSets (p .writerFeatures) (q .writerFeatures) (s .writerFeatures))))
+
+-- ---- states
+
+pub agree-true : (s t : State) → agree s t ≡ true → SameState s t
+unfolding agree
+agree-true s t h = record {
+  inForce = agreeProtocols-true (s .inForce) (t .inForce) (and-left (agreeProtocols (s .inForce) (t .inForce)) (agreeRows (s .live) (t .live)) h);
+  live = agreeRows-true (s .live) (t .live) (and-right (agreeProtocols (s .inForce) (t .inForce)) (agreeRows (s .live) (t .live)) h);
+}
+
+pub same-agree : {s t : State} → SameState s t → agree s t ≡ true
+unfolding agree
+same-agree h = and-both (same-agreeProtocols (h .inForce)) (same-agreeRows (h .live))
