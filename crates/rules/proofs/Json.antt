@@ -5,3 +5,6 @@ pub mod TextReads
 pub mod NumberReads
 pub mod StringReads
 pub mod ValueReads
+pub mod Steps
+pub mod Shadows
+pub mod Joined

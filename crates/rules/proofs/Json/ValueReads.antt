@@ -131,8 +131,8 @@ module _ {A : Type 0} (item : Taker A) (close : ℕ) where
         go ih p f neither h g = never g
 
     -- items, with any bound from the number of bytes on
-    pub items-bound : (t : Text) {n m : ℕ} → length t ≤ n → length t ≤ m → items item close n t ≡ items item close m t
-    items-bound t k l = within-bound items-within k l
+    pub items-bound : (t : Text) (n m : ℕ) → length t ≤ n → length t ≤ m → items item close n t ≡ items item close m t
+    items-bound t n m k l = within-bound items-within k l
 
     listBy-reads : EachTakes 1 (λ t. itemsBehind item close (openedBy close t))
     unfolding itemsBehind openedBy
