@@ -8,3 +8,6 @@ pub mod ValueReads
 pub mod Steps
 pub mod Shadows
 pub mod Joined
+pub mod Local
+pub mod InPlace
+pub mod Fields

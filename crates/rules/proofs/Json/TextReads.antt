@@ -5,12 +5,13 @@ use mathlib.Core.Option.{Option, none, some}
 use mathlib.Core.List.{List, [], _∷_, _++_, append-nil}
 use Prim.Native.Nat.{ℕ, zero, suc, _-_, _≤_}
 use native.Mathlib.Omega.{arith}
+use borrow.Author.Tests.{eqb-true}
 use lib.Dec.{eqb}
 use lib.ListN.{length, take, length-append}
 use lib.Seq.{take-at}
 use Rattle.rules.specs.Bytes.{Bytes, _>>=_, among}
 use Rattle.rules.specs.Json.Text.{Text, Reader, spelled, isWs, ws, byte, byteIn, word}
-use Rattle.rules.proofs.Json.Suffix.{Beside, Reads, EachReads, EachTakes, reads-length, reads-passed, reads-none, reads-end, reads-here, reads-after, reads-least, some-same, never, by, bound, taken, answered-byte, answered-none, answered-after}
+use Rattle.rules.proofs.Json.Suffix.{Beside, Reads, EachReads, EachTakes, reads-length, reads-passed, reads-none, reads-end, reads-here, reads-after, reads-least, some-same, value-same, left-same, never, by, bound, taken, answered-byte, answered-none, answered-after}
 
 abbrev pub all : Text → Text
 all t = t
@@ -59,6 +60,42 @@ word-reads (c ∷ w) (b ∷ t) r e = go (word-reads w t r) (eqb b c) refl
     go : (word w t ≡ some r → Reads (length w) (word w) some t r) → (test : Bool) → eqb b c ≡ test → Reads (suc (length w)) (word (c ∷ w)) some (b ∷ t) r
     go ih true p = answered-after e (λ u. rw (word, p)) ih
     go ih false p = answered-none e (rw (word, p))
+
+-- a word is passed byte for byte
+pub word-text : (w t r : Text) → word w t ≡ some r → t ≡ w ++ r
+unfolding word
+word-text [] t r e = some-same e
+word-text (c ∷ w) [] r e = never e
+word-text (c ∷ w) (b ∷ t) r e = go (word-text w t r) (eqb b c) refl
+  where
+    go : (word w t ≡ some r → t ≡ w ++ r) → (test : Bool) → eqb b c ≡ test → b ∷ t ≡ c ∷ (w ++ r)
+    go ih true p =
+        let f : word (c ∷ w) (b ∷ t) ≡ word w t = rw (word, p) in
+        let same-byte : b ≡ c = eqb-true b c p in
+        let same-rest : t ≡ w ++ r = ih (sym f ∙ e) in
+        cc
+    go ih false p = answered-none e (rw (word, p))
+
+-- ---- what is spelled
+
+-- what stands of t before r
+abbrev pub before : (t r : Text) → Text
+before t r = take (length t - length r) t
+
+pub spelled-some : (read : Reader) (t : Text) {r : Text} → read t ≡ some r → spelled read t ≡ some (before t r, r)
+unfolding spelled
+spelled-some read t e = rw (spelled, e)
+
+pub spelled-none : (read : Reader) (t : Text) → read t ≡ none → spelled read t ≡ none
+unfolding spelled
+spelled-none read t e = rw (spelled, e)
+
+pub spelled-left : (read : Reader) (t : Text) {x r : Text} → spelled read t ≡ some (x, r) → read t ≡ some r
+unfolding spelled
+spelled-left read t e = bound (read t) _ e (λ u p q. p ∙ ap some (left-same q))
+
+pub spelled-text : (read : Reader) (t : Text) {x r : Text} → spelled read t ≡ some (x, r) → x ≡ before t r
+spelled-text read t e = value-same (sym e ∙ spelled-some read t (spelled-left read t e))
 
 -- what is spelled is what was passed
 pub spelled-of : (read : Reader) (p v : Text) → read (p ++ v) ≡ some v → spelled read (p ++ v) ≡ some (p, v)
