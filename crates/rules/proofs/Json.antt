@@ -10,4 +10,5 @@ pub mod Shadows
 pub mod Joined
 pub mod Local
 pub mod InPlace
+pub mod Places
 pub mod Fields

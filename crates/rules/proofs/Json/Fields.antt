@@ -1,9 +1,9 @@
 -- Fields by name: what stands under a name in a list that grows, and what a field is by the number of times that it stands there.
-use mathlib.Core.Path.{_≡_, refl, sym, ap, _∙_}
+use mathlib.Core.Path.{_≡_, refl, ap, _∙_}
 use mathlib.Core.Bool.{Bool, true, false}
-use mathlib.Core.Option.{Option, none, some}
+use mathlib.Core.Option.{none, some}
 use mathlib.Core.List.{List, [], _∷_, _++_, append-nil}
-use Prim.Native.Nat.{ℕ, _≤_}
+use Prim.Native.Nat.{_≤_}
 use Prim.Native.String.{String}
 use native.Mathlib.Omega.{arith}
 use lib.ListN.{length}
@@ -11,7 +11,6 @@ use Rattle.rules.specs.Bytes.{Bytes, ascii, same, isEmpty}
 use Rattle.rules.specs.Json.Text.{Text}
 use Rattle.rules.specs.Json.Values.{Member}
 use Rattle.rules.specs.Json.Fields.{under, sole, once, isNull, soleOrNone, optional, absent}
-use Rattle.rules.proofs.Json.Suffix.{by}
 
 -- ---- under a name
 

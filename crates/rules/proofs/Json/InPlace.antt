@@ -1,23 +1,22 @@
 -- The text of a value, by its first byte: what the paper asks of the text is answered in its place, so that code reads it once.
 use mathlib.Core.Path.{_≡_, refl, sym, ap, _∙_, subst}
-use mathlib.Core.Bool.{Bool, true, false, true≢false}
-use mathlib.Core.Option.{Option, none, some}
-use mathlib.Core.List.{List, [], _∷_, _++_}
-use Prim.Native.Nat.{ℕ, zero, suc, _+_, _-_, _≤_}
-use native.Mathlib.Nat.{suc-sub-suc}
+use mathlib.Core.Bool.{true, false, true≢false}
+use mathlib.Core.Option.{none, some}
+use mathlib.Core.List.{List, _∷_, _++_}
+use Prim.Native.Nat.{ℕ, suc, _+_, _-_, _≤_}
 use native.Mathlib.Omega.{arith}
 use borrow.Author.Tests.{eqb-true, ne-eqb}
 use lib.Dec.{eqb}
 use lib.ListN.{length, take, length-append}
 use lib.Seq.{take-at}
-use Rattle.rules.specs.Bytes.{Bytes, ascii, _>>=_, guard, first, among, same, isEmpty}
+use Rattle.rules.specs.Bytes.{Bytes, ascii, first, among, same, isEmpty}
 use Rattle.rules.specs.Numbers.{isDigit}
-use Rattle.rules.specs.Json.Text.{Text, Reader, behind, spelled, isWs, ws, byte, word}
+use Rattle.rules.specs.Json.Text.{Text, behind, spelled, isWs, ws, byte, word}
 use Rattle.rules.specs.Json.Numbers.{digits1, minus, int, number, whole}
 use Rattle.rules.specs.Json.Strings.{string}
 use Rattle.rules.specs.Json.Values.{Member, contents, elements, scalar, value, objectOf, arrayOf}
-use Rattle.rules.specs.Json.Fields.{isNull, stringOf, unquoted, boolOf}
-use Rattle.rules.proofs.Json.Suffix.{EachReads, reads-fewer, never, by, answered-none}
+use Rattle.rules.specs.Json.Fields.{isNull, stringOf, boolOf}
+use Rattle.rules.proofs.Json.Suffix.{reads-fewer, by, answered-none}
 use Rattle.rules.proofs.Json.TextReads.{before, byte-other, spelled-left, spelled-text, word-text}
 use Rattle.rules.proofs.Json.ValueReads.{value-reads}
 use Rattle.rules.proofs.Json.Steps.{value-object, value-array, value-scalar, scalar-string, scalar-false, scalar-null, scalar-true, objectOf-contents, objectOf-none, arrayOf-elements, arrayOf-none, alone-end}
@@ -74,41 +73,41 @@ value-here d b t y e = by (isWs b)
 
 -- ---- objects
 
-pub object-alone : (d : ℕ) (ms : List Member) (t r : Text) → contents (value d) t ≡ some (ms, r) → objectOf d (0x7B ∷ before t r) ≡ some ms
+pub objectOf-alone : (d : ℕ) (ms : List Member) (t r : Text) → contents (value d) t ≡ some (ms, r) → objectOf d (0x7B ∷ before t r) ≡ some ms
 unfolding ws isWs first byte
-object-alone d ms t r e = objectOf-contents d (0x7B ∷ before t r) refl ∙ alone-end (contents-alone d ms t r e) refl
+objectOf-alone d ms t r e = objectOf-contents d (0x7B ∷ before t r) refl ∙ alone-end (contents-alone d ms t r e) refl
 
 pub object-text : (d : ℕ) (t x r : Text) → spelled (value (suc d)) (0x7B ∷ t) ≡ some (x, r)
     → (ms : List Member) × (contents (value d) t ≡ some (ms, r)) × (objectOf d x ≡ some ms)
 object-text d t x r e =
     let (ms, f) = behind-some (contents (value d) t) (sym (value-object d t) ∙ spelled-left (value (suc d)) (0x7B ∷ t) e) in
-    (ms, f, ap (objectOf d) (value-text (suc d) 0x7B t x r e) ∙ object-alone d ms t r f)
+    (ms, f, ap (objectOf d) (value-text (suc d) 0x7B t x r e) ∙ objectOf-alone d ms t r f)
 
-pub object-other : (c d b : ℕ) (t x r : Text) → (b ≡ 0x7B → ⊥) → spelled (value d) (b ∷ t) ≡ some (x, r) → objectOf c x ≡ none
-object-other c d b t x r n e = ap (objectOf c) (value-text d b t x r e) ∙ objectOf-none c (b ∷ before t r)
+pub objectOf-other : (c d b : ℕ) (t x r : Text) → (b ≡ 0x7B → ⊥) → spelled (value d) (b ∷ t) ≡ some (x, r) → objectOf c x ≡ none
+objectOf-other c d b t x r n e = ap (objectOf c) (value-text d b t x r e) ∙ objectOf-none c (b ∷ before t r)
     (ap (byte 0x7B) (value-here d b t (before t r) (spelled-left (value d) (b ∷ t) e)) ∙ byte-other 0x7B b (before t r) (ne-eqb b 0x7B n))
 
 -- ---- arrays
 
-pub array-alone : (d : ℕ) (vs : List Text) (t r : Text) → elements (value d) t ≡ some (vs, r) → arrayOf d (0x5B ∷ before t r) ≡ some vs
+pub arrayOf-alone : (d : ℕ) (vs : List Text) (t r : Text) → elements (value d) t ≡ some (vs, r) → arrayOf d (0x5B ∷ before t r) ≡ some vs
 unfolding ws isWs first byte
-array-alone d vs t r e = arrayOf-elements d (0x5B ∷ before t r) refl ∙ alone-end (elements-alone d vs t r e) refl
+arrayOf-alone d vs t r e = arrayOf-elements d (0x5B ∷ before t r) refl ∙ alone-end (elements-alone d vs t r e) refl
 
 pub array-text : (d : ℕ) (t x r : Text) → spelled (value (suc d)) (0x5B ∷ t) ≡ some (x, r)
     → (vs : List Text) × (elements (value d) t ≡ some (vs, r)) × (arrayOf d x ≡ some vs)
 array-text d t x r e =
     let (vs, f) = behind-some (elements (value d) t) (sym (value-array d t) ∙ spelled-left (value (suc d)) (0x5B ∷ t) e) in
-    (vs, f, ap (arrayOf d) (value-text (suc d) 0x5B t x r e) ∙ array-alone d vs t r f)
+    (vs, f, ap (arrayOf d) (value-text (suc d) 0x5B t x r e) ∙ arrayOf-alone d vs t r f)
 
-pub array-other : (c d b : ℕ) (t x r : Text) → (b ≡ 0x5B → ⊥) → spelled (value d) (b ∷ t) ≡ some (x, r) → arrayOf c x ≡ none
-array-other c d b t x r n e = ap (arrayOf c) (value-text d b t x r e) ∙ arrayOf-none c (b ∷ before t r)
+pub arrayOf-other : (c d b : ℕ) (t x r : Text) → (b ≡ 0x5B → ⊥) → spelled (value d) (b ∷ t) ≡ some (x, r) → arrayOf c x ≡ none
+arrayOf-other c d b t x r n e = ap (arrayOf c) (value-text d b t x r e) ∙ arrayOf-none c (b ∷ before t r)
     (ap (byte 0x5B) (value-here d b t (before t r) (spelled-left (value d) (b ∷ t) e)) ∙ byte-other 0x5B b (before t r) (ne-eqb b 0x5B n))
 
 -- ---- strings
 
-stringOf-quote : (y : Text) {s : Bytes} → string y ≡ some (s, []) → stringOf (0x22 ∷ y) ≡ some s
+pub stringOf-alone : (s : Bytes) (t r : Text) → string t ≡ some (s, r) → stringOf (0x22 ∷ before t r) ≡ some s
 unfolding stringOf byte isEmpty
-stringOf-quote y e = rw e
+stringOf-alone s t r e = rw (string-alone s t r e)
 
 pub stringOf-other : (b : ℕ) (y : Text) → (b ≡ 0x22 → ⊥) → stringOf (b ∷ y) ≡ none
 unfolding stringOf
@@ -119,7 +118,7 @@ pub string-text : (d : ℕ) (t x r : Text) → spelled (value d) (0x22 ∷ t) �
 string-text d t x r e =
     let left : behind (string t) ≡ some r = sym (value-scalar d 0x22 t (λ h. omega arith) (λ h. omega arith) ∙ scalar-string t) ∙ spelled-left (value d) (0x22 ∷ t) e in
     let (s, f) = behind-some (string t) left in
-    (s, f, ap stringOf (value-text d 0x22 t x r e) ∙ stringOf-quote (before t r) (string-alone s t r f))
+    (s, f, ap stringOf (value-text d 0x22 t x r e) ∙ stringOf-alone s t r f)
 
 -- ---- null, true and false
 

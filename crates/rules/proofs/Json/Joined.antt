@@ -4,7 +4,7 @@ use mathlib.Core.Option.{Option, none, some}
 use mathlib.Core.List.{List, [], _∷_, _++_, append-assoc}
 use Prim.Native.Nat.{ℕ}
 use Rattle.rules.specs.Json.Text.{Text, Taker, behind}
-use Rattle.rules.specs.Json.Values.{Behind, closed, onward, neither, opening, closing, andThen, list}
+use Rattle.rules.specs.Json.Values.{closed, onward, neither, opening, closing, andThen, list}
 use Rattle.rules.proofs.Json.Suffix.{EachTakes}
 use Rattle.rules.proofs.Json.Steps.{rest, list-onward, rest-none, rest-closed, rest-neither, rest-onward}
 

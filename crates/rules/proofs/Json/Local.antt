@@ -1,20 +1,16 @@
 -- A reader looks no further than one byte behind what it reads. So the text of a value, taken out of its line and read again, reads as it did in its place.
-use mathlib.Core.Path.{_≡_, refl, sym, ap, _∙_, subst}
-use mathlib.Core.Option.{Option, none, some}
-use mathlib.Core.List.{List, [], _∷_, _++_, append-nil, append-cancel-right}
-use Prim.Native.Nat.{ℕ, suc, _+_, _-_, _≤_}
-use native.Mathlib.Omega.{arith}
-use lib.ListN.{length, take, drop, length-drop}
-use Rattle.rules.specs.Bytes.{Bytes, _>>=_, guard, isEmpty}
-use Rattle.rules.specs.Json.Text.{Text, Reader, Taker, behind, spelled, ws, byte}
+use mathlib.Core.Path.{_≡_, sym, ap, _∙_}
+use mathlib.Core.Option.{some}
+use mathlib.Core.List.{List, [], _++_, append-nil, append-cancel-right}
+use Prim.Native.Nat.{ℕ}
+use Rattle.rules.specs.Bytes.{Bytes}
+use Rattle.rules.specs.Json.Text.{Text, Reader, Taker, spelled}
 use Rattle.rules.specs.Json.Strings.{string}
-use Rattle.rules.specs.Json.Values.{Member, contents, elements, value, alone, objectOf, arrayOf}
-use Rattle.rules.specs.Json.Fields.{stringOf}
+use Rattle.rules.specs.Json.Values.{Member, contents, elements, value}
 use Rattle.rules.proofs.Json.Suffix.{Beside, nothing, Reads, EachReads, EachTakes, reads-passed}
-use Rattle.rules.proofs.Json.TextReads.{before, spelled-some, spelled-left, spelled-text}
+use Rattle.rules.proofs.Json.TextReads.{before, spelled-left, spelled-text}
 use Rattle.rules.proofs.Json.StringReads.{string-reads}
 use Rattle.rules.proofs.Json.ValueReads.{value-reads, contents-reads, elements-reads}
-use Rattle.rules.proofs.Json.Steps.{value-object, value-array, objectOf-contents, arrayOf-elements, alone-end}
 
 -- ---- any reader
 

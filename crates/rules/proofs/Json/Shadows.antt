@@ -1,15 +1,23 @@
 -- What a reader leaves, without what it read: a recogniser is the shadow of the taker, step by step.
 use mathlib.Core.Path.{_≡_, refl, sym, ap, _∙_}
 use mathlib.Core.Option.{Option, none, some}
-use mathlib.Core.List.{List, [], _∷_, _++_}
-use Prim.Native.Nat.{ℕ, zero, suc, _-_}
+use mathlib.Core.List.{List, _∷_, _++_}
+use Prim.Native.Nat.{ℕ, suc, _-_}
+use borrow.Author.Tests.{ne-eqb}
 use lib.ListN.{length, take}
 use Rattle.rules.specs.Bytes.{Bytes, _>>=_}
 use Rattle.rules.specs.Json.Text.{Text, Reader, Taker, behind, spelled, byte}
-use Rattle.rules.specs.Json.Strings.{unescaped, escaped, utf8, char, string}
-use Rattle.rules.specs.Json.Values.{Behind, closed, onward, neither, opening, closing, andThen, afterItem, list, Member, colon, member}
+use Rattle.rules.specs.Json.Strings.{unescaped, escaped, utf8, char, chars, string}
+use Rattle.rules.specs.Json.Values.{Behind, closed, onward, neither, opening, closing, andThen, afterItem, items, list, Member, colon, member}
 use Rattle.rules.proofs.Json.Suffix.{EachTakes, some-same, never}
-use Rattle.rules.proofs.Json.Steps.{char-escape, char-plain, string-quote, string-none, string-char, rest, list-closed, list-onward, list-neither, rest-none, rest-closed, rest-neither, rest-onward}
+use Rattle.rules.proofs.Json.StringReads.{chars-char}
+use Rattle.rules.proofs.Json.Steps.{char-escape, char-plain, string-none, string-char, rest, list-closed, list-onward, list-neither, rest-none, rest-closed, rest-neither, rest-onward}
+
+-- what is left behind an item
+abbrev pub ahead : Behind → (others : Reader) → Option Text
+ahead (closed u) others = some u
+ahead (onward u) others = others u
+ahead neither others = none
 
 -- ---- a shadow, and what casts it
 
@@ -32,11 +40,22 @@ module _ {A : Type 0} where
   behind-andThen x none = refl
   behind-andThen x (some p) = refl
 
-  pub behind-afterItem : (x y : A) (c : Behind) (others : Taker (List A)) → behind (afterItem x c others) ≡ behind (afterItem y c others)
+  pub behind-afterItem : (x : A) (c : Behind) (others : Taker (List A)) → behind (afterItem x c others) ≡ ahead c (λ u. behind (others u))
   unfolding afterItem
-  behind-afterItem x y (closed u) others = refl
-  behind-afterItem x y (onward u) others = behind-andThen x (others u) ∙ sym (behind-andThen y (others u))
-  behind-afterItem x y neither others = refl
+  behind-afterItem x (closed u) others = refl
+  behind-afterItem x (onward u) others = behind-andThen x (others u)
+  behind-afterItem x neither others = refl
+
+  -- a turn of the loop over items, whatever its bound
+  pub behind-items : (item : Taker A) (close n : ℕ) (t : Text)
+      → behind (items item close (suc n) t) ≡ (behind (item t) >>= (λ r. ahead (closing close r) (λ u. behind (items item close n u))))
+  unfolding items
+  behind-items item close n t = go (item t)
+    where
+      go : (o : Option (A × Text)) → behind (o >>= (λ p. afterItem (p .0) (closing close (p .1)) (λ u. items item close n u)))
+          ≡ (behind o >>= (λ r. ahead (closing close r) (λ u. behind (items item close n u))))
+      go none = refl
+      go (some p) = behind-afterItem (p .0) (closing close (p .1)) (λ u. items item close n u)
 
 pub behind-spelled : (read : Reader) (t : Text) → behind (spelled read t) ≡ read t
 unfolding spelled
@@ -62,7 +81,13 @@ behind-string-char b t {r} n e =
     let (x, f) = behind-some (char (b ∷ t)) e in
     ap behind (string-char b t n f) ∙ behind-made (λ (xs : Bytes). x ++ xs) (string r)
 
--- ---- containers
+-- the same of the loop over characters, whatever its bound
+pub behind-chars-char : (n b : ℕ) (t : Text) {r : Text} → (b ≡ 0x22 → ⊥) → behind (char (b ∷ t)) ≡ some r → behind (chars (suc n) (b ∷ t)) ≡ behind (chars n r)
+behind-chars-char n b t {r} h e =
+    let (x, f) = behind-some (char (b ∷ t)) e in
+    ap behind (chars-char n b t (ne-eqb b 0x22 h) f) ∙ behind-made (λ (xs : Bytes). x ++ xs) (chars n r)
+
+-- ---- containers, with no bound
 
 module _ {A : Type 0} (item : Taker A) (close : ℕ) (t : Text) where
   pub behind-list-closed : {u : Text} → opening close t ≡ closed u → behind (list item close t) ≡ some u

@@ -1,19 +1,18 @@
 -- How strings, containers and values go on, by the byte or the item that they begin with: no bound is left in these laws.
 use mathlib.Core.Path.{_≡_, refl, sym, ap, _∙_}
-use mathlib.Core.Bool.{Bool, true, false}
 use mathlib.Core.Option.{Option, none, some}
 use mathlib.Core.List.{List, [], _∷_, _++_}
 use Prim.Native.Nat.{ℕ, zero, suc, _+_, _-_, _≤_}
 use native.Mathlib.Omega.{arith}
-use borrow.Author.Tests.{eq-eqb, ne-eqb}
+use borrow.Author.Tests.{ne-eqb}
 use lib.ListN.{length, take}
 use Rattle.rules.specs.Bytes.{Bytes, ascii, _>>=_, isEmpty}
 use Rattle.rules.specs.Json.Text.{Text, Reader, Taker, behind, spelled, ws, byte, word}
 use Rattle.rules.specs.Json.Numbers.{number}
 use Rattle.rules.specs.Json.Strings.{unescaped, escaped, utf8, char, chars, string}
-use Rattle.rules.specs.Json.Values.{Behind, closed, onward, neither, opening, closing, andThen, afterItem, items, itemsBehind, list, Member, colon, member, contents, elements, scalar, valueBy, value, alone, objectOf, arrayOf}
+use Rattle.rules.specs.Json.Values.{closed, onward, neither, opening, closing, andThen, afterItem, items, itemsBehind, list, colon, member, contents, elements, scalar, valueBy, value, alone, objectOf, arrayOf}
 use Rattle.rules.proofs.Json.Suffix.{EachTakes, reads-fewer}
-use Rattle.rules.proofs.Json.StringReads.{char-reads, chars-quote, chars-char, chars-none, string-bound}
+use Rattle.rules.proofs.Json.StringReads.{char-reads, chars-char, chars-none, string-bound}
 use Rattle.rules.proofs.Json.ValueReads.{closing-onward, items-bound}
 
 -- ---- characters
@@ -87,7 +86,15 @@ module _ {A : Type 0} (item : Taker A) (close : ℕ) (t : Text) where
         let once : items item close (suc (length t)) t ≡ andThen x (items item close (length t) u) = rw (items, e, f) in
         once ∙ ap (andThen x) (items-bound item close each u (length t) (suc (length u)) (omega arith) (omega arith))
 
--- ---- members
+-- ---- members and elements
+
+pub contents-list : (read : Reader) (t : Text) → contents read t ≡ list (member read) 0x7D t
+unfolding contents
+contents-list read t = refl
+
+pub elements-list : (read : Reader) (t : Text) → elements read t ≡ list (spelled read) 0x5D t
+unfolding elements
+elements-list read t = refl
 
 pub member-some : (read : Reader) (t : Text) {n r v u : Text} {name : Bytes} → byte 0x22 t ≡ some n → string n ≡ some (name, r) → colon r ≡ some v → read v ≡ some u
     → member read t ≡ some ((name, take (length v - length u) v), u)

@@ -2,7 +2,7 @@
 use mathlib.Core.Path.{_≡_, refl, sym, ap, _∙_, subst}
 use mathlib.Core.Bool.{Bool, true, false}
 use mathlib.Core.Option.{Option, none, some}
-use mathlib.Core.List.{List, [], _∷_, _++_}
+use mathlib.Core.List.{[], _∷_, _++_}
 use Prim.Native.Nat.{ℕ, zero, suc, _+_, _-_, _*_, _≤_}
 use native.Mathlib.Omega.{arith}
 use lib.Dec.{eqb}
@@ -10,7 +10,7 @@ use lib.ListN.{length}
 use Rattle.rules.specs.Bytes.{Bytes, ascii, _>>=_, guard, among}
 use Rattle.rules.specs.Json.Text.{Text, Reader, Taker, spelled, byte, byteIn, word}
 use Rattle.rules.specs.Json.Strings.{tails, leads, isPlain, multibyte, unescaped, hexDigit, hexDigits, codeUnit, Surrogate, high, low, neither, surrogate, paired, codePoint, utf8, shortEscape, escaped, char, chars, string}
-use Rattle.rules.proofs.Json.Suffix.{Beside, Reads, EachReads, EachTakes, reads-none, reads-byte, reads-after, reads-as, reads-made, reads-then, reads-least, some-same, never, by, bound, taken, answered-byte, answered-none, answered-after, answered-as}
+use Rattle.rules.proofs.Json.Suffix.{Reads, EachReads, EachTakes, reads-none, reads-byte, reads-after, reads-as, reads-made, reads-then, reads-least, some-same, never, by, bound, taken, answered-byte, answered-none, answered-after, answered-as}
 use Rattle.rules.proofs.Json.Bounds.{Within, EachWithin, within-reads, within-bound, within-taken, within-last, within-turn}
 use Rattle.rules.proofs.Json.TextReads.{byte-same, byte-other, byte-reads, byteIn-reads, word-reads, spelled-reads}
 

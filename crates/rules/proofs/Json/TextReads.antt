@@ -1,17 +1,17 @@
 -- White space, bytes, words and spelled texts, by what they pass (`Reads`).
 use mathlib.Core.Path.{_≡_, refl, sym, ap, _∙_, subst}
 use mathlib.Core.Bool.{Bool, true, false}
-use mathlib.Core.Option.{Option, none, some}
-use mathlib.Core.List.{List, [], _∷_, _++_, append-nil}
-use Prim.Native.Nat.{ℕ, zero, suc, _-_, _≤_}
+use mathlib.Core.Option.{none, some}
+use mathlib.Core.List.{[], _∷_, _++_}
+use Prim.Native.Nat.{ℕ, suc, _-_}
 use native.Mathlib.Omega.{arith}
 use borrow.Author.Tests.{eqb-true}
 use lib.Dec.{eqb}
 use lib.ListN.{length, take, length-append}
 use lib.Seq.{take-at}
-use Rattle.rules.specs.Bytes.{Bytes, _>>=_, among}
+use Rattle.rules.specs.Bytes.{Bytes, among}
 use Rattle.rules.specs.Json.Text.{Text, Reader, spelled, isWs, ws, byte, byteIn, word}
-use Rattle.rules.proofs.Json.Suffix.{Beside, Reads, EachReads, EachTakes, reads-length, reads-passed, reads-none, reads-end, reads-here, reads-after, reads-least, some-same, value-same, left-same, never, by, bound, taken, answered-byte, answered-none, answered-after}
+use Rattle.rules.proofs.Json.Suffix.{Reads, EachReads, EachTakes, reads-passed, reads-none, reads-end, reads-here, reads-after, reads-least, some-same, value-same, left-same, never, by, bound, taken, answered-byte, answered-none, answered-after}
 
 abbrev pub all : Text → Text
 all t = t

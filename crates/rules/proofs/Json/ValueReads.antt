@@ -1,9 +1,8 @@
 -- Containers and values, by what they pass (`Reads`), over any reader of their items that passes a byte or more.
 use mathlib.Core.Path.{_≡_, refl, sym, ap, _∙_, subst}
-use mathlib.Core.Bool.{Bool, true, false}
 use mathlib.Core.Option.{Option, none, some}
-use mathlib.Core.List.{List, [], _∷_, _++_}
-use Prim.Native.Nat.{ℕ, zero, suc, _+_, _≤_}
+use mathlib.Core.List.{List, [], _∷_}
+use Prim.Native.Nat.{ℕ, zero, suc, _≤_}
 use native.Mathlib.Omega.{arith}
 use lib.Dec.{eqb}
 use lib.ListN.{length}
@@ -12,9 +11,9 @@ use Rattle.rules.specs.Json.Text.{Text, Reader, Taker, behind, spelled, 
 use Rattle.rules.specs.Json.Numbers.{number}
 use Rattle.rules.specs.Json.Strings.{string}
 use Rattle.rules.specs.Json.Values.{Behind, closed, onward, neither, openedBy, opening, closedBy, closing, andThen, afterItem, items, itemsBehind, list, Member, colon, member, contents, elements, scalar, valueBy, value}
-use Rattle.rules.proofs.Json.Suffix.{Beside, Reads, EachReads, EachTakes, reads-none, reads-here, reads-byte, reads-after, reads-as, reads-made, reads-then, reads-least, some-same, never, by, bound, taken, answered-byte, answered-none, answered-after, answered-as}
+use Rattle.rules.proofs.Json.Suffix.{Reads, EachReads, EachTakes, reads-byte, reads-after, reads-made, reads-then, reads-least, some-same, never, by, bound, taken, answered-after, answered-as}
 use Rattle.rules.proofs.Json.Bounds.{Within, EachWithin, within-reads, within-bound, within-taken, within-last, within-turn}
-use Rattle.rules.proofs.Json.TextReads.{all, ws-reads, byte-same, byte-other, byte-reads, word-reads, spelled-reads}
+use Rattle.rules.proofs.Json.TextReads.{ws-reads, byte-reads, word-reads, spelled-reads}
 use Rattle.rules.proofs.Json.NumberReads.{number-reads}
 use Rattle.rules.proofs.Json.StringReads.{string-reads}
 
@@ -177,14 +176,14 @@ module _ {value : Reader} (each : EachReads 1 value) where
   named-reads m t r e = bound (string t) _ e (λ p f g.
       reads-then {both = named} (string-reads (p .0) t (p .1) f) (valued-reads (p .0) m (p .1) r g) (λ w x s. rw s))
 
-  pub member-reads : EachTakes 4 (member value)
+  pub member-reads : EachTakes 1 (member value)
   unfolding member named valued
   member-reads m t r e = bound (byte 0x22 t) named e (λ u f g.
-      reads-then {both = member value} (byte-reads 0x22 t u f) (named-reads m u r g) (λ w x s. rw (member, s)))
+      reads-least (omega arith) (reads-then {both = member value} (byte-reads 0x22 t u f) (named-reads m u r g) (λ w x s. rw (member, s))))
 
   pub contents-reads : EachTakes 1 (contents value)
   unfolding contents
-  contents-reads = list-reads (member value) 0x7D (λ m t r e. reads-least (omega arith) (member-reads m t r e))
+  contents-reads = list-reads (member value) 0x7D member-reads
 
   pub elements-reads : EachTakes 1 (elements value)
   unfolding elements
