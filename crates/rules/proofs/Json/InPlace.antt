@@ -17,7 +17,7 @@ use Rattle.rules.specs.Json.Strings.{string}
 use Rattle.rules.specs.Json.Values.{Member, contents, elements, scalar, value, objectOf, arrayOf}
 use Rattle.rules.specs.Json.Fields.{isNull, stringOf, boolOf}
 use Rattle.rules.proofs.Json.Suffix.{reads-fewer, by, answered-none}
-use Rattle.rules.proofs.Json.TextReads.{before, byte-other, spelled-left, spelled-text, word-text}
+use Rattle.rules.proofs.Json.TextReads.{before, ws-stop, byte-other, spelled-left, spelled-text, word-text}
 use Rattle.rules.proofs.Json.ValueReads.{value-reads}
 use Rattle.rules.proofs.Json.Steps.{value-object, value-array, value-scalar, scalar-string, scalar-false, scalar-null, scalar-true, objectOf-contents, objectOf-none, arrayOf-elements, arrayOf-none, alone-end}
 use Rattle.rules.proofs.Json.Shadows.{behind-some}
@@ -66,10 +66,9 @@ value-ws d b t e = ws-cases (λ c. value d (c ∷ t) ≡ none) b e
 
 -- so white space is not passed over in front of its text
 value-here : (d b : ℕ) (t y : Text) {r : Text} → value d (b ∷ t) ≡ some r → ws (b ∷ y) ≡ b ∷ y
-unfolding ws
 value-here d b t y e = by (isWs b)
     (λ p. answered-none e (value-ws d b t p))
-    (λ p. rw (ws, p))
+    (λ p. ws-stop b y p)
 
 -- ---- objects
 

@@ -3,6 +3,7 @@ use mathlib.Core.Path.{_≡_, refl, sym, ap, subst}
 use mathlib.Core.Bool.{Bool, true, false}
 use mathlib.Core.Option.{some}
 use mathlib.Core.List.{[], _∷_}
+use Prim.Native.Nat.{ℕ}
 use native.Mathlib.Omega.{arith}
 use lib.Dec.{eqb}
 use Rattle.rules.specs.Bytes.{_>>=_, first}
@@ -12,18 +13,22 @@ use Rattle.rules.specs.Json.Numbers.{digits, digits1, minus, int, frac, 
 use Rattle.rules.proofs.Json.Suffix.{Reads, EachReads, reads-end, reads-here, reads-byte, reads-after, reads-made, reads-then, reads-least, some-same, never, by, bound, answered-here, answered-byte, answered-none, answered-after, answered-as}
 use Rattle.rules.proofs.Json.TextReads.{all}
 
+pub digits-more : (b : ℕ) (t : Text) → isDigit b ≡ true → digits (b ∷ t) ≡ digits t
+unfolding digits
+digits-more b t e = rw (digits, e)
+
+pub digits-stop : (b : ℕ) (t : Text) → isDigit b ≡ false → digits (b ∷ t) ≡ b ∷ t
+unfolding digits
+digits-stop b t e = rw (digits, e)
+
 pub digits-reads : (t : Text) → Reads 0 digits all t (digits t)
 unfolding digits
 digits-reads [] = reads-end refl
 digits-reads (b ∷ t) = go (digits-reads t) (isDigit b) refl
   where
     go : Reads 0 digits all t (digits t) → (test : Bool) → isDigit b ≡ test → Reads 0 digits all (b ∷ t) (digits (b ∷ t))
-    go ih true e =
-        let f : (w : Text) → digits (b ∷ w) ≡ digits w = λ w. rw (digits, e) in
-        subst (Reads 0 digits all (b ∷ t)) (sym (f t)) (reads-least (omega arith) (reads-after f ih))
-    go ih false e =
-        let f : (w : Text) → digits (b ∷ w) ≡ b ∷ w = λ w. rw (digits, e) in
-        subst (Reads 0 digits all (b ∷ t)) (sym (f t)) (reads-here t refl f)
+    go ih true e = subst (Reads 0 digits all (b ∷ t)) (sym (digits-more b t e)) (reads-least (omega arith) (reads-after (λ w. digits-more b w e) ih))
+    go ih false e = subst (Reads 0 digits all (b ∷ t)) (sym (digits-stop b t e)) (reads-here t refl (λ w. digits-stop b w e))
 
 pub digits1-reads : EachReads 1 digits1
 unfolding digits1

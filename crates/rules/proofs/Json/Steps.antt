@@ -4,13 +4,13 @@ use mathlib.Core.Option.{Option, none, some}
 use mathlib.Core.List.{List, [], _∷_, _++_}
 use Prim.Native.Nat.{ℕ, zero, suc, _+_, _-_, _≤_}
 use native.Mathlib.Omega.{arith}
-use borrow.Author.Tests.{ne-eqb}
+use borrow.Author.Tests.{eq-eqb, ne-eqb}
 use lib.ListN.{length, take}
 use Rattle.rules.specs.Bytes.{Bytes, ascii, _>>=_, isEmpty}
 use Rattle.rules.specs.Json.Text.{Text, Reader, Taker, behind, spelled, ws, byte, word}
 use Rattle.rules.specs.Json.Numbers.{number}
 use Rattle.rules.specs.Json.Strings.{unescaped, escaped, utf8, char, chars, string}
-use Rattle.rules.specs.Json.Values.{closed, onward, neither, opening, closing, andThen, afterItem, items, itemsBehind, list, colon, member, contents, elements, scalar, valueBy, value, alone, objectOf, arrayOf}
+use Rattle.rules.specs.Json.Values.{closed, onward, neither, openedBy, opening, closedBy, closing, andThen, afterItem, items, itemsBehind, list, colon, member, contents, elements, scalar, valueBy, value, alone, objectOf, arrayOf}
 use Rattle.rules.proofs.Json.Suffix.{EachTakes, reads-fewer}
 use Rattle.rules.proofs.Json.StringReads.{char-reads, chars-char, chars-none, string-bound}
 use Rattle.rules.proofs.Json.ValueReads.{closing-onward, items-bound}
@@ -45,6 +45,45 @@ unfolding string
 string-char b t {r} {x} n e =
     let fewer : length r + 1 ≤ length (b ∷ t) = reads-fewer (char-reads x (b ∷ t) r e) in
     chars-char (length (b ∷ t)) b t (ne-eqb b 0x22 n) e ∙ ap (λ o. o >>= (λ p. some (x ++ p .0, p .1))) (sym (string-bound (length (b ∷ t)) r (omega arith)))
+
+-- ---- what stands behind the opening byte and behind an item, by the first byte that is no white space
+
+module _ (close : ℕ) (t : Text) where
+  pub opening-end : ws t ≡ [] → opening close t ≡ neither
+  unfolding opening openedBy
+  opening-end e = rw (opening, e)
+
+  pub opening-close : {u : Text} → ws t ≡ close ∷ u → opening close t ≡ closed u
+  unfolding opening openedBy
+  opening-close e = rw (opening, e, openedBy, eq-eqb close close refl)
+
+  pub opening-item : {b : ℕ} {u : Text} → ws t ≡ b ∷ u → (b ≡ close → ⊥) → opening close t ≡ onward (b ∷ u)
+  unfolding opening openedBy
+  opening-item {b} e n = rw (opening, e, openedBy, ne-eqb b close n)
+
+  pub closing-end : ws t ≡ [] → closing close t ≡ neither
+  unfolding closing closedBy
+  closing-end e = rw (closing, e)
+
+  pub closing-close : {u : Text} → ws t ≡ close ∷ u → closing close t ≡ closed u
+  unfolding closing closedBy
+  closing-close e = rw (closing, e, closedBy, eq-eqb close close refl)
+
+  pub closing-comma : {u : Text} → ws t ≡ 0x2C ∷ u → (0x2C ≡ close → ⊥) → closing close t ≡ onward (ws u)
+  unfolding closing closedBy
+  closing-comma e n = rw (closing, e, closedBy, ne-eqb 0x2C close n)
+
+  pub closing-other : {b : ℕ} {u : Text} → ws t ≡ b ∷ u → (b ≡ close → ⊥) → (b ≡ 0x2C → ⊥) → closing close t ≡ neither
+  unfolding closing closedBy
+  closing-other {b} e n m = rw (closing, e, closedBy, ne-eqb b close n, ne-eqb b 0x2C m)
+
+pub colon-some : (t : Text) {u : Text} → byte 0x3A (ws t) ≡ some u → colon t ≡ some (ws u)
+unfolding colon
+colon-some t e = rw (colon, e)
+
+pub colon-none : (t : Text) → byte 0x3A (ws t) ≡ none → colon t ≡ none
+unfolding colon
+colon-none t e = rw (colon, e)
 
 -- ---- items
 

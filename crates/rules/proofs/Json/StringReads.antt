@@ -16,12 +16,20 @@ use Rattle.rules.proofs.Json.TextReads.{byte-same, byte-other, byte-rea
 
 -- ---- unescaped
 
+pub tails-more : (n : ℕ) (t : Text) {r : Text} → byteIn 0x80 0xBF t ≡ some r → tails (suc n) t ≡ tails n r
+unfolding tails
+tails-more n t e = rw (tails, e)
+
+pub tails-none : (n : ℕ) (t : Text) → byteIn 0x80 0xBF t ≡ none → tails (suc n) t ≡ none
+unfolding tails
+tails-none n t e = rw (tails, e)
+
 pub tails-reads : (n : ℕ) → EachReads n (tails n)
 unfolding tails
 tails-reads zero t r e = subst (Reads 0 (tails zero) some t) (some-same e) (reads-none (λ w. refl))
 tails-reads (suc n) t r e =
     bound (byteIn 0x80 0xBF t) _ e (λ u p q.
-    reads-least (omega arith) (reads-then {both = tails (suc n)} (byteIn-reads 0x80 0xBF t u p) (tails-reads n u r q) (λ w x s. rw (tails, s))))
+    reads-least (omega arith) (reads-then {both = tails (suc n)} (byteIn-reads 0x80 0xBF t u p) (tails-reads n u r q) (λ w x s. tails-more n w s)))
 
 -- behind a first byte that leads as told
 led : Option (ℕ × ℕ × ℕ) → Reader
@@ -57,12 +65,20 @@ unescaped-reads (b ∷ t) r e = by (isPlain b)
 
 -- ---- escapes
 
+pub hexDigits-more : (n sofar b : ℕ) (t : Text) {d : ℕ} → hexDigit b ≡ some d → hexDigits (suc n) sofar (b ∷ t) ≡ hexDigits n (sofar * 16 + d) t
+unfolding hexDigits
+hexDigits-more n sofar b t e = rw (hexDigits, e)
+
+pub hexDigits-none : (n sofar b : ℕ) (t : Text) → hexDigit b ≡ none → hexDigits (suc n) sofar (b ∷ t) ≡ none
+unfolding hexDigits
+hexDigits-none n sofar b t e = rw (hexDigits, e)
+
 pub hexDigits-reads : (n sofar : ℕ) → EachTakes n (hexDigits n sofar)
 unfolding hexDigits
 hexDigits-reads zero sofar x t r e = taken e (reads-none (λ w. refl))
 hexDigits-reads (suc n) sofar x [] r e = never e
 hexDigits-reads (suc n) sofar x (b ∷ t) r e = bound (hexDigit b) _ e (λ d p q.
-    reads-after (λ w. rw (hexDigits, p)) (hexDigits-reads n (sofar * 16 + d) x t r q))
+    reads-after (λ w. hexDigits-more n sofar b w p) (hexDigits-reads n (sofar * 16 + d) x t r q))
 
 pub codeUnit-reads : EachTakes 4 codeUnit
 unfolding codeUnit

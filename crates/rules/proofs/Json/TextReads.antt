@@ -16,18 +16,26 @@ use Rattle.rules.proofs.Json.Suffix.{Reads, EachReads, EachTakes, reads
 abbrev pub all : Text → Text
 all t = t
 
+-- ---- white space
+
+pub ws-more : (b : ℕ) (t : Text) → isWs b ≡ true → ws (b ∷ t) ≡ ws t
+unfolding ws
+ws-more b t e = rw (ws, e)
+
+pub ws-stop : (b : ℕ) (t : Text) → isWs b ≡ false → ws (b ∷ t) ≡ b ∷ t
+unfolding ws
+ws-stop b t e = rw (ws, e)
+
 pub ws-reads : (t : Text) → Reads 0 ws all t (ws t)
 unfolding ws
 ws-reads [] = reads-end refl
 ws-reads (b ∷ t) = go (ws-reads t) (isWs b) refl
   where
     go : Reads 0 ws all t (ws t) → (test : Bool) → isWs b ≡ test → Reads 0 ws all (b ∷ t) (ws (b ∷ t))
-    go ih true e =
-        let f : (w : Text) → ws (b ∷ w) ≡ ws w = λ w. rw (ws, e) in
-        subst (Reads 0 ws all (b ∷ t)) (sym (f t)) (reads-least (omega arith) (reads-after f ih))
-    go ih false e =
-        let f : (w : Text) → ws (b ∷ w) ≡ b ∷ w = λ w. rw (ws, e) in
-        subst (Reads 0 ws all (b ∷ t)) (sym (f t)) (reads-here t refl f)
+    go ih true e = subst (Reads 0 ws all (b ∷ t)) (sym (ws-more b t e)) (reads-least (omega arith) (reads-after (λ w. ws-more b w e) ih))
+    go ih false e = subst (Reads 0 ws all (b ∷ t)) (sym (ws-stop b t e)) (reads-here t refl (λ w. ws-stop b w e))
+
+-- ---- bytes
 
 pub byte-same : (c b : ℕ) (t : Text) → eqb b c ≡ true → byte c (b ∷ t) ≡ some t
 unfolding byte
@@ -51,6 +59,16 @@ byteIn-reads lo hi (b ∷ t) r e = by (among lo hi b)
     (λ p. answered-byte e (λ w. rw (byteIn, p)))
     (λ p. answered-none e (rw (byteIn, p)))
 
+-- ---- words
+
+pub word-more : (c : ℕ) (w : Bytes) (b : ℕ) (t : Text) → eqb b c ≡ true → word (c ∷ w) (b ∷ t) ≡ word w t
+unfolding word
+word-more c w b t e = rw (word, e)
+
+pub word-other : (c : ℕ) (w : Bytes) (b : ℕ) (t : Text) → eqb b c ≡ false → word (c ∷ w) (b ∷ t) ≡ none
+unfolding word
+word-other c w b t e = rw (word, e)
+
 pub word-reads : (w : Bytes) → EachReads (length w) (word w)
 unfolding word
 word-reads [] t r e = subst (Reads 0 (word []) some t) (some-same e) (reads-none (λ v. refl))
@@ -58,8 +76,8 @@ word-reads (c ∷ w) [] r e = never e
 word-reads (c ∷ w) (b ∷ t) r e = go (word-reads w t r) (eqb b c) refl
   where
     go : (word w t ≡ some r → Reads (length w) (word w) some t r) → (test : Bool) → eqb b c ≡ test → Reads (suc (length w)) (word (c ∷ w)) some (b ∷ t) r
-    go ih true p = answered-after e (λ u. rw (word, p)) ih
-    go ih false p = answered-none e (rw (word, p))
+    go ih true p = answered-after e (λ u. word-more c w b u p) ih
+    go ih false p = answered-none e (word-other c w b t p)
 
 -- a word is passed byte for byte
 pub word-text : (w t r : Text) → word w t ≡ some r → t ≡ w ++ r
@@ -70,11 +88,10 @@ word-text (c ∷ w) (b ∷ t) r e = go (word-text w t r) (eqb b c) refl
   where
     go : (word w t ≡ some r → t ≡ w ++ r) → (test : Bool) → eqb b c ≡ test → b ∷ t ≡ c ∷ (w ++ r)
     go ih true p =
-        let f : word (c ∷ w) (b ∷ t) ≡ word w t = rw (word, p) in
         let same-byte : b ≡ c = eqb-true b c p in
-        let same-rest : t ≡ w ++ r = ih (sym f ∙ e) in
+        let same-rest : t ≡ w ++ r = ih (sym (word-more c w b t p) ∙ e) in
         cc
-    go ih false p = answered-none e (rw (word, p))
+    go ih false p = answered-none e (word-other c w b t p)
 
 -- ---- what is spelled
 
