@@ -1,16 +1,17 @@
 -- Fields by name: what stands under a name in a list that grows, and what a field is by the number of times that it stands there.
 use mathlib.Core.Path.{_≡_, refl, ap, _∙_}
 use mathlib.Core.Bool.{Bool, true, false}
-use mathlib.Core.Option.{none, some}
+use mathlib.Core.Option.{Option, none, some}
 use mathlib.Core.List.{List, [], _∷_, _++_, append-nil}
 use Prim.Native.Nat.{_≤_}
 use Prim.Native.String.{String}
 use native.Mathlib.Omega.{arith}
 use lib.ListN.{length}
-use Rattle.rules.specs.Bytes.{Bytes, ascii, same, isEmpty}
+use Rattle.rules.specs.Bytes.{Bytes, ascii, _>>=_, same, isEmpty}
 use Rattle.rules.specs.Json.Text.{Text}
 use Rattle.rules.specs.Json.Values.{Member}
-use Rattle.rules.specs.Json.Fields.{under, sole, once, isNull, soleOrNone, optional, absent}
+use Rattle.rules.specs.Json.Fields.{under, sole, once, isNull, soleOrNone, optional, absent, stringOf, stringOrNull, strings}
+use Rattle.rules.proofs.Json.Suffix.{some-same, bound}
 
 -- ---- under a name
 
@@ -93,3 +94,37 @@ module _ (name : String) (ms : List Member) where
   pub absent-there : {v : Text} {vs : List Text} → under (ascii name) ms ≡ v ∷ vs → absent name ms ≡ false
   unfolding absent isEmpty
   absent-there e = rw (absent, e)
+
+-- ---- a string or null, and lists of strings
+
+module _ (v : Text) where
+  pub stringOrNull-null : isNull v ≡ true → stringOrNull v ≡ some none
+  unfolding stringOrNull
+  stringOrNull-null n = rw (stringOrNull, n)
+
+  pub stringOrNull-there : {s : Bytes} → isNull v ≡ false → stringOf v ≡ some s → stringOrNull v ≡ some (some s)
+  unfolding stringOrNull
+  stringOrNull-there n e = rw (stringOrNull, n, e)
+
+  pub stringOrNull-none : isNull v ≡ false → stringOf v ≡ none → stringOrNull v ≡ none
+  unfolding stringOrNull
+  stringOrNull-none n e = rw (stringOrNull, n, e)
+
+-- one string more at the end
+pub strings-last : (vs : List Text) (v : Text) {ss : List Bytes} {s : Bytes} → strings vs ≡ some ss → stringOf v ≡ some s → strings (vs ++ (v ∷ [])) ≡ some (ss ++ (s ∷ []))
+unfolding strings
+strings-last [] v {ss} {s} e f = rw (f, ← some-same e)
+strings-last (w ∷ vs) v {ss} {s} e f =
+    bound (stringOf w) _ e (λ x g h.
+    bound (strings vs) _ h (λ xs i j.
+    rw (g, strings-last vs v i f) (ap (λ (l : List Bytes). some (l ++ (s ∷ []))) (some-same j))))
+
+-- one value that is none
+pub strings-none : (vs : List Text) (v : Text) (ws : List Text) → stringOf v ≡ none → strings (vs ++ (v ∷ ws)) ≡ none
+unfolding strings
+strings-none [] v ws f = rw f
+strings-none (w ∷ vs) v ws f = go (strings-none vs v ws f) (stringOf w)
+  where
+    go : strings (vs ++ (v ∷ ws)) ≡ none → (o : Option Bytes) → (o >>= (λ s. strings (vs ++ (v ∷ ws)) >>= (λ ss. some (s ∷ ss)))) ≡ none
+    go ih none = refl
+    go ih (some s) = rw ih

@@ -79,7 +79,7 @@ objectOf-alone d ms t r e = objectOf-contents d (0x7B ∷ before t r) refl ∙ a
 pub object-text : (d : ℕ) (t x r : Text) → spelled (value (suc d)) (0x7B ∷ t) ≡ some (x, r)
     → (ms : List Member) × (contents (value d) t ≡ some (ms, r)) × (objectOf d x ≡ some ms)
 object-text d t x r e =
-    let (ms, f) = behind-some (contents (value d) t) (sym (value-object d t) ∙ spelled-left (value (suc d)) (0x7B ∷ t) e) in
+    let (ms, f) = behind-some (contents (value d) t) (sym (value-object (suc d) d t refl) ∙ spelled-left (value (suc d)) (0x7B ∷ t) e) in
     (ms, f, ap (objectOf d) (value-text (suc d) 0x7B t x r e) ∙ objectOf-alone d ms t r f)
 
 pub objectOf-other : (c d b : ℕ) (t x r : Text) → (b ≡ 0x7B → ⊥) → spelled (value d) (b ∷ t) ≡ some (x, r) → objectOf c x ≡ none
@@ -95,7 +95,7 @@ arrayOf-alone d vs t r e = arrayOf-elements d (0x5B ∷ before t r) refl ∙ alo
 pub array-text : (d : ℕ) (t x r : Text) → spelled (value (suc d)) (0x5B ∷ t) ≡ some (x, r)
     → (vs : List Text) × (elements (value d) t ≡ some (vs, r)) × (arrayOf d x ≡ some vs)
 array-text d t x r e =
-    let (vs, f) = behind-some (elements (value d) t) (sym (value-array d t) ∙ spelled-left (value (suc d)) (0x5B ∷ t) e) in
+    let (vs, f) = behind-some (elements (value d) t) (sym (value-array (suc d) d t refl) ∙ spelled-left (value (suc d)) (0x5B ∷ t) e) in
     (vs, f, ap (arrayOf d) (value-text (suc d) 0x5B t x r e) ∙ arrayOf-alone d vs t r f)
 
 pub arrayOf-other : (c d b : ℕ) (t x r : Text) → (b ≡ 0x5B → ⊥) → spelled (value d) (b ∷ t) ≡ some (x, r) → arrayOf c x ≡ none

@@ -147,22 +147,23 @@ unfolding value valueBy
 value-end zero = refl
 value-end (suc d) = refl
 
-pub value-object : (d : ℕ) (t : Text) → value (suc d) (0x7B ∷ t) ≡ behind (contents (value d) t)
+-- one deeper, c deep inside
+pub value-object : (d c : ℕ) (t : Text) → d ≡ suc c → value d (0x7B ∷ t) ≡ behind (contents (value c) t)
 unfolding value valueBy
-value-object d t = refl
+value-object d c t e = ap (λ (n : ℕ). value n (0x7B ∷ t)) e
 
-pub value-array : (d : ℕ) (t : Text) → value (suc d) (0x5B ∷ t) ≡ behind (elements (value d) t)
+pub value-array : (d c : ℕ) (t : Text) → d ≡ suc c → value d (0x5B ∷ t) ≡ behind (elements (value c) t)
 unfolding value valueBy
-value-array d t = refl
+value-array d c t e = ap (λ (n : ℕ). value n (0x5B ∷ t)) e
 
 -- no deeper
-pub value-no-object : (t : Text) → value zero (0x7B ∷ t) ≡ none
+pub value-no-object : (d : ℕ) (t : Text) → d ≡ 0 → value d (0x7B ∷ t) ≡ none
 unfolding value valueBy
-value-no-object t = refl
+value-no-object d t e = ap (λ (n : ℕ). value n (0x7B ∷ t)) e
 
-pub value-no-array : (t : Text) → value zero (0x5B ∷ t) ≡ none
+pub value-no-array : (d : ℕ) (t : Text) → d ≡ 0 → value d (0x5B ∷ t) ≡ none
 unfolding value valueBy
-value-no-array t = refl
+value-no-array d t e = ap (λ (n : ℕ). value n (0x5B ∷ t)) e
 
 pub value-scalar : (d b : ℕ) (t : Text) → (b ≡ 0x7B → ⊥) → (b ≡ 0x5B → ⊥) → value d (b ∷ t) ≡ scalar (b ∷ t)
 unfolding value valueBy
