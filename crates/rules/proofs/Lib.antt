@@ -7,8 +7,9 @@ pub mod Holding
 pub mod Ascending
 pub mod Live
 pub mod Searching
-pub mod Replaying
+pub mod Json
 pub mod Lines
+pub mod Replaying
 pub mod Sameness
 pub mod Agreement
 pub mod TotalOrders

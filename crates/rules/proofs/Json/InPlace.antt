@@ -1,0 +1,169 @@
+-- The text of a value, by its first byte: what the paper asks of the text is answered in its place, so that code reads it once.
+use mathlib.Core.Path.{_≡_, refl, sym, ap, _∙_, subst}
+use mathlib.Core.Bool.{true, false, true≢false}
+use mathlib.Core.Option.{none, some}
+use mathlib.Core.List.{List, _∷_, _++_}
+use Prim.Native.Nat.{ℕ, suc, _+_, _-_, _≤_}
+use native.Mathlib.Omega.{arith}
+use borrow.Author.Tests.{eqb-true, ne-eqb}
+use lib.Dec.{eqb}
+use lib.ListN.{length, take, length-append}
+use lib.Seq.{take-at}
+use Rattle.rules.specs.Bytes.{Bytes, ascii, first, among, same, isEmpty}
+use Rattle.rules.specs.Numbers.{isDigit}
+use Rattle.rules.specs.Json.Text.{Text, behind, spelled, isWs, ws, byte, word}
+use Rattle.rules.specs.Json.Numbers.{digits1, minus, int, number, whole}
+use Rattle.rules.specs.Json.Strings.{string}
+use Rattle.rules.specs.Json.Values.{Member, contents, elements, scalar, value, objectOf, arrayOf}
+use Rattle.rules.specs.Json.Fields.{isNull, stringOf, boolOf}
+use Rattle.rules.proofs.Json.Suffix.{reads-fewer, by, answered-none}
+use Rattle.rules.proofs.Json.TextReads.{before, ws-stop, byte-other, spelled-left, spelled-text, word-text}
+use Rattle.rules.proofs.Json.ValueReads.{value-reads}
+use Rattle.rules.proofs.Json.Steps.{value-object, value-array, value-scalar, scalar-string, scalar-false, scalar-null, scalar-true, objectOf-contents, objectOf-none, arrayOf-elements, arrayOf-none, alone-end}
+use Rattle.rules.proofs.Json.Shadows.{behind-some}
+use Rattle.rules.proofs.Json.Local.{contents-alone, elements-alone, string-alone}
+
+-- ---- the text of a value begins as the value does
+
+before-cons : (b : ℕ) (t r : Text) → length r ≤ length t → before (b ∷ t) r ≡ b ∷ before t r
+before-cons b t r h = ap (λ (n : ℕ). take n (b ∷ t)) n
+  where
+    n : suc (length t) - length r ≡ suc (length t - length r)
+    n = omega arith
+
+before-append : (w r : Text) → before (w ++ r) r ≡ w
+before-append w r = take-at w r _ n
+  where
+    n : length w ≡ length (w ++ r) - length r
+    n = omega (arith, length-append w r)
+
+module _ (d b : ℕ) (t x r : Text) (e : spelled (value d) (b ∷ t) ≡ some (x, r)) where
+  pub value-text : x ≡ b ∷ before t r
+  value-text =
+      let fewer : length r + 1 ≤ length (b ∷ t) = reads-fewer (value-reads d (b ∷ t) r (spelled-left (value d) (b ∷ t) e)) in
+      spelled-text (value d) (b ∷ t) e ∙ before-cons b t r (omega arith)
+
+-- ---- no value begins with white space
+
+ws-cases : (P : ℕ → Type 0) (b : ℕ) → isWs b ≡ true → P 0x20 → P 0x09 → P 0x0A → P 0x0D → P b
+unfolding isWs first
+ws-cases P b e p q r s =
+    by (eqb b 0x20) (λ h. subst P (sym (eqb-true b 0x20 h)) p) (λ h.
+    by (eqb b 0x09) (λ i. subst P (sym (eqb-true b 0x09 i)) q) (λ i.
+    by (eqb b 0x0A) (λ j. subst P (sym (eqb-true b 0x0A j)) r) (λ j.
+    by (eqb b 0x0D) (λ k. subst P (sym (eqb-true b 0x0D k)) s) (λ k.
+    let z : isWs b ≡ false = rw (isWs, h, i, j, k) in
+    let c : _≡_ {A = ℕ} 0 1 = cc (e, z) in
+    absurd (omega arith)))))
+
+pub value-ws : (d b : ℕ) (t : Text) → isWs b ≡ true → value d (b ∷ t) ≡ none
+unfolding scalar number minus int digits1 isDigit among
+value-ws d b t e = ws-cases (λ c. value d (c ∷ t) ≡ none) b e
+    (value-scalar d 0x20 t (λ h. omega arith) (λ h. omega arith))
+    (value-scalar d 0x09 t (λ h. omega arith) (λ h. omega arith))
+    (value-scalar d 0x0A t (λ h. omega arith) (λ h. omega arith))
+    (value-scalar d 0x0D t (λ h. omega arith) (λ h. omega arith))
+
+-- so white space is not passed over in front of its text
+value-here : (d b : ℕ) (t y : Text) {r : Text} → value d (b ∷ t) ≡ some r → ws (b ∷ y) ≡ b ∷ y
+value-here d b t y e = by (isWs b)
+    (λ p. answered-none e (value-ws d b t p))
+    (λ p. ws-stop b y p)
+
+-- ---- objects
+
+pub objectOf-alone : (d : ℕ) (ms : List Member) (t r : Text) → contents (value d) t ≡ some (ms, r) → objectOf d (0x7B ∷ before t r) ≡ some ms
+unfolding ws isWs first byte
+objectOf-alone d ms t r e = objectOf-contents d (0x7B ∷ before t r) refl ∙ alone-end (contents-alone d ms t r e) refl
+
+pub object-text : (d : ℕ) (t x r : Text) → spelled (value (suc d)) (0x7B ∷ t) ≡ some (x, r)
+    → (ms : List Member) × (contents (value d) t ≡ some (ms, r)) × (objectOf d x ≡ some ms)
+object-text d t x r e =
+    let (ms, f) = behind-some (contents (value d) t) (sym (value-object (suc d) d t refl) ∙ spelled-left (value (suc d)) (0x7B ∷ t) e) in
+    (ms, f, ap (objectOf d) (value-text (suc d) 0x7B t x r e) ∙ objectOf-alone d ms t r f)
+
+pub objectOf-other : (c d b : ℕ) (t x r : Text) → (b ≡ 0x7B → ⊥) → spelled (value d) (b ∷ t) ≡ some (x, r) → objectOf c x ≡ none
+objectOf-other c d b t x r n e = ap (objectOf c) (value-text d b t x r e) ∙ objectOf-none c (b ∷ before t r)
+    (ap (byte 0x7B) (value-here d b t (before t r) (spelled-left (value d) (b ∷ t) e)) ∙ byte-other 0x7B b (before t r) (ne-eqb b 0x7B n))
+
+-- ---- arrays
+
+pub arrayOf-alone : (d : ℕ) (vs : List Text) (t r : Text) → elements (value d) t ≡ some (vs, r) → arrayOf d (0x5B ∷ before t r) ≡ some vs
+unfolding ws isWs first byte
+arrayOf-alone d vs t r e = arrayOf-elements d (0x5B ∷ before t r) refl ∙ alone-end (elements-alone d vs t r e) refl
+
+pub array-text : (d : ℕ) (t x r : Text) → spelled (value (suc d)) (0x5B ∷ t) ≡ some (x, r)
+    → (vs : List Text) × (elements (value d) t ≡ some (vs, r)) × (arrayOf d x ≡ some vs)
+array-text d t x r e =
+    let (vs, f) = behind-some (elements (value d) t) (sym (value-array (suc d) d t refl) ∙ spelled-left (value (suc d)) (0x5B ∷ t) e) in
+    (vs, f, ap (arrayOf d) (value-text (suc d) 0x5B t x r e) ∙ arrayOf-alone d vs t r f)
+
+pub arrayOf-other : (c d b : ℕ) (t x r : Text) → (b ≡ 0x5B → ⊥) → spelled (value d) (b ∷ t) ≡ some (x, r) → arrayOf c x ≡ none
+arrayOf-other c d b t x r n e = ap (arrayOf c) (value-text d b t x r e) ∙ arrayOf-none c (b ∷ before t r)
+    (ap (byte 0x5B) (value-here d b t (before t r) (spelled-left (value d) (b ∷ t) e)) ∙ byte-other 0x5B b (before t r) (ne-eqb b 0x5B n))
+
+-- ---- strings
+
+pub stringOf-alone : (s : Bytes) (t r : Text) → string t ≡ some (s, r) → stringOf (0x22 ∷ before t r) ≡ some s
+unfolding stringOf byte isEmpty
+stringOf-alone s t r e = rw (string-alone s t r e)
+
+pub stringOf-other : (b : ℕ) (y : Text) → (b ≡ 0x22 → ⊥) → stringOf (b ∷ y) ≡ none
+unfolding stringOf
+stringOf-other b y n = rw (byte-other 0x22 b y (ne-eqb b 0x22 n))
+
+pub string-text : (d : ℕ) (t x r : Text) → spelled (value d) (0x22 ∷ t) ≡ some (x, r)
+    → (s : Bytes) × (string t ≡ some (s, r)) × (stringOf x ≡ some s)
+string-text d t x r e =
+    let left : behind (string t) ≡ some r = sym (value-scalar d 0x22 t (λ h. omega arith) (λ h. omega arith) ∙ scalar-string t) ∙ spelled-left (value d) (0x22 ∷ t) e in
+    let (s, f) = behind-some (string t) left in
+    (s, f, ap stringOf (value-text d 0x22 t x r e) ∙ stringOf-alone s t r f)
+
+-- ---- null, true and false
+
+constant-text : (d b : ℕ) (w t x r : Text) → value d (b ∷ t) ≡ word w t → spelled (value d) (b ∷ t) ≡ some (x, r) → x ≡ b ∷ w
+constant-text d b w t x r f e = value-text d b t x r e
+    ∙ ap (λ (u : Text). b ∷ before u r) (word-text w t r (sym f ∙ spelled-left (value d) (b ∷ t) e)) ∙ ap (λ (u : Text). b ∷ u) (before-append w r)
+
+pub null-text : (d : ℕ) (t x r : Text) → spelled (value d) (0x6E ∷ t) ≡ some (x, r) → x ≡ ascii "null"
+unfolding ascii
+null-text d t x r e = constant-text d 0x6E (ascii "ull") t x r (value-scalar d 0x6E t (λ h. omega arith) (λ h. omega arith) ∙ scalar-null t) e
+
+pub true-text : (d : ℕ) (t x r : Text) → spelled (value d) (0x74 ∷ t) ≡ some (x, r) → x ≡ ascii "true"
+unfolding ascii
+true-text d t x r e = constant-text d 0x74 (ascii "rue") t x r (value-scalar d 0x74 t (λ h. omega arith) (λ h. omega arith) ∙ scalar-true t) e
+
+pub false-text : (d : ℕ) (t x r : Text) → spelled (value d) (0x66 ∷ t) ≡ some (x, r) → x ≡ ascii "false"
+unfolding ascii
+false-text d t x r e = constant-text d 0x66 (ascii "alse") t x r (value-scalar d 0x66 t (λ h. omega arith) (λ h. omega arith) ∙ scalar-false t) e
+
+pub isNull-null : isNull (ascii "null") ≡ true
+unfolding isNull same ascii
+isNull-null = refl
+
+pub isNull-other : (b : ℕ) (y : Text) → (b ≡ 0x6E → ⊥) → isNull (b ∷ y) ≡ false
+unfolding isNull same ascii
+isNull-other b y n = rw (isNull, same, ne-eqb b 0x6E n)
+
+pub boolOf-true : boolOf (ascii "true") ≡ some true
+unfolding boolOf same ascii first
+boolOf-true = refl
+
+pub boolOf-false : boolOf (ascii "false") ≡ some false
+unfolding boolOf same ascii first
+boolOf-false = refl
+
+pub boolOf-other : (b : ℕ) (y : Text) → (b ≡ 0x74 → ⊥) → (b ≡ 0x66 → ⊥) → boolOf (b ∷ y) ≡ none
+unfolding boolOf same ascii first
+boolOf-other b y m n = rw (boolOf, same, ne-eqb b 0x74 m, ne-eqb b 0x66 n)
+
+-- ---- whole numbers
+
+pub whole-other : (b : ℕ) (y : Text) → isDigit b ≡ false → whole (b ∷ y) ≡ none
+unfolding whole int digits1 isDigit among
+whole-other b y n = rw stop
+  where
+    stop : int (b ∷ y) ≡ none
+    stop = by (eqb b 0x30)
+        (λ p. let z : isDigit 0x30 ≡ false = subst (λ (c : ℕ). isDigit c ≡ false) (eqb-true b 0x30 p) n in absurd (true≢false z))
+        (λ p. rw (int, p, digits1, n))

@@ -1,0 +1,133 @@
+-- What a reader leaves, without what it read: a recogniser is the shadow of the taker, step by step.
+use mathlib.Core.Path.{_≡_, refl, sym, ap, _∙_}
+use mathlib.Core.Option.{Option, none, some}
+use mathlib.Core.List.{List, _∷_, _++_}
+use Prim.Native.Nat.{ℕ, suc, _-_}
+use borrow.Author.Tests.{ne-eqb}
+use lib.ListN.{length, take}
+use Rattle.rules.specs.Bytes.{Bytes, _>>=_}
+use Rattle.rules.specs.Json.Text.{Text, Reader, Taker, behind, spelled, byte}
+use Rattle.rules.specs.Json.Strings.{unescaped, escaped, utf8, char, chars, string}
+use Rattle.rules.specs.Json.Values.{Behind, closed, onward, neither, opening, closing, andThen, afterItem, items, list, Member, colon, member}
+use Rattle.rules.proofs.Json.Suffix.{EachTakes, some-same, never}
+use Rattle.rules.proofs.Json.StringReads.{chars-char}
+use Rattle.rules.proofs.Json.Steps.{char-escape, char-plain, string-none, string-char, rest, list-closed, list-onward, list-neither, rest-none, rest-closed, rest-neither, rest-onward}
+
+-- what is left behind an item
+abbrev pub ahead : Behind → (others : Reader) → Option Text
+ahead (closed u) others = some u
+ahead (onward u) others = others u
+ahead neither others = none
+
+-- ---- a shadow, and what casts it
+
+module _ {A : Type 0} where
+  pub behind-some : (o : Option (A × Text)) {r : Text} → behind o ≡ some r → (x : A) × (o ≡ some (x, r))
+  behind-some none e = never e
+  behind-some (some p) e = (p .0, ap (λ (u : Text). some (p .0, u)) (some-same e))
+
+  pub behind-none : (o : Option (A × Text)) → behind o ≡ none → o ≡ none
+  behind-none none e = refl
+  behind-none (some p) e = never (sym e)
+
+  -- something else made of what was read
+  pub behind-made : {B : Type 0} (f : A → B) (o : Option (A × Text)) → behind (o >>= (λ p. some (f (p .0), p .1))) ≡ behind o
+  behind-made f none = refl
+  behind-made f (some p) = refl
+
+  pub behind-andThen : (x : A) (o : Option (List A × Text)) → behind (andThen x o) ≡ behind o
+  unfolding andThen
+  behind-andThen x none = refl
+  behind-andThen x (some p) = refl
+
+  pub behind-afterItem : (x : A) (c : Behind) (others : Taker (List A)) → behind (afterItem x c others) ≡ ahead c (λ u. behind (others u))
+  unfolding afterItem
+  behind-afterItem x (closed u) others = refl
+  behind-afterItem x (onward u) others = behind-andThen x (others u)
+  behind-afterItem x neither others = refl
+
+  -- a turn of the loop over items, whatever its bound
+  pub behind-items : (item : Taker A) (close n : ℕ) (t : Text)
+      → behind (items item close (suc n) t) ≡ (behind (item t) >>= (λ r. ahead (closing close r) (λ u. behind (items item close n u))))
+  unfolding items
+  behind-items item close n t = go (item t)
+    where
+      go : (o : Option (A × Text)) → behind (o >>= (λ p. afterItem (p .0) (closing close (p .1)) (λ u. items item close n u)))
+          ≡ (behind o >>= (λ r. ahead (closing close r) (λ u. behind (items item close n u))))
+      go none = refl
+      go (some p) = behind-afterItem (p .0) (closing close (p .1)) (λ u. items item close n u)
+
+pub behind-spelled : (read : Reader) (t : Text) → behind (spelled read t) ≡ read t
+unfolding spelled
+behind-spelled read t = go (read t)
+  where
+    go : (o : Option Text) → behind (o >>= (λ r. some (take (length t - length r) t, r))) ≡ o
+    go none = refl
+    go (some r) = refl
+
+-- ---- strings
+
+pub behind-escape : (t : Text) → behind (char (0x5C ∷ t)) ≡ behind (escaped t)
+behind-escape t = ap behind (char-escape t) ∙ behind-made utf8 (escaped t)
+
+pub behind-plain : (b : ℕ) (t : Text) → (b ≡ 0x5C → ⊥) → behind (char (b ∷ t)) ≡ unescaped (b ∷ t)
+behind-plain b t n = ap behind (char-plain b t n) ∙ behind-spelled unescaped (b ∷ t)
+
+pub behind-string-none : (b : ℕ) (t : Text) → (b ≡ 0x22 → ⊥) → behind (char (b ∷ t)) ≡ none → behind (string (b ∷ t)) ≡ none
+behind-string-none b t n e = ap behind (string-none b t n (behind-none (char (b ∷ t)) e))
+
+pub behind-string-char : (b : ℕ) (t : Text) {r : Text} → (b ≡ 0x22 → ⊥) → behind (char (b ∷ t)) ≡ some r → behind (string (b ∷ t)) ≡ behind (string r)
+behind-string-char b t {r} n e =
+    let (x, f) = behind-some (char (b ∷ t)) e in
+    ap behind (string-char b t n f) ∙ behind-made (λ (xs : Bytes). x ++ xs) (string r)
+
+-- the same of the loop over characters, whatever its bound
+pub behind-chars-char : (n b : ℕ) (t : Text) {r : Text} → (b ≡ 0x22 → ⊥) → behind (char (b ∷ t)) ≡ some r → behind (chars (suc n) (b ∷ t)) ≡ behind (chars n r)
+behind-chars-char n b t {r} h e =
+    let (x, f) = behind-some (char (b ∷ t)) e in
+    ap behind (chars-char n b t (ne-eqb b 0x22 h) f) ∙ behind-made (λ (xs : Bytes). x ++ xs) (chars n r)
+
+-- ---- containers, with no bound
+
+module _ {A : Type 0} (item : Taker A) (close : ℕ) (t : Text) where
+  pub behind-list-closed : {u : Text} → opening close t ≡ closed u → behind (list item close t) ≡ some u
+  behind-list-closed e = ap behind (list-closed item close t e)
+
+  pub behind-list-onward : {u : Text} → opening close t ≡ onward u → behind (list item close t) ≡ behind (rest item close u)
+  behind-list-onward e = ap behind (list-onward item close t e)
+
+  pub behind-list-neither : opening close t ≡ neither → behind (list item close t) ≡ none
+  behind-list-neither e = ap behind (list-neither item close t e)
+
+  pub behind-rest-none : behind (item t) ≡ none → behind (rest item close t) ≡ none
+  behind-rest-none e = ap behind (rest-none item close t (behind-none (item t) e))
+
+  module _ {r : Text} (e : behind (item t) ≡ some r) where
+    pub behind-rest-closed : {u : Text} → closing close r ≡ closed u → behind (rest item close t) ≡ some u
+    behind-rest-closed f = ap behind (rest-closed item close t (behind-some (item t) e .1) f)
+
+    pub behind-rest-neither : closing close r ≡ neither → behind (rest item close t) ≡ none
+    behind-rest-neither f = ap behind (rest-neither item close t (behind-some (item t) e .1) f)
+
+    pub behind-rest-onward : EachTakes 1 item → {u : Text} → closing close r ≡ onward u → behind (rest item close t) ≡ behind (rest item close u)
+    behind-rest-onward each {u} f =
+        let (x, g) = behind-some (item t) e in
+        ap behind (rest-onward item close t g each f) ∙ behind-andThen x (rest item close u)
+
+-- ---- members
+
+pub behind-member : (value : Reader) (t : Text) → behind (member value t) ≡ (byte 0x22 t >>= (λ n. behind (string n) >>= (λ r. colon r >>= value)))
+unfolding member
+behind-member value t = one (byte 0x22 t)
+  where
+    four : (name : Bytes) (v : Text) → behind {A = Member} (spelled value v >>= (λ p. some ((name, p .0), p .1))) ≡ value v
+    four name v = behind-made (λ (x : Text). (name, x)) (spelled value v) ∙ behind-spelled value v
+    three : (name : Bytes) (o : Option Text) → behind {A = Member} (o >>= (λ v. spelled value v >>= (λ p. some ((name, p .0), p .1)))) ≡ (o >>= value)
+    three name none = refl
+    three name (some v) = four name v
+    two : (o : Option (Bytes × Text)) → behind {A = Member} (o >>= (λ s. colon (s .1) >>= (λ v. spelled value v >>= (λ p. some ((s .0, p .0), p .1))))) ≡ (behind o >>= (λ r. colon r >>= value))
+    two none = refl
+    two (some s) = three (s .0) (colon (s .1))
+    one : (o : Option Text) → behind {A = Member} (o >>= (λ n. string n >>= (λ s. colon (s .1) >>= (λ v. spelled value v >>= (λ p. some ((s .0, p .0), p .1)))))) ≡ (o >>= (λ n. behind (string n) >>= (λ r. colon r >>= value)))
+    one none = refl
+    one (some n) = two (string n)
