@@ -1,3 +1,4 @@
 -- The shared laws.
 pub mod Lists
 pub mod Parts
+pub mod Moves
