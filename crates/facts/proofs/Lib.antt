@@ -2,3 +2,4 @@
 pub mod Lists
 pub mod Parts
 pub mod Moves
+pub mod Rows
