@@ -3,3 +3,4 @@ pub mod Lists
 pub mod Parts
 pub mod Moves
 pub mod Rows
+pub mod Tables

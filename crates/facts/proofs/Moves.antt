@@ -1,5 +1,5 @@
 -- Laws of writing over a list in place: what stays as it was, what a turn of a loop does, what the loop ends with.
-use mathlib.Core.Path.{_≡_, sym, ap, _∙_}
+use mathlib.Core.Path.{_≡_, sym, _∙_}
 use Prim.Native.Nat.{ℕ, suc, _+_, _-_, _≤_, _<_}
 use native.Mathlib.Nat.{add-zero, sub-zero}
 use native.Mathlib.Omega.{arith}
@@ -31,12 +31,15 @@ module _ {A : Type 0} (at : ℕ) (vs t : List A) (h : at + length vs ≤ length 
       drop-later (at + length vs) n (putAt at vs t) t l
       (drop-past (take at t) (vs ++ rest) at (length vs) (length-take-le at t (omega arith)) ∙ drop-append-seam vs rest)
 
+  pub drop-putAt-at : drop at (putAt at vs t) ≡ vs ++ drop (at + length vs) t
+  unfolding putAt
+  drop-putAt-at = drop-at (take at t) (vs ++ drop (at + length vs) t) at (length-take-le at t (omega arith))
+
   pub part-putAt : part (putAt at vs t) at (at + length vs) ≡ vs
-  unfolding putAt part
+  unfolding part
   part-putAt =
-      let rest : List A = drop (at + length vs) t in
       let e : at + length vs - at ≡ length vs = omega arith in
-      rw (e, drop-at (take at t) (vs ++ rest) at (length-take-le at t (omega arith)), take-append-seam vs rest)
+      rw (e, drop-putAt-at) (take-append-seam vs (drop (at + length vs) t))
 
 module _ {A : Type 0} (at : ℕ) (vs t : List A) where
   -- one element more, behind those that are written
@@ -91,13 +94,13 @@ module _ {A : Type 0} (at : ℕ) (us vs t : List A) (h : at + length us + length
       )
       (append-assoc (take at t) us (vs ++ rest))
 
+pub putAt-one : {A : Type 0} (at : ℕ) (v : A) (t : List A) → at < length t → putAt at (v ∷ []) t ≡ set t at v
+putAt-one at v t h = sym (rw (add-zero, putAt-none at t) at (putAt-snoc at [] t v (omega arith)))
+
 -- elements stored one by one, the first at `at`, the next at `at + 1`: a row's fields in the order of its numbers
 pub putAt-stores : {A : Type 0} (at : ℕ) (v : A) (vs t : List A) → at + suc (length vs) ≤ length t → stores (set t at v) at 1 vs ≡ putAt at (v ∷ vs) t
 unfolding stores
-putAt-stores {A} at v vs t h =
-    let e : set t at v ≡ putAt at (v ∷ []) t =
-    sym (ap (λ (l : List A). set l (at + 0) v) (putAt-none at t) ∙ rw add-zero) ∙ putAt-snoc at [] t v (omega arith) in
-    rw e (go (v ∷ []) vs (omega arith))
+putAt-stores {A} at v vs t h = rw (← putAt-one at v t (omega arith)) (go (v ∷ []) vs (omega arith))
   where
     go : (us vs : List A) → at + length us + length vs ≤ length t → stores (putAt at us t) at (length us) vs ≡ putAt at (us ++ vs) t
     go us [] l = rw append-nil

@@ -86,13 +86,16 @@ module _ {A : Type 0} where
   part-snoc s a b d h l =
       rw (part-split s a b (b + 1) h (omega arith), part-cons s b (b + 1) d (omega arith) (omega arith), part-none s (b + 1) (b + 1) (omega arith))
 
-  -- the whole list around it
-  pub part-between : (s : List A) (a b : ℕ) → a ≤ b → s ≡ take a s ++ (part s a b ++ drop b s)
+  -- the list behind it, and around it
+  pub part-rest : (s : List A) (a b : ℕ) → a ≤ b → part s a b ++ drop b s ≡ drop a s
   unfolding part
-  part-between s a b h =
+  part-rest s a b h =
       let e : b ≡ a + (b - a) = omega arith in
       let f : drop b s ≡ drop (b - a) (drop a s) = ap (λ (n : ℕ). drop n s) e ∙ sym (drop-drop (b - a) a s) in
-      sym (rw (f, take-append-drop (b - a) (drop a s), take-append-drop a s))
+      rw f (take-append-drop (b - a) (drop a s))
+
+  pub part-between : (s : List A) (a b : ℕ) → a ≤ b → s ≡ take a s ++ (part s a b ++ drop b s)
+  part-between s a b h = rw (part-rest s a b h) (sym (take-append-drop a s))
 
   -- ---- lists that agree there
 
