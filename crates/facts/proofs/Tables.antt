@@ -5,13 +5,13 @@ use Prim.Native.Nat.{ℕ, _+_, _-_, _*_, _≤_, _<_}
 use native.Mathlib.Nat.{suc-mul, add-mul, add-sub-of-le}
 use native.Mathlib.Numerals.{add-one}
 use native.Mathlib.Omega.{arith}
-use mathlib.Core.List.{List, [], _∷_, _++_, append-assoc, append-nil}
+use mathlib.Core.List.{List, [], _∷_, _++_, map, map-append, append-assoc, append-nil}
 use lib.ListN.{length, take, drop, set, replicate, length-drop, drop-of-length-le}
 use Rattle.facts.specs.Parts.{part}
 use Rattle.facts.specs.Rows.{flat, rowsOf, Layout, insertAt, removeAt}
 use Rattle.facts.specs.Moves.{putAt, movedUp, movedDown, zeroed}
 use Rattle.facts.proofs.Parts.{slice-part, part-rest}
-use Rattle.facts.proofs.Rows.{flat-append, length-flat, length-rowsOf, take-rowsOf, drop-rowsOf, flat-rowsOf, rowsOf-flat, rowsOf-same}
+use Rattle.facts.proofs.Rows.{flat-append, length-flat, length-rowsOf, take-rowsOf, drop-rowsOf, rowsOf-snoc, flat-rowsOf, rowsOf-flat, rowsOf-same}
 use Rattle.facts.proofs.Moves.{length-putAt, take-putAt, drop-putAt, putAt-one, putAt-movedUp, length-movedDown, drop-movedDown, take-zeroed, zeroed-whole}
 
 pub mul-one-more : (n w : ℕ) → (n + 1) * w ≡ n * w + w
@@ -156,6 +156,22 @@ module _ {A : Type 0} {w : ℕ} {cells : A → List ℕ} {row : List ℕ → A} 
       pub length-close : length (putAt (k * w + (n - 1 - k) * w) vs (movedDown (k * w) ((n - 1 - k) * w) w t)) ≡ length t
       length-close =
           length-putAt (k * w + (n - 1 - k) * w) vs (movedDown (k * w) ((n - 1 - k) * w) w t) (omega (arith, length-remove, remove-end, remove-room)) ∙ length-remove
+
+  -- ---- a pass over the rows in place: the first k became f of what they were, the others are as they were
+
+  -- one row more, when t becomes u
+  pub rowsOf-pass : (f : A → A) (k : ℕ) (t₀ t u : List ℕ) → k * w ≤ length t → rowsOf w row k t ≡ map f (rowsOf w row k t₀) → drop (k * w) t ≡ drop (k * w) t₀
+      → take (k * w) u ≡ take (k * w) t → row (drop (k * w) u) ≡ f (row (drop (k * w) t)) → rowsOf w row (k + 1) u ≡ map f (rowsOf w row (k + 1) t₀)
+  rowsOf-pass f k t₀ t u l done rest same e =
+      rw (
+        rowsOf-snoc w row k u,
+        rowsOf-snoc w row k t₀,
+        map-append f (rowsOf w row k t₀) (row (drop (k * w) t₀) ∷ []),
+        ← done,
+        ← rest,
+        ← rowsOf-same L k t u l (sym same),
+        e,
+      )
 
   -- ---- zeros behind the rows
 
