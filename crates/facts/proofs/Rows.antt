@@ -109,6 +109,10 @@ module _ {A : Type 0} {w : ℕ} {cells : A → List ℕ} {row : List ℕ → A} 
   rowsOf-same n t u h e =
       sym (rw (flat-rowsOf n t h, e, take-append-drop (n * w) u) at (rowsOf-flat (rowsOf w row n t) (drop (n * w) u) n (length-rowsOf w row n t)))
 
+  -- and numbers by their rows
+  pub take-same : (n : ℕ) (t u : List ℕ) → n * w ≤ length t → n * w ≤ length u → rowsOf w row n t ≡ rowsOf w row n u → take (n * w) t ≡ take (n * w) u
+  take-same n t u h l e = rw (← flat-rowsOf n t h, ← flat-rowsOf n u l, e)
+
 -- ---- a row that goes in or out
 
 module _ {A : Type 0} (k : ℕ) (r : A) (l : List A) where

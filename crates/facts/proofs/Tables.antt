@@ -39,6 +39,13 @@ module _ {A : Type 0} {w : ℕ} {cells : A → List ℕ} {row : List ℕ → A} 
   pub flat-part : (n a b : ℕ) (t : List ℕ) → a ≤ b → b ≤ n → n * w ≤ length t → flat cells (part (rowsOf w row n t) a b) ≡ part t (a * w) (b * w)
   flat-part n a b t h k l = rw (← slice-part (rowsOf w row n t) a b, take-rowsOf w row b n t k) (flat-drop b a t h (omega (arith, mul-split w k)))
 
+  -- tables with the same rows from row j on, and the same behind them, have the same numbers there
+  pub drop-same : (n j : ℕ) (t u : List ℕ) → j ≤ n → n * w ≤ length t → n * w ≤ length u
+      → drop j (rowsOf w row n t) ≡ drop j (rowsOf w row n u) → drop (n * w) t ≡ drop (n * w) u → drop (j * w) t ≡ drop (j * w) u
+  drop-same n j t u h l m e f =
+      let k : j * w ≤ n * w = omega (arith, mul-split w h) in
+      rw (← part-rest t (j * w) (n * w) k, ← part-rest u (j * w) (n * w) k, ← flat-drop n j t h l, ← flat-drop n j u h m, e, f)
+
   -- rows written over the numbers, from row k on
   pub putAt-flat : (n k : ℕ) (rs : List A) (t : List ℕ) → k + length rs ≤ n → n * w ≤ length t
       → putAt (k * w) (flat cells rs) t ≡ flat cells (putAt k rs (rowsOf w row n t)) ++ drop (n * w) t
