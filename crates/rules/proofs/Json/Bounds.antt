@@ -20,10 +20,11 @@ pub record Within {O : Type 0} (read : ℕ → Text → O) (answer : Text → O)
 pub within-reads : {O : Type 0} {read : ℕ → Text → O} {answer : Text → O} {t r : Text} → Within read answer t r
     → Reads 1 (λ u. read (suc (length u)) u) answer t r
 within-reads h = record {
-    passed = h .passed;
-    split = h .split;
-    enough = h .enough;
-    again = λ v k. h .again (suc (length (h .passed ++ v))) (omega (arith, length-append (h .passed) v)) v k }
+  passed = h .passed;
+  split = h .split;
+  enough = h .enough;
+  again = λ v k. h .again (suc (length (h .passed ++ v))) (omega (arith, length-append (h .passed) v)) v k;
+}
 
 abbrev pub EachWithin : {A : Type 0} → (ℕ → Taker A) → Type 0
 EachWithin {A} read = (n : ℕ) (x : A) (t r : Text) → read n t ≡ some (x, r) → Within read (λ v. some (x, v)) t r
@@ -64,10 +65,11 @@ module _ {O P : Type 0} {read : ℕ → Text → P} {result : Text → P} {first
   pub within-turn : {rest : Text → P} {u : Text} → Within read rest r u
       → ((n : ℕ) (w s v : Text) → first w ≡ answer s → read n s ≡ rest v → read (suc n) w ≡ result v) → Within read result t u
   within-turn {rest} {u} k f = record {
-      passed = h .passed ++ k .passed;
-      split = h .split ∙ ap (λ (x : Text). h .passed ++ x) (k .split) ∙ sym (append-assoc (h .passed) (k .passed) u);
-      enough = omega (arith, h .enough, length-append (h .passed) (k .passed));
-      again = go }
+    passed = h .passed ++ k .passed;
+    split = h .split ∙ ap (λ (x : Text). h .passed ++ x) (k .split) ∙ sym (append-assoc (h .passed) (k .passed) u);
+    enough = omega (arith, h .enough, length-append (h .passed) (k .passed));
+    again = go;
+  }
     where
       go : (n : ℕ) → length (h .passed ++ k .passed) ≤ n → (v : Text) → Beside u v → read n ((h .passed ++ k .passed) ++ v) ≡ result v
       go zero l v j = absurd (omega (arith, h .enough, l, length-append (h .passed) (k .passed)))
@@ -75,4 +77,4 @@ module _ {O P : Type 0} {read : ℕ → Text → P} {result : Text → P} {first
           let behind-it : Beside r (k .passed ++ v) = subst (λ (x : Text). Beside x (k .passed ++ v)) (sym (k .split)) (beside-append (k .passed) j) in
           let fewer : length (k .passed) ≤ n = omega (arith, h .enough, l, length-append (h .passed) (k .passed)) in
           ap (read (suc n)) (append-assoc (h .passed) (k .passed) v)
-            ∙ f n (h .passed ++ (k .passed ++ v)) (k .passed ++ v) v (h .again (k .passed ++ v) behind-it) (k .again n fewer v j)
+          ∙ f n (h .passed ++ (k .passed ++ v)) (k .passed ++ v) v (h .again (k .passed ++ v) behind-it) (k .again n fewer v j)

@@ -42,9 +42,9 @@ unfolding minus
 minus-reads [] = reads-end refl
 minus-reads (b ∷ t) = by (eqb b 0x2D)
     (λ p. let f : (w : Text) → minus (b ∷ w) ≡ w = λ w. rw (minus, p) in
-      subst (Reads 0 minus all (b ∷ t)) (sym (f t)) (reads-least (omega arith) (reads-byte t f)))
+    subst (Reads 0 minus all (b ∷ t)) (sym (f t)) (reads-least (omega arith) (reads-byte t f)))
     (λ p. let f : (w : Text) → minus (b ∷ w) ≡ b ∷ w = λ w. rw (minus, p) in
-      subst (Reads 0 minus all (b ∷ t)) (sym (f t)) (reads-here t refl f))
+    subst (Reads 0 minus all (b ∷ t)) (sym (f t)) (reads-here t refl f))
 
 pub int-reads : EachReads 1 int
 unfolding int
@@ -66,9 +66,9 @@ sign-reads [] = reads-end refl
 sign-reads (b ∷ t) = by (eqb b 0x2D)
     (λ p. past (λ w. rw (sign, p)))
     (λ p. by (eqb b 0x2B)
-      (λ q. past (λ w. rw (sign, p, q)))
-      (λ q. let f : (w : Text) → sign (b ∷ w) ≡ b ∷ w = λ w. rw (sign, p, q) in
-        subst (Reads 0 sign all (b ∷ t)) (sym (f t)) (reads-here t refl f)))
+    (λ q. past (λ w. rw (sign, p, q)))
+    (λ q. let f : (w : Text) → sign (b ∷ w) ≡ b ∷ w = λ w. rw (sign, p, q) in
+    subst (Reads 0 sign all (b ∷ t)) (sym (f t)) (reads-here t refl f)))
   where
     past : ((w : Text) → sign (b ∷ w) ≡ w) → Reads 0 sign all (b ∷ t) (sign (b ∷ t))
     past f = subst (Reads 0 sign all (b ∷ t)) (sym (f t)) (reads-least (omega arith) (reads-byte t f))
@@ -83,8 +83,8 @@ exp-reads [] r e = subst (Reads 0 exp some []) (some-same e) (reads-end refl)
 exp-reads (b ∷ t) r e = by (eqb b 0x65)
     (λ p. past (λ w. rw (exp, p)))
     (λ p. by (eqb b 0x45)
-      (λ q. past (λ w. rw (exp, p, q)))
-      (λ q. answered-here e refl (λ w. rw (exp, p, q))))
+    (λ q. past (λ w. rw (exp, p, q)))
+    (λ q. answered-here e refl (λ w. rw (exp, p, q))))
   where
     past : ((w : Text) → exp (b ∷ w) ≡ digits1 (sign w)) → Reads 0 exp some (b ∷ t) r
     past f = reads-least (omega arith) (answered-after {other = λ w. digits1 (sign w)} e f (power-reads t r))

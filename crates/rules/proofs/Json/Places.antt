@@ -31,7 +31,8 @@ reads-place s i h k =
       at = i + length (k .passed);
       left = reads-left k ∙ drop-drop (length (k .passed)) i s;
       from = omega (arith, k .enough);
-      within = omega (arith, n, length-drop i s) }
+      within = omega (arith, n, length-drop i s);
+    }
 
 -- ---- between two positions
 
@@ -87,7 +88,9 @@ module _ (s : Text) (i j : ℕ) (h : i + 1 ≤ j) (k : j ≤ length s) where
     where
       inner : Text
       inner = take (j - (i + 1)) (drop (i + 1) s)
+
       fits : j - (i + 1) ≤ length (drop (i + 1) s)
       fits = simp length-drop (omega arith)
+
       n : suc (length inner) - 2 ≡ j - i - 2
       n = omega (arith, length-take-le (j - (i + 1)) (drop (i + 1) s) fits)

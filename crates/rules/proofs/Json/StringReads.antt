@@ -97,15 +97,15 @@ paired-reads high u x t r e =
     bound (codeUnit t1) _ h1 (λ p e2 h2.
     bound (guard (among 0xDC00 0xDFFF (p .0))) _ h2 (λ _ e3 h3.
     taken h3 (reads-least (omega arith) (reads-then {both = paired high u} {next = lowUnit u} (word-reads (ascii "\\u") t t1 e1)
-      (reads-made (λ w v s. rw (lowUnit, s, e3)) (codeUnit-reads (p .0) t1 (p .1) e2))
-      (λ w v s. rw (paired, s)))))))
+    (reads-made (λ w v s. rw (lowUnit, s, e3)) (codeUnit-reads (p .0) t1 (p .1) e2))
+    (λ w v s. rw (paired, s)))))))
 
 pub codePoint-reads : EachTakes 4 codePoint
 unfolding codePoint
 codePoint-reads x t r e =
     bound (codeUnit t) _ e (λ p e1 h1.
     reads-least (omega arith) (reads-then {both = codePoint} (codeUnit-reads (p .0) t (p .1) e1) (paired-reads (surrogate (p .0)) (p .0) x (p .1) r h1)
-      (λ w v s. rw (codePoint, s))))
+    (λ w v s. rw (codePoint, s))))
 
 pub escaped-reads : EachTakes 1 escaped
 unfolding escaped
@@ -113,7 +113,7 @@ escaped-reads x [] r e = never e
 escaped-reads x (b ∷ t) r e = by (eqb b 0x75)
     (λ p. reads-least (omega arith) (answered-after {other = codePoint} e (λ w. rw (escaped, p)) (codePoint-reads x t r)))
     (λ p. let f : (w : Text) → escaped (b ∷ w) ≡ (shortEscape b >>= (λ c. some (c, w))) = λ w. rw (escaped, p) in
-      bound (shortEscape b) (λ c. some (c, t)) (sym (f t) ∙ e) (λ c q h. taken h (reads-byte t (λ w. rw (f w, q)))))
+    bound (shortEscape b) (λ c. some (c, t)) (sym (f t) ∙ e) (λ c q h. taken h (reads-byte t (λ w. rw (f w, q)))))
 
 -- ---- strings
 
@@ -178,13 +178,13 @@ chars-within (suc n) xs [] r e = never e
 chars-within (suc n) xs (b ∷ t) r e = go (chars-within n) (eqb b 0x22) refl (char (b ∷ t)) refl
   where
     go : ((y : Bytes) (w u : Text) → chars n w ≡ some (y, u) → Within chars (λ v. some (y, v)) w u)
-       → (test : Bool) → eqb b 0x22 ≡ test → (o : Option (Bytes × Text)) → char (b ∷ t) ≡ o → Within chars (λ v. some (xs, v)) (b ∷ t) r
+        → (test : Bool) → eqb b 0x22 ≡ test → (o : Option (Bytes × Text)) → char (b ∷ t) ≡ o → Within chars (λ v. some (xs, v)) (b ∷ t) r
     go ih true p o f = within-taken (sym (chars-quote n b t p) ∙ e)
         (within-last (byte-reads 0x22 (b ∷ t) t (byte-same 0x22 b t p)) quote-turn)
     go ih false p none f = answered-none e (chars-none n b t p f)
     go ih false p (some c) f = bound (chars n (c .1)) _ (sym (chars-char n b t p f) ∙ e) (λ q h k.
         within-taken k (within-turn (reads-as (inner-char b p) (char-reads (c .0) (b ∷ t) (c .1) f)) (ih (q .0) (c .1) (q .1) h)
-          (λ m w s v g i. inner-turn m w s v (c .0) (q .0) g i)))
+        (λ m w s v g i. inner-turn m w s v (c .0) (q .0) g i)))
 
 pub string-reads : EachTakes 1 string
 unfolding string

@@ -92,10 +92,11 @@ module _ {O : Type 0} {read answer : Text → O} where
   pub reads-after : {least b : ℕ} {other : Text → O} {t r : Text} → ((w : Text) → read (b ∷ w) ≡ other w)
       → Reads least other answer t r → Reads (suc least) read answer (b ∷ t) r
   reads-after {b = b} f h = record {
-      passed = b ∷ h .passed;
-      split = ap (λ (x : Text). b ∷ x) (h .split);
-      enough = omega (arith, h .enough);
-      again = λ v k. f (h .passed ++ v) ∙ h .again v k }
+    passed = b ∷ h .passed;
+    split = ap (λ (x : Text). b ∷ x) (h .split);
+    enough = omega (arith, h .enough);
+    again = λ v k. f (h .passed ++ v) ∙ h .again v k;
+  }
 
   -- another reader reads the byte and more
   pub reads-as : {least b : ℕ} {other : Text → O} {t r : Text} → ((w : Text) → read (b ∷ w) ≡ other (b ∷ w))
@@ -120,10 +121,11 @@ module _ {O P : Type 0} {least : ℕ} {read answer : Text → O} {t r : Text} wh
   pub reads-then : {more : ℕ} {both next result : Text → P} {u : Text} → Reads least read answer t r → Reads more next result r u
       → ((w x : Text) → read w ≡ answer x → both w ≡ next x) → Reads (least + more) both result t u
   reads-then {both = both} {result = result} {u} h k f = record {
-      passed = h .passed ++ k .passed;
-      split = h .split ∙ ap (λ (x : Text). h .passed ++ x) (k .split) ∙ sym (append-assoc (h .passed) (k .passed) u);
-      enough = omega (arith, h .enough, k .enough, length-append (h .passed) (k .passed));
-      again = λ v j. ap both (append-assoc (h .passed) (k .passed) v) ∙ f _ _ (h .again (k .passed ++ v) (subst (λ (x : Text). Beside x (k .passed ++ v)) (sym (k .split)) (beside-append (k .passed) j))) ∙ k .again v j }
+    passed = h .passed ++ k .passed;
+    split = h .split ∙ ap (λ (x : Text). h .passed ++ x) (k .split) ∙ sym (append-assoc (h .passed) (k .passed) u);
+    enough = omega (arith, h .enough, k .enough, length-append (h .passed) (k .passed));
+    again = λ v j. ap both (append-assoc (h .passed) (k .passed) v) ∙ f _ _ (h .again (k .passed ++ v) (subst (λ (x : Text). Beside x (k .passed ++ v)) (sym (k .split)) (beside-append (k .passed) j))) ∙ k .again v j;
+  }
 
 pub reads-least : {O : Type 0} {least most : ℕ} {read answer : Text → O} {t r : Text} → least ≤ most → Reads most read answer t r → Reads least read answer t r
 reads-least n h = record { passed = h .passed; split = h .split; enough = omega (arith, h .enough); again = h .again }

@@ -131,4 +131,5 @@ module _ {read : Reader} {least : ℕ} (each : EachReads least read) where
         passed = h .passed;
         split = h .split;
         enough = h .enough;
-        again = λ v k. spelled-of read (h .passed) v (h .again v k) }))
+        again = λ v k. spelled-of read (h .passed) v (h .again v k);
+      }))

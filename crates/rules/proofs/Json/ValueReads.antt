@@ -47,7 +47,7 @@ module _ (close : ℕ) where
   openedBy-closed [] r e = neither-closed e
   openedBy-closed (b ∷ t) r e = by (eqb b close)
       (λ p. let f : (w : Text) → openedBy close (b ∷ w) ≡ closed w = λ w. rw (openedBy, p) in
-        subst (Reads 1 (openedBy close) closed (b ∷ t)) (closed-same (sym (f t) ∙ e)) (reads-byte t f))
+      subst (Reads 1 (openedBy close) closed (b ∷ t)) (closed-same (sym (f t) ∙ e)) (reads-byte t f))
       (λ p. let f : openedBy close (b ∷ t) ≡ onward (b ∷ t) = rw (openedBy, p) in clash (sym e ∙ f))
 
   pub opening-closed : (t r : Text) → opening close t ≡ closed r → Reads 1 (opening close) closed t r
@@ -59,10 +59,10 @@ module _ (close : ℕ) where
   closedBy-closed [] r e = neither-closed e
   closedBy-closed (b ∷ t) r e = by (eqb b close)
       (λ p. let f : (w : Text) → closedBy close (b ∷ w) ≡ closed w = λ w. rw (closedBy, p) in
-        subst (Reads 1 (closedBy close) closed (b ∷ t)) (closed-same (sym (f t) ∙ e)) (reads-byte t f))
+      subst (Reads 1 (closedBy close) closed (b ∷ t)) (closed-same (sym (f t) ∙ e)) (reads-byte t f))
       (λ p. by (eqb b 0x2C)
-        (λ q. let f : closedBy close (b ∷ t) ≡ onward (ws t) = rw (closedBy, p, q) in clash (sym e ∙ f))
-        (λ q. let f : closedBy close (b ∷ t) ≡ neither = rw (closedBy, p, q) in neither-closed (sym f ∙ e)))
+      (λ q. let f : closedBy close (b ∷ t) ≡ onward (ws t) = rw (closedBy, p, q) in clash (sym e ∙ f))
+      (λ q. let f : closedBy close (b ∷ t) ≡ neither = rw (closedBy, p, q) in neither-closed (sym f ∙ e)))
 
   pub closing-closed : (t r : Text) → closing close t ≡ closed r → Reads 1 (closing close) closed t r
   unfolding closing
@@ -74,9 +74,9 @@ module _ (close : ℕ) where
   closedBy-onward (b ∷ t) r e = by (eqb b close)
       (λ p. let f : closedBy close (b ∷ t) ≡ closed t = rw (closedBy, p) in clash (sym f ∙ e))
       (λ p. by (eqb b 0x2C)
-        (λ q. let f : (w : Text) → closedBy close (b ∷ w) ≡ onward (ws w) = λ w. rw (closedBy, p, q) in
-          subst (Reads 1 (closedBy close) onward (b ∷ t)) (onward-same (sym (f t) ∙ e)) (reads-after f (reads-made (λ w v s. ap onward s) (ws-reads t))))
-        (λ q. let f : closedBy close (b ∷ t) ≡ neither = rw (closedBy, p, q) in neither-onward (sym f ∙ e)))
+      (λ q. let f : (w : Text) → closedBy close (b ∷ w) ≡ onward (ws w) = λ w. rw (closedBy, p, q) in
+      subst (Reads 1 (closedBy close) onward (b ∷ t)) (onward-same (sym (f t) ∙ e)) (reads-after f (reads-made (λ w v s. ap onward s) (ws-reads t))))
+      (λ q. let f : closedBy close (b ∷ t) ≡ neither = rw (closedBy, p, q) in neither-onward (sym f ∙ e)))
 
   pub closing-onward : (t r : Text) → closing close t ≡ onward r → Reads 1 (closing close) onward t r
   unfolding closing
@@ -116,8 +116,8 @@ module _ {A : Type 0} (item : Taker A) (close : ℕ) where
     items-within (suc n) xs t r e = bound (item t) _ e (λ p f g. go (items-within n) p f (closing close (p .1)) refl g)
       where
         go : ((ys : List A) (w u : Text) → items item close n w ≡ some (ys, u) → Within (items item close) (λ v. some (ys, v)) w u)
-           → (p : A × Text) → item t ≡ some p → (c : Behind) → closing close (p .1) ≡ c → afterItem (p .0) c (λ u. items item close n u) ≡ some (xs, r)
-           → Within (items item close) (λ v. some (xs, v)) t r
+            → (p : A × Text) → item t ≡ some p → (c : Behind) → closing close (p .1) ≡ c → afterItem (p .0) c (λ u. items item close n u) ≡ some (xs, r)
+            → Within (items item close) (λ v. some (xs, v)) t r
         go ih p f (closed u) h g = within-taken g
             (within-last (itemThen-reads closed (p .0) t (p .1) u f (closing-closed close (p .1) u h)) (λ m w v s. items-turn m w (p .0) (closed v) s))
         go ih p f (onward u) h g = one (items item close n u) refl g
@@ -126,7 +126,7 @@ module _ {A : Type 0} (item : Taker A) (close : ℕ) where
             one none i k = never k
             one (some q) i k = within-taken k
                 (within-turn (itemThen-reads onward (p .0) t (p .1) u f (closing-onward close (p .1) u h)) (ih (q .0) u (q .1) i)
-                  (λ m w s v a b. items-turn m w (p .0) (onward s) a ∙ ap (andThen (p .0)) b))
+                (λ m w s v a b. items-turn m w (p .0) (onward s) a ∙ ap (andThen (p .0)) b))
         go ih p f neither h g = never g
 
     -- items, with any bound from the number of bytes on
@@ -138,9 +138,9 @@ module _ {A : Type 0} (item : Taker A) (close : ℕ) where
     listBy-reads xs [] r e = never e
     listBy-reads xs (b ∷ t) r e = by (eqb b close)
         (λ p. let f : (w : Text) → itemsBehind item close (openedBy close (b ∷ w)) ≡ some ([], w) = λ w. rw (openedBy, p) in
-          taken (sym (f t) ∙ e) (reads-byte t f))
+        taken (sym (f t) ∙ e) (reads-byte t f))
         (λ p. answered-as {other = λ u. items item close (suc (length u)) u} e (λ w. rw (openedBy, p))
-          (λ q. within-reads (items-within (suc (length (b ∷ t))) xs (b ∷ t) r q)))
+        (λ q. within-reads (items-within (suc (length (b ∷ t))) xs (b ∷ t) r q)))
 
     pub list-reads : EachTakes 1 (list item close)
     unfolding list opening
@@ -152,7 +152,7 @@ pub colon-reads : EachReads 1 colon
 unfolding colon
 colon-reads t r e = bound (byte 0x3A (ws t)) _ e (λ u f g.
     subst (Reads 1 colon some t) (some-same g) (reads-then {both = colon} (reads-then {both = λ w. byte 0x3A (ws w)} (ws-reads t) (byte-reads 0x3A (ws t) u f) (λ w x s. ap (byte 0x3A) s))
-      (reads-made {made = λ w. some (ws w)} (λ w v s. ap some s) (ws-reads u)) (λ w x s. rw (colon, s))))
+    (reads-made {made = λ w. some (ws w)} (λ w v s. ap some s) (ws-reads u)) (λ w x s. rw (colon, s))))
 
 module _ {value : Reader} (each : EachReads 1 value) where
   -- a member behind its name
@@ -165,7 +165,7 @@ module _ {value : Reader} (each : EachReads 1 value) where
       bound (colon t) _ e (λ v f g.
       bound (spelled value v) _ g (λ p h k.
       taken k (reads-then {both = valued name} (colon-reads t v f)
-        (reads-made {made = λ w. spelled value w >>= (λ p. some ((name, p .0), p .1))} (λ w u s. rw s) (spelled-reads each (p .0) v (p .1) h)) (λ w x s. rw s))))
+      (reads-made {made = λ w. spelled value w >>= (λ p. some ((name, p .0), p .1))} (λ w u s. rw s) (spelled-reads each (p .0) v (p .1) h)) (λ w x s. rw s))))
 
   -- a member behind its quote
   named : Taker Member
