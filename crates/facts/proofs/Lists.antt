@@ -194,3 +194,8 @@ pub All-map : {A B : Type 0} (P : B → Type 0) (f : A → B) (xs : List A) → 
 unfolding All
 All-map P f [] p = tt
 All-map P f (x ∷ xs) p = (p .0, All-map P f xs (p .1))
+
+pub map-All : {A B : Type 0} (P : B → Type 0) (f : A → B) (xs : List A) → All P (map f xs) → All (λ (x : A). P (f x)) xs
+unfolding All
+map-All P f [] p = tt
+map-All P f (x ∷ xs) p = (p .0, map-All P f xs (p .1))

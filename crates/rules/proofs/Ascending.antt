@@ -5,28 +5,11 @@ use mathlib.Core.List.{List, [], _∷_, map}
 use Prim.Native.Nat.{ℕ, zero, suc, _<_, zero-le, suc-le-suc}
 use native.Mathlib.Nat.{le-of-suc-le-suc, not-suc-le-zero}
 use lib.ListN.{length, getD}
+use Rattle.facts.specs.Lists.{All}
+use Rattle.facts.proofs.Lists.{All-at, All-weaken, All-map, map-All}
 use Rattle.rules.specs.Bytes.{Bytes, less, order, holds, distinct}
 use Rattle.rules.proofs.Order.{order-trans, order-less-ne}
 use Rattle.rules.proofs.Holding.{holds-past, distinct-cons}
-
--- ---- what holds of every one of a list
-
-abbrev pub Every : {A : Type 0} → (A → Type 0) → List A → Type 0
-Every P [] = Unit {0}
-Every P (x ∷ xs) = P x × Every P xs
-
-pub every-map : {A : Type 0} {P Q : A → Type 0} → ((x : A) → P x → Q x) → (xs : List A) → Every P xs → Every Q xs
-every-map f [] h = tt
-every-map f (x ∷ xs) h = (f x (h .0), every-map f xs (h .1))
-
-pub every-at : {A : Type 0} (P : A → Type 0) (xs : List A) → Every P xs → (j : ℕ) (d : A) → j < length xs → P (getD xs j d)
-every-at P [] h j d l = absurd (not-suc-le-zero l)
-every-at P (x ∷ xs) h zero d l = h .0
-every-at P (x ∷ xs) h (suc j) d l = every-at P xs (h .1) j d (le-of-suc-le-suc l)
-
-pub every-of : {A : Type 0} (P : A → Type 0) (xs : List A) (d : A) → ((j : ℕ) → j < length xs → P (getD xs j d)) → Every P xs
-every-of P [] d h = tt
-every-of P (x ∷ xs) d h = (h zero (suc-le-suc zero-le), every-of P xs d (λ j l. h (suc j) (suc-le-suc l)))
 
 -- ---- ascending keys
 
@@ -36,27 +19,29 @@ module _ {A : Type 0} (key : A → Bytes) where
 
   abbrev pub Ascends : List A → Type 0
   Ascends [] = Unit {0}
-  Ascends (x ∷ xs) = Every (Below x) xs × Ascends xs
+  Ascends (x ∷ xs) = All (Below x) xs × Ascends xs
 
   pub ascends-at : (xs : List A) → Ascends xs → (i j : ℕ) (d : A) → i < j → j < length xs → Below (getD xs i d) (getD xs j d)
   ascends-at [] s i j d l m = absurd (not-suc-le-zero m)
   ascends-at (x ∷ xs) s i zero d l m = absurd (not-suc-le-zero l)
-  ascends-at (x ∷ xs) s zero (suc j) d l m = every-at (Below x) xs (s .0) j d (le-of-suc-le-suc m)
+  ascends-at (x ∷ xs) s zero (suc j) d l m = All-at (Below x) xs j d (le-of-suc-le-suc m) (s .0)
   ascends-at (x ∷ xs) s (suc i) (suc j) d l m = ascends-at xs (s .1) i j d (le-of-suc-le-suc l) (le-of-suc-le-suc m)
 
   pub ascends-cons : (x y : A) (ys : List A) → Below x y → Ascends (y ∷ ys) → Ascends (x ∷ y ∷ ys)
-  ascends-cons x y ys l s = ((l, every-map {P = Below y} (λ z m. order-trans (key x) (key y) (key z) l m) ys (s .0)), s)
+  unfolding All
+  ascends-cons x y ys l s = ((l, All-weaken (Below y) (Below x) ys (λ z m. order-trans (key x) (key y) (key z) l m) (s .0)), s)
 
   -- by neighbours
   pub ascends-of : (xs : List A) (d : A) → ((j : ℕ) → suc j < length xs → Below (getD xs j d) (getD xs (suc j) d)) → Ascends xs
+  unfolding All
   ascends-of [] d h = tt
   ascends-of (x ∷ []) d h = (tt, tt)
   ascends-of (x ∷ y ∷ ys) d h =
       ascends-cons x y ys (h zero (suc-le-suc (suc-le-suc zero-le))) (ascends-of (y ∷ ys) d (λ j l. h (suc j) (suc-le-suc l)))
 
   -- a key below all is not among them
-  pub below-not-held : (x : A) (xs : List A) → Every (Below x) xs → holds (key x) (map key xs) ≡ false
-  unfolding holds
+  pub below-not-held : (x : A) (xs : List A) → All (Below x) xs → holds (key x) (map key xs) ≡ false
+  unfolding holds All
   below-not-held x [] h = refl
   below-not-held x (y ∷ ys) h = holds-past (key x) (key y) (map key ys) (order-less-ne (key x) (key y) (h .0)) ∙ below-not-held x ys (h .1)
 
@@ -68,18 +53,10 @@ module _ {A : Type 0} (key : A → Bytes) where
 -- ---- through a map that keeps the keys
 
 module _ {A B : Type 0} (key : A → Bytes) (key′ : B → Bytes) (f : A → B) (e : (x : A) → key x ≡ key′ (f x)) where
-  every-below-map : (x : A) (xs : List A) → Every (Below key x) xs → Every (Below key′ (f x)) (map f xs)
-  every-below-map x [] h = tt
-  every-below-map x (y ∷ ys) h = (rw (e x, e y) at (h .0), every-below-map x ys (h .1))
-
-  every-map-below : (x : A) (xs : List A) → Every (Below key′ (f x)) (map f xs) → Every (Below key x) xs
-  every-map-below x [] h = tt
-  every-map-below x (y ∷ ys) h = (rw (e x, e y) (h .0), every-map-below x ys (h .1))
-
   pub ascends-map : (xs : List A) → Ascends key xs → Ascends key′ (map f xs)
   ascends-map [] s = tt
-  ascends-map (x ∷ xs) s = (every-below-map x xs (s .0), ascends-map xs (s .1))
+  ascends-map (x ∷ xs) s = (All-map (Below key′ (f x)) f xs (All-weaken (Below key x) (λ (y : A). Below key′ (f x) (f y)) xs (λ y h. rw (e x, e y) at h) (s .0)), ascends-map xs (s .1))
 
   pub map-ascends : (xs : List A) → Ascends key′ (map f xs) → Ascends key xs
   map-ascends [] s = tt
-  map-ascends (x ∷ xs) s = (every-map-below x xs (s .0), map-ascends xs (s .1))
+  map-ascends (x ∷ xs) s = (All-weaken (λ (y : A). Below key′ (f x) (f y)) (Below key x) xs (λ y h. rw (e x, e y) h) (map-All (Below key′ (f x)) f xs (s .0)), map-ascends xs (s .1))

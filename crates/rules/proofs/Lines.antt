@@ -4,19 +4,20 @@ use mathlib.Core.Logic.{_⊎_, inl, inr}
 use mathlib.Core.Bool.{Bool, true, false}
 use mathlib.Core.List.{List, [], _∷_, _++_}
 use Prim.Native.Nat.{ℕ, zero, suc, _+_, _-_, _≤_, _<_}
-use native.Mathlib.Nat.{not-suc-le-zero, eq-or-lt-of-le, sub-zero, zero-sub, suc-sub-suc}
-use native.Mathlib.Numerals.{add-one}
+use native.Mathlib.Nat.{not-suc-le-zero, eq-or-lt-of-le}
 use native.Mathlib.Omega.{arith}
 use lib.Dec.{eqb}
-use lib.ListN.{length, take, drop, getD, length-drop}
-use lib.Seq.{slice, drop-cons, drop-drop, take-nil, take-add, take-length, length-take-le, getD-take, getD-drop}
+use lib.ListN.{length, getD}
 use borrow.Author.Tests.{eqb-false, eq-eqb, ne-eqb}
+use Rattle.facts.specs.Lists.{All}
+use Rattle.facts.specs.Parts.{part}
+use Rattle.facts.proofs.Lists.{All-of}
+use Rattle.facts.proofs.Parts.{length-part, part-none, getD-part, part-cons, part-split}
 use Rattle.rules.specs.Bytes.{Bytes}
 use Rattle.rules.specs.Lines.{onto, lines, anyObject}
-use Rattle.rules.proofs.Ascending.{Every, every-of}
 
 abbrev pub NoFeed : Bytes → Type 0
-NoFeed = Every (λ (b : ℕ). b ≡ 0x0A → ⊥)
+NoFeed = All (λ (b : ℕ). b ≡ 0x0A → ⊥)
 
 -- ---- byte by byte
 
@@ -35,73 +36,38 @@ lines-onto b bs h = rw (ne-eqb b 0x0A h, lines)
 -- ---- line by line
 
 pub lines-line : (l rest : Bytes) → NoFeed l → lines (l ++ 0x0A ∷ rest) ≡ l ∷ lines rest
-unfolding onto
+unfolding onto All
 lines-line [] rest h = lines-feed 0x0A rest refl
 lines-line (b ∷ l) rest h = lines-onto b (l ++ 0x0A ∷ rest) (h .0) ∙ ap (onto b) (lines-line l rest (h .1))
 
 -- the last may lack its 0x0A
 pub lines-last : (l : Bytes) → 0 < length l → NoFeed l → lines l ≡ l ∷ []
-unfolding onto
+unfolding onto All
 lines-last [] m h = absurd (not-suc-le-zero m)
 lines-last (b ∷ []) m h = lines-onto b [] (h .0) ∙ ap (onto b) lines-none
 lines-last (b ∷ c ∷ l) m h = lines-onto b (c ∷ l) (h .0) ∙ ap (onto b) (lines-last (c ∷ l) (omega arith) (h .1))
 
-onto-no-feed : (b : ℕ) (ls : List Bytes) → (b ≡ 0x0A → ⊥) → Every NoFeed ls → Every NoFeed (onto b ls)
-unfolding onto
+onto-no-feed : (b : ℕ) (ls : List Bytes) → (b ≡ 0x0A → ⊥) → All NoFeed ls → All NoFeed (onto b ls)
+unfolding onto All
 onto-no-feed b [] n h = ((n, tt), tt)
 onto-no-feed b (l ∷ ls) n h = ((n, h .0), h .1)
 
-pub lines-no-feed : (s : Bytes) → Every NoFeed (lines s)
-unfolding lines
+pub lines-no-feed : (s : Bytes) → All NoFeed (lines s)
+unfolding lines All
 lines-no-feed [] = tt
 lines-no-feed (b ∷ bs) = go (lines-no-feed bs) (eqb b 0x0A) refl
   where
-    go : Every NoFeed (lines bs) → (t : Bool) → eqb b 0x0A ≡ t → Every NoFeed (elim t [ true ↦ [] ∷ lines bs | false ↦ onto b (lines bs) ])
+    go : All NoFeed (lines bs) → (t : Bool) → eqb b 0x0A ≡ t → All NoFeed (elim t [ true ↦ [] ∷ lines bs | false ↦ onto b (lines bs) ])
     go ih true e = (tt, ih)
     go ih false e = onto-no-feed b (lines bs) (eqb-false b 0x0A e) ih
-
--- ---- the bytes from a up to b, b itself left out
-
-abbrev pub part : Bytes → ℕ → ℕ → Bytes
-part s a b = take (b - a) (drop a s)
-
--- as a slice of it is said
-pub slice-part : (s : Bytes) (a b : ℕ) → slice a b s ≡ part s a b
-slice-part s zero b = rw sub-zero
-slice-part s (suc a) zero = rw zero-sub
-slice-part [] (suc a) (suc b) = rw (take-nil {A = ℕ} (suc b - suc a))
-slice-part (x ∷ s) (suc a) (suc b) = slice-part s a b ∙ rw suc-sub-suc
-
-pub part-length : (s : Bytes) (a b : ℕ) → b ≤ length s → length (part s a b) ≡ b - a
-part-length s a b h = length-take-le (b - a) (drop a s) (simp length-drop (omega arith))
-
-pub part-none : (s : Bytes) (a b : ℕ) → b ≤ a → part s a b ≡ []
-part-none s a b h = let e : b - a ≡ 0 = omega arith in rw e
-
-pub part-all : (s : Bytes) (a : ℕ) → part s a (length s) ≡ drop a s
-part-all s a = rw (← length-drop a s) (take-length (drop a s))
-
-pub part-cons : (s : Bytes) (a b : ℕ) → a < b → b ≤ length s → part s a b ≡ getD s a 0 ∷ part s (a + 1) b
-part-cons s a b h l =
-    let d : b - a ≡ suc (b - suc a) = omega arith in
-    rw (add-one, d, drop-cons s a 0 (omega arith))
-
-pub part-split : (s : Bytes) (a e b : ℕ) → a ≤ e → e ≤ b → part s a b ≡ part s a e ++ part s e b
-part-split s a e b h k =
-    let n : b - a ≡ (e - a) + (b - e) = omega arith in
-    let m : a + (e - a) ≡ e = omega arith in
-    rw (n, take-add (e - a) (b - e) (drop a s), drop-drop (e - a) a s, m)
-
-pub part-at : (s : Bytes) (a b j : ℕ) → j < b - a → getD (part s a b) j 0 ≡ getD s (a + j) 0
-part-at s a b j h = getD-take (b - a) (drop a s) j 0 h ∙ getD-drop a s j 0
 
 -- ---- the first line from a on: e is the first place of 0x0A, or the end
 
 part-no-feed : (s : Bytes) (a e : ℕ) → e ≤ length s → ((j : ℕ) → a ≤ j → j < e → getD s j 0 ≡ 0x0A → ⊥) → NoFeed (part s a e)
-part-no-feed s a e l h = every-of (λ (b : ℕ). b ≡ 0x0A → ⊥) (part s a e) 0 (λ j m. at j (rw (part-length s a e l) at m))
+part-no-feed s a e l h = All-of (λ (b : ℕ). b ≡ 0x0A → ⊥) (part s a e) 0 (λ j m. at j (rw (length-part s a e l) at m))
   where
     at : (j : ℕ) → j < e - a → getD (part s a e) j 0 ≡ 0x0A → ⊥
-    at j m q = h (a + j) (omega arith) (omega arith) (sym (part-at s a e j m) ∙ q)
+    at j m q = h (a + j) (omega arith) (omega arith) (sym (getD-part s a e j 0 (omega arith)) ∙ q)
 
 pub lines-part : (s : Bytes) (a e b : ℕ) → a < b → b ≤ length s → a ≤ e → e ≤ b
     → ((j : ℕ) → a ≤ j → j < e → getD s j 0 ≡ 0x0A → ⊥) → (e < b → getD s e 0 ≡ 0x0A)
@@ -113,11 +79,11 @@ lines-part s a e b ab bs ae eb none feed = go (eq-or-lt-of-le eb)
 
     go : (e ≡ b) ⊎ (e < b) → lines (part s a b) ≡ part s a e ∷ lines (part s (e + 1) b)
     go (inl q) =
-        let n : length (part s a e) ≡ e - a = part-length s a e (omega arith) in
+        let n : length (part s a e) ≡ e - a = length-part s a e (omega arith) in
         let p : part s a b ≡ part s a e = rw q in
         let r : part s (e + 1) b ≡ [] = part-none s (e + 1) b (omega arith) in
         rw (p, r, lines-none) (lines-last (part s a e) (omega arith) line)
-    go (inr l) = rw (part-split s a e b ae eb, part-cons s e b l bs, feed l) (lines-line (part s a e) (part s (e + 1) b) line)
+    go (inr l) = rw (part-split s a e b ae eb, part-cons s e b 0 l bs, feed l) (lines-line (part s a e) (part s (e + 1) b) line)
 
 pub lines-part-none : (s : Bytes) (a b : ℕ) → b ≤ a → lines (part s a b) ≡ []
 lines-part-none s a b h = rw (part-none s a b h) lines-none

@@ -7,12 +7,14 @@ use mathlib.Core.List.{List, [], _∷_, map}
 use Prim.Native.Nat.{suc, _≤_}
 use native.Mathlib.Omega.{arith}
 use lib.ListN.{length}
+use Rattle.facts.specs.Lists.{All}
+use Rattle.facts.proofs.Lists.{All-weaken}
 use Rattle.rules.specs.Bytes.{Bytes, Order, less, equal, more, order, same, holds}
 use Rattle.rules.specs.Live.{put, putBeside, takeOut, takeIf}
 use Rattle.rules.proofs.Tests.{apart, decided, true-not-false}
 use Rattle.rules.proofs.Order.{eq-order, order-equal, more-less, order-more-ne, eq-same, ne-same, same-or-not}
 use Rattle.rules.proofs.Holding.{holds-head, holds-past}
-use Rattle.rules.proofs.Ascending.{Every, every-map, Below, Ascends, ascends-cons, below-not-held}
+use Rattle.rules.proofs.Ascending.{Below, Ascends, ascends-cons, below-not-held}
 
 -- the one whose key is k
 unfoldable pub lookup : {A : Type 0} → (A → Bytes) → Bytes → List A → Option A
@@ -54,27 +56,27 @@ module _ {A : Type 0} (key : A → Bytes) where
 
   -- ---- order
 
-  pub every-put : (P : A → Type 0) (r : A) (xs : List A) → Every P xs → P r → Every P (put key r xs)
-  unfolding put
-  every-put P r [] h p = (p, tt)
-  every-put P r (x ∷ xs) h p = go (every-put P r xs (h .1) p) (order (key r) (key x)) refl
+  pub All-put : (P : A → Type 0) (r : A) (xs : List A) → All P xs → P r → All P (put key r xs)
+  unfolding put All
+  All-put P r [] h p = (p, tt)
+  All-put P r (x ∷ xs) h p = go (All-put P r xs (h .1) p) (order (key r) (key x)) refl
     where
-      go : Every P (put key r xs) → (o : Order) → order (key r) (key x) ≡ o → Every P (put key r (x ∷ xs))
+      go : All P (put key r xs) → (o : Order) → order (key r) (key x) ≡ o → All P (put key r (x ∷ xs))
       go ih less e = rw (put-below r x xs e) (p, h)
       go ih equal e = rw (put-over r x xs (order-equal (key r) (key x) e)) (p, h .1)
       go ih more e = rw (put-past r x xs e) (h .0, ih)
 
-  pub every-takeOut : (P : A → Type 0) (k : Bytes) (xs : List A) → Every P xs → Every P (takeOut key k xs)
-  unfolding takeOut
-  every-takeOut P k [] h = tt
-  every-takeOut P k (x ∷ xs) h = go (every-takeOut P k xs (h .1)) (same-or-not k (key x))
+  pub All-takeOut : (P : A → Type 0) (k : Bytes) (xs : List A) → All P xs → All P (takeOut key k xs)
+  unfolding takeOut All
+  All-takeOut P k [] h = tt
+  All-takeOut P k (x ∷ xs) h = go (All-takeOut P k xs (h .1)) (same-or-not k (key x))
     where
-      go : Every P (takeOut key k xs) → (k ≡ key x) ⊎ (k ≡ key x → ⊥) → Every P (takeOut key k (x ∷ xs))
+      go : All P (takeOut key k xs) → (k ≡ key x) ⊎ (k ≡ key x → ⊥) → All P (takeOut key k (x ∷ xs))
       go ih (inl e) = rw (takeOut-here k x xs e) (h .1)
       go ih (inr n) = rw (takeOut-past k x xs n) (h .0, ih)
 
   pub ascends-put : (r : A) (xs : List A) → Ascends key xs → Ascends key (put key r xs)
-  unfolding put
+  unfolding put All
   ascends-put r [] s = (tt, tt)
   ascends-put r (x ∷ xs) s = go (ascends-put r xs (s .1)) (order (key r) (key x)) refl
     where
@@ -82,8 +84,8 @@ module _ {A : Type 0} (key : A → Bytes) where
       go ih less e = rw (put-below r x xs e) (ascends-cons key r x xs e s)
       go ih equal e =
           let q : key r ≡ key x = order-equal (key r) (key x) e in
-          rw (put-over r x xs q) (every-map {P = Below key x} (λ y h. rw q h) xs (s .0), s .1)
-      go ih more e = rw (put-past r x xs e) (every-put (Below key x) r xs (s .0) (more-less (key r) (key x) e), ih)
+          rw (put-over r x xs q) (All-weaken (Below key x) (Below key r) xs (λ y h. rw q h) (s .0), s .1)
+      go ih more e = rw (put-past r x xs e) (All-put (Below key x) r xs (s .0) (more-less (key r) (key x) e), ih)
 
   pub ascends-takeOut : (k : Bytes) (xs : List A) → Ascends key xs → Ascends key (takeOut key k xs)
   unfolding takeOut
@@ -92,7 +94,7 @@ module _ {A : Type 0} (key : A → Bytes) where
     where
       go : Ascends key (takeOut key k xs) → (k ≡ key x) ⊎ (k ≡ key x → ⊥) → Ascends key (takeOut key k (x ∷ xs))
       go ih (inl e) = rw (takeOut-here k x xs e) (s .1)
-      go ih (inr n) = rw (takeOut-past k x xs n) (every-takeOut (Below key x) k xs (s .0), ih)
+      go ih (inr n) = rw (takeOut-past k x xs n) (All-takeOut (Below key x) k xs (s .0), ih)
 
   -- ---- length
 

@@ -9,6 +9,8 @@ use lib.Dec.{leb}
 use native.Mathlib.Omega.{arith}
 use lib.ListN.{length, getD}
 use borrow.Author.Tests.{leb-true}
+use Rattle.facts.specs.Parts.{part}
+use Rattle.facts.proofs.Parts.{length-part}
 use Rattle.rules.specs.Bytes.{Bytes}
 use Rattle.rules.specs.Bundle.{File}
 use Rattle.rules.specs.Lines.{lines, anyObject}
@@ -20,7 +22,7 @@ use Rattle.rules.specs.Starts.{Log, Way, fromZero, fromCheckpoint, andTh
 use Rattle.rules.specs.Reading.{mostLive, stateBy}
 use Rattle.rules.proofs.Tests.{apart}
 use Rattle.rules.proofs.Ascending.{Ascends}
-use Rattle.rules.proofs.Lines.{part, part-length, lines-part, lines-part-none}
+use Rattle.rules.proofs.Lines.{lines-part, lines-part-none}
 use Rattle.rules.proofs.Live.{ascends-put, ascends-takeOut}
 
 -- ---- answers
@@ -83,7 +85,7 @@ pub readLines-part : (limit n k : ℕ) (s : Bytes) (a e b : ℕ) (st : State) �
     → readLines limit n k a (lines (part s a b)) st ≡ (readLine limit n k a (part s a e) st >>= (λ next. readLines limit n (suc k) (e + 1) (lines (part s (e + 1) b)) next))
 unfolding readLines
 readLines-part limit n k s a e b st ab bs ae eb before feed =
-    let p : a + length (part s a e) + 1 ≡ e + 1 = omega (arith, part-length s a e (omega arith)) in
+    let p : a + length (part s a e) + 1 ≡ e + 1 = omega (arith, length-part s a e (omega arith)) in
     rw (lines-part s a e b ab bs ae eb before feed, p)
 
 pub readLines-none : (limit n k : ℕ) (s : Bytes) (a b : ℕ) (st : State) → b ≤ a → readLines limit n k a (lines (part s a b)) st ≡ accepted st

@@ -3,17 +3,18 @@ use mathlib.Core.Path.{_≡_, refl, sym, ap, _∙_}
 use mathlib.Core.Logic.{_⊎_, inl, inr}
 use mathlib.Core.Bool.{false}
 use mathlib.Core.Option.{none, some}
-use mathlib.Core.List.{List, [], _∷_, _++_, map}
+use mathlib.Core.List.{List, [], _∷_, map}
 use Prim.Native.Nat.{ℕ, zero, suc, _+_, _≤_, _<_, zero-le, suc-le-suc}
-use native.Mathlib.Nat.{le-of-suc-le-suc, not-suc-le-zero, eq-or-lt-of-le}
-use native.Mathlib.Numerals.{add-one}
+use native.Mathlib.Nat.{le-of-suc-le-suc, not-suc-le-zero, eq-or-lt-of-le, suc-add}
 use native.Mathlib.Omega.{arith}
-use lib.ListN.{length, take, drop, getD, set}
+use lib.ListN.{length, getD, set}
+use Rattle.facts.specs.Rows.{insertAt, removeAt}
+use Rattle.facts.proofs.Lists.{All-at}
 use Rattle.rules.specs.Bytes.{Bytes, less, equal, more, order, holds}
 use Rattle.rules.specs.Live.{put, takeOut}
 use Rattle.rules.proofs.Order.{order-trans, order-trans-more, order-equal, less-more, more-less, order-less-ne, order-more-ne}
 use Rattle.rules.proofs.Holding.{holds-past}
-use Rattle.rules.proofs.Ascending.{Ascends, every-at, Below, ascends-at}
+use Rattle.rules.proofs.Ascending.{Ascends, Below, ascends-at}
 use Rattle.rules.proofs.Live.{lookup, put-below, put-over, put-past, takeOut-here, takeOut-past, takeOut-none, lookup-here, lookup-past, lookup-none}
 
 module _ {A : Type 0} (key : A → Bytes) where
@@ -21,7 +22,7 @@ module _ {A : Type 0} (key : A → Bytes) where
 
   -- it stands after the head
   head-below : (k : Bytes) (x : A) (xs : List A) (m : ℕ) (d : A) → Ascends key (x ∷ xs) → m < length xs → key (getD xs m d) ≡ k → order (key x) k ≡ less
-  head-below k x xs m d s l e = rw (← e) (every-at (Below key x) xs (s .0) m d l)
+  head-below k x xs m d s l e = rw (← e) (All-at (Below key x) xs m d l (s .0))
 
   pub put-found : (r : A) (xs : List A) (m : ℕ) (d : A) → Ascends key xs → m < length xs → key (getD xs m d) ≡ key r → put key r xs ≡ set xs m r
   put-found r [] m d s l e = absurd (not-suc-le-zero l)
@@ -30,15 +31,14 @@ module _ {A : Type 0} (key : A → Bytes) where
       put-past key r x xs (less-more (key x) (key r) (head-below (key r) x xs m d s (le-of-suc-le-suc l) e))
       ∙ ap (λ (t : List A). x ∷ t) (put-found r xs m d (s .1) (le-of-suc-le-suc l) e)
 
-  takeOut-found-suc : (k : Bytes) (xs : List A) (m : ℕ) (d : A) → Ascends key xs → m < length xs → key (getD xs m d) ≡ k → takeOut key k xs ≡ take m xs ++ drop (suc m) xs
-  takeOut-found-suc k [] m d s l e = absurd (not-suc-le-zero l)
-  takeOut-found-suc k (x ∷ xs) zero d s l e = takeOut-here key k x xs (sym e)
-  takeOut-found-suc k (x ∷ xs) (suc m) d s l e =
+  pub takeOut-found : (k : Bytes) (xs : List A) (m : ℕ) (d : A) → Ascends key xs → m < length xs → key (getD xs m d) ≡ k → takeOut key k xs ≡ removeAt m xs
+  unfolding removeAt
+  takeOut-found k [] m d s l e = absurd (not-suc-le-zero l)
+  takeOut-found k (x ∷ xs) zero d s l e = takeOut-here key k x xs (sym e)
+  takeOut-found k (x ∷ xs) (suc m) d s l e =
       takeOut-past key k x xs (λ p. order-less-ne (key x) k (head-below k x xs m d s (le-of-suc-le-suc l) e) (sym p))
-      ∙ ap (λ (t : List A). x ∷ t) (takeOut-found-suc k xs m d (s .1) (le-of-suc-le-suc l) e)
-
-  pub takeOut-found : (k : Bytes) (xs : List A) (m : ℕ) (d : A) → Ascends key xs → m < length xs → key (getD xs m d) ≡ k → takeOut key k xs ≡ take m xs ++ drop (m + 1) xs
-  takeOut-found k xs m d s l e = rw add-one (takeOut-found-suc k xs m d s l e)
+      ∙ ap (λ (t : List A). x ∷ t) (takeOut-found k xs m d (s .1) (le-of-suc-le-suc l) e)
+      ∙ rw suc-add
 
   pub lookup-found : (k : Bytes) (xs : List A) (m : ℕ) (d : A) → Ascends key xs → m < length xs → key (getD xs m d) ≡ k → lookup key k xs ≡ some (getD xs m d)
   lookup-found k [] m d s l e = absurd (not-suc-le-zero l)
@@ -58,8 +58,8 @@ pub record Bracket {A : Type 0} (key : A → Bytes) (k : Bytes) (xs : List A) (d
 module _ {A : Type 0} (key : A → Bytes) where
   -- at the place m where the key would stand
   pub put-new : (r : A) (xs : List A) (m : ℕ) (d : A) → m ≤ length xs → ((j : ℕ) → j < m → order (key (getD xs j d)) (key r) ≡ less)
-      → ((j : ℕ) → m ≤ j → j < length xs → order (key (getD xs j d)) (key r) ≡ more) → put key r xs ≡ take m xs ++ r ∷ drop m xs
-  unfolding put
+      → ((j : ℕ) → m ≤ j → j < length xs → order (key (getD xs j d)) (key r) ≡ more) → put key r xs ≡ insertAt m r xs
+  unfolding put insertAt
   put-new r [] zero d l lo hi = refl
   put-new r [] (suc m) d l lo hi = absurd (not-suc-le-zero l)
   put-new r (x ∷ xs) zero d l lo hi = put-below key r x xs (more-less (key x) (key r) (hi zero zero-le (suc-le-suc zero-le)))
@@ -98,7 +98,7 @@ module _ {A : Type 0} (key : A → Bytes) (k : Bytes) (xs : List A) (d : A) wher
     pub bracket-lookup : lookup key k xs ≡ none
     bracket-lookup = lookup-none key k xs bracket-held
 
-    pub bracket-put : (r : A) → key r ≡ k → put key r xs ≡ take lo xs ++ r ∷ drop lo xs
+    pub bracket-put : (r : A) → key r ≡ k → put key r xs ≡ insertAt lo r xs
     bracket-put r e = put-new key r xs lo d (omega arith) (λ j l. rw e (b .below j l)) (λ j l g. rw e (b .above j (omega arith) g))
 
   module _ (s : Ascends key xs) (lo hi : ℕ) (b : Bracket key k xs d lo hi) (m : ℕ) (lm : lo ≤ m) (mh : m < hi) where
