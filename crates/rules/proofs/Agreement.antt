@@ -20,41 +20,42 @@ use Rattle.rules.proofs.Holding.{allAmong-holds, holds-allAmong}
 
 -- ---- values that may be missing
 
+-- a test of two such values, by the test of what is there: it passes on equal ones alone
+module _ {A : Type 0} (agrees : Option A → Option A → Bool) where
+  agreed-true : ((y : A) → agrees none (some y) ≡ false) → ((x : A) → agrees (some x) none ≡ false) → ((x y : A) → agrees (some x) (some y) ≡ true → x ≡ y)
+      → (x y : Option A) → agrees x y ≡ true → x ≡ y
+  agreed-true f g both none none e = refl
+  agreed-true f g both none (some y) e = apart (cc (f y))
+  agreed-true f g both (some x) none e = apart (cc (g x))
+  agreed-true f g both (some x) (some y) e = ap some (both x y e)
+
+  agreed-refl : agrees none none ≡ true → ((x : A) → agrees (some x) (some x) ≡ true) → (x : Option A) → agrees x x ≡ true
+  agreed-refl n both none = n
+  agreed-refl n both (some x) = both x
+
 pub agreeValue-true : (x y : Option Bytes) → agreeValue x y ≡ true → x ≡ y
 unfolding agreeValue
-agreeValue-true none none e = refl
-agreeValue-true none (some y) e = apart (cc)
-agreeValue-true (some x) none e = apart (cc)
-agreeValue-true (some x) (some y) e = ap some (same-true x y e)
+agreeValue-true = agreed-true agreeValue (λ y. refl) (λ x. refl) same-true
 
 pub agreeValue-refl : (x : Option Bytes) → agreeValue x x ≡ true
 unfolding agreeValue
-agreeValue-refl none = refl
-agreeValue-refl (some x) = eq-same refl
+agreeValue-refl = agreed-refl agreeValue refl (λ x. eq-same refl)
 
 pub agreeFound-true : (x y : Option (Option Bytes)) → agreeFound x y ≡ true → x ≡ y
 unfolding agreeFound
-agreeFound-true none none e = refl
-agreeFound-true none (some y) e = apart (cc)
-agreeFound-true (some x) none e = apart (cc)
-agreeFound-true (some x) (some y) e = ap some (agreeValue-true x y e)
+agreeFound-true = agreed-true agreeFound (λ y. refl) (λ x. refl) agreeValue-true
 
 pub agreeFound-refl : (x : Option (Option Bytes)) → agreeFound x x ≡ true
 unfolding agreeFound
-agreeFound-refl none = refl
-agreeFound-refl (some x) = agreeValue-refl x
+agreeFound-refl = agreed-refl agreeFound refl agreeValue-refl
 
 pub agreeRecords-true : (x y : Option ℕ) → agreeRecords x y ≡ true → x ≡ y
 unfolding agreeRecords
-agreeRecords-true none none e = refl
-agreeRecords-true none (some y) e = apart (cc)
-agreeRecords-true (some x) none e = apart (cc)
-agreeRecords-true (some x) (some y) e = ap some (eqb-true x y e)
+agreeRecords-true = agreed-true agreeRecords (λ y. refl) (λ x. refl) eqb-true
 
 pub agreeRecords-refl : (x : Option ℕ) → agreeRecords x x ≡ true
 unfolding agreeRecords
-agreeRecords-refl none = refl
-agreeRecords-refl (some x) = eq-eqb x x refl
+agreeRecords-refl = agreed-refl agreeRecords refl (λ x. eq-eqb x x refl)
 
 -- ---- partition pairs
 

@@ -2,14 +2,14 @@
 -- Over any total order: texts, and numbers, where the values are all whole numbers.
 use mathlib.Core.Path.{_≡_, refl, ap, _∙_}
 use mathlib.Core.Logic.{_⊎_, inl, inr}
-use mathlib.Core.Bool.{Bool, true, false, not, _||_}
+use mathlib.Core.Bool.{Bool, true, false, not}
 use lib.IntN.{ℤ}
 use borrow.Author.Tests.{not-true, not-false}
 use Rattle.rules.specs.Bytes.{Bytes, Order, less, equal, more, order, isLess, isEqual, isMore}
 use Rattle.rules.specs.Query.{Number, number, outOfRange, notNumber, asText, Op, eq, lt, le, gt, ge}
 use Rattle.rules.specs.Picking.{meets, orderOfNumbers}
 use Rattle.rules.specs.Manifests.{noneMeets, outside, outsideNumbers, outsideAs}
-use Rattle.rules.proofs.Tests.{apart, decided, not-of-true, not-of-false, true-not-false, or-left, or-right, or-cases}
+use Rattle.rules.proofs.Tests.{apart, by, not-of-true, not-of-false, true-not-false, or-left, or-right, or-cases}
 use Rattle.rules.proofs.TotalOrders.{TotalOrder, more-flipped, rising-lt, rising-le, rising-gt, rising-ge, compare-refl, not-above-itself, rising, order-total, numbers-total}
 
 -- the sentence
@@ -50,13 +50,10 @@ module _ {A : Type 0} (compare : A → A → Order) (total : TotalOrder compare)
   -- if none between meets, then not min, not max, and not the bound itself
   nearest : (op : Op) → Excludes compare op b lo hi → noneMeets op (compare lo b) (compare hi b) ≡ true
   unfolding noneMeets meets isEqual
-  nearest eq s = go (decided (isMore (compare lo b))) (decided (isLess (compare hi b)))
-    where
-      go : (isMore (compare lo b) ≡ true) ⊎ (isMore (compare lo b) ≡ false) → (isLess (compare hi b) ≡ true) ⊎ (isLess (compare hi b) ≡ false)
-          → (isMore (compare lo b) || isLess (compare hi b)) ≡ true
-      go (inl m) d = or-left (isLess (compare hi b)) m
-      go (inr m) (inl d) = or-right (isMore (compare lo b)) d
-      go (inr m) (inr d) = absurd (true-not-false (ap isEqual (compare-refl compare total b)) (s .none-meets b m (ap isMore (total .flip hi b) ∙ more-flipped (compare hi b) ∙ d)))
+  nearest eq s =
+      by (isMore (compare lo b)) (λ m. or-left (isLess (compare hi b)) m) (λ m.
+      by (isLess (compare hi b)) (λ d. or-right (isMore (compare lo b)) d) (λ d.
+      absurd (true-not-false (ap isEqual (compare-refl compare total b)) (s .none-meets b m (ap isMore (total .flip hi b) ∙ more-flipped (compare hi b) ∙ d)))))
   nearest lt s = not-of-false (s .none-meets lo (not-above-itself compare total lo) (s .rises))
   nearest le s = not-of-false (s .none-meets lo (not-above-itself compare total lo) (s .rises))
   nearest gt s = not-of-false (s .none-meets hi (s .rises) (not-above-itself compare total hi))

@@ -11,7 +11,7 @@ use Rattle.facts.specs.Lists.{All}
 use Rattle.facts.proofs.Lists.{All-weaken}
 use Rattle.rules.specs.Bytes.{Bytes, Order, less, equal, more, order, same, holds}
 use Rattle.rules.specs.Live.{put, putBeside, takeOut, takeIf}
-use Rattle.rules.proofs.Tests.{apart, decided, true-not-false}
+use Rattle.rules.proofs.Tests.{apart, by, true-not-false}
 use Rattle.rules.proofs.Order.{eq-order, order-equal, more-less, order-more-ne, eq-same, ne-same, same-or-not}
 use Rattle.rules.proofs.Holding.{holds-head, holds-past}
 use Rattle.rules.proofs.Ascending.{Below, Ascends, ascends-cons, below-not-held}
@@ -151,11 +151,7 @@ module _ {A : Type 0} (key : A → Bytes) where
       go ih (inr n) = rw (takeOut-past k x xs n) (ap suc (ih (sym (holds-past k (key x) (map key xs) n) ∙ h)))
 
   pub takeOut-length-le : (k : Bytes) (xs : List A) → length (takeOut key k xs) ≤ length xs
-  takeOut-length-le k xs = go (decided (holds k (map key xs)))
-    where
-      go : (holds k (map key xs) ≡ true) ⊎ (holds k (map key xs) ≡ false) → length (takeOut key k xs) ≤ length xs
-      go (inl h) = omega (arith, takeOut-length-held k xs h)
-      go (inr h) = omega (arith, ap length (takeOut-none k xs h))
+  takeOut-length-le k xs = by (holds k (map key xs)) (λ h. omega (arith, takeOut-length-held k xs h)) (λ h. omega (arith, ap length (takeOut-none k xs h)))
 
   -- ---- look-up
 

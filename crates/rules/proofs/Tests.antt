@@ -12,9 +12,9 @@ apart z = absurd (omega arith)
 
 -- ---- one test
 
-pub decided : (b : Bool) → (b ≡ true) ⊎ (b ≡ false)
-decided true = inl refl
-decided false = inr refl
+pub by : {P : Type 0} (test : Bool) → (test ≡ true → P) → (test ≡ false → P) → P
+by true f g = f refl
+by false f g = g refl
 
 pub true-not-false : {b : Bool} → b ≡ true → b ≡ false → ⊥
 true-not-false t f = true≢false (sym t ∙ f)

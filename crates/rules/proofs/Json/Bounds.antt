@@ -6,7 +6,8 @@ use Prim.Native.Nat.{ℕ, zero, suc, _+_, _≤_}
 use native.Mathlib.Omega.{arith}
 use lib.ListN.{length, length-append}
 use Rattle.rules.specs.Json.Text.{Text, Taker}
-use Rattle.rules.proofs.Json.Suffix.{Beside, beside-same, beside-append, Reads, some-same, never}
+use Rattle.rules.proofs.Tests.{apart}
+use Rattle.rules.proofs.Json.Suffix.{Beside, beside-same, beside-append, Reads, some-same}
 
 -- `read`, with some bound, answers `answer r` of t: it passed a byte or more and left r,
 -- and does the same with every bound from the number of bytes passed on, where another text stands behind that begins as r does
@@ -42,7 +43,7 @@ module _ {A : Type 0} {read : ℕ → Taker A} (each : EachWithin read) where
     where
       go : (o : Option (A × Text)) → read n t ≡ o → (q : Option (A × Text)) → read m t ≡ q → read n t ≡ read m t
       go (some p) e q f = e ∙ sym (within-more e l)
-      go none e (some p) f = never (sym e ∙ within-more f k)
+      go none e (some p) f = apart (cc (within-more f k))
       go none e none f = e ∙ sym f
 
 -- the same answer, written in two ways

@@ -16,7 +16,8 @@ use Rattle.rules.specs.Json.Numbers.{digits1, minus, int, number, whole}
 use Rattle.rules.specs.Json.Strings.{string}
 use Rattle.rules.specs.Json.Values.{Member, contents, elements, scalar, value, objectOf, arrayOf}
 use Rattle.rules.specs.Json.Fields.{isNull, stringOf, boolOf}
-use Rattle.rules.proofs.Json.Suffix.{reads-fewer, by, answered-none}
+use Rattle.rules.proofs.Tests.{by}
+use Rattle.rules.proofs.Json.Suffix.{reads-fewer, answered-none}
 use Rattle.rules.proofs.Json.TextReads.{before, ws-stop, byte-other, spelled-left, spelled-text, word-text}
 use Rattle.rules.proofs.Json.ValueReads.{value-reads}
 use Rattle.rules.proofs.Json.Steps.{value-object, value-array, value-scalar, scalar-string, scalar-false, scalar-null, scalar-true, objectOf-contents, objectOf-none, arrayOf-elements, arrayOf-none, alone-end}

@@ -1,6 +1,6 @@
 -- Numbers and their parts, by what they pass (`Reads`).
 use mathlib.Core.Path.{_≡_, refl, sym, ap, subst}
-use mathlib.Core.Bool.{Bool, true, false}
+use mathlib.Core.Bool.{true, false}
 use mathlib.Core.Option.{some}
 use mathlib.Core.List.{[], _∷_}
 use Prim.Native.Nat.{ℕ}
@@ -10,8 +10,9 @@ use Rattle.rules.specs.Bytes.{_>>=_, first}
 use Rattle.rules.specs.Numbers.{isDigit}
 use Rattle.rules.specs.Json.Text.{Text}
 use Rattle.rules.specs.Json.Numbers.{digits, digits1, minus, int, frac, sign, exp, number}
-use Rattle.rules.proofs.Json.Suffix.{Reads, EachReads, reads-end, reads-here, reads-byte, reads-after, reads-made, reads-then, reads-least, some-same, never, by, bound, answered-here, answered-byte, answered-none, answered-after, answered-as}
-use Rattle.rules.proofs.Json.TextReads.{all}
+use Rattle.rules.proofs.Tests.{apart, by}
+use Rattle.rules.proofs.Json.Suffix.{Reads, EachReads, reads-end, reads-here, reads-byte, reads-made, reads-then, reads-least, some-same, bound, answered-here, answered-byte, answered-none, answered-after, answered-as}
+use Rattle.rules.proofs.Json.TextReads.{all, passes-reads}
 
 pub digits-more : (b : ℕ) (t : Text) → isDigit b ≡ true → digits (b ∷ t) ≡ digits t
 unfolding digits
@@ -23,16 +24,11 @@ digits-stop b t e = rw (digits, e)
 
 pub digits-reads : (t : Text) → Reads 0 digits all t (digits t)
 unfolding digits
-digits-reads [] = reads-end refl
-digits-reads (b ∷ t) = go (digits-reads t) (isDigit b) refl
-  where
-    go : Reads 0 digits all t (digits t) → (test : Bool) → isDigit b ≡ test → Reads 0 digits all (b ∷ t) (digits (b ∷ t))
-    go ih true e = subst (Reads 0 digits all (b ∷ t)) (sym (digits-more b t e)) (reads-least (omega arith) (reads-after (λ w. digits-more b w e) ih))
-    go ih false e = subst (Reads 0 digits all (b ∷ t)) (sym (digits-stop b t e)) (reads-here t refl (λ w. digits-stop b w e))
+digits-reads = passes-reads isDigit refl digits-more digits-stop
 
 pub digits1-reads : EachReads 1 digits1
 unfolding digits1
-digits1-reads [] r e = never e
+digits1-reads [] r e = apart (cc)
 digits1-reads (b ∷ t) r e = by (isDigit b)
     (λ p. answered-after {other = λ w. some (digits w)} e (λ w. rw (digits1, p)) (λ q. subst (Reads 0 (λ w. some (digits w)) some t) (some-same q) (reads-made (λ w u d. ap some d) (digits-reads t))))
     (λ p. answered-none e (rw (digits1, p)))
@@ -48,7 +44,7 @@ minus-reads (b ∷ t) = by (eqb b 0x2D)
 
 pub int-reads : EachReads 1 int
 unfolding int
-int-reads [] r e = never e
+int-reads [] r e = apart (cc)
 int-reads (b ∷ t) r e = by (eqb b 0x30)
     (λ p. answered-byte e (λ w. rw (int, p)))
     (λ p. answered-as {other = digits1} e (λ w. rw (int, p)) (digits1-reads (b ∷ t) r))

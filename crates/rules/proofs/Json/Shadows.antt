@@ -1,5 +1,5 @@
 -- What a reader leaves, without what it read: a recogniser is the shadow of the taker, step by step.
-use mathlib.Core.Path.{_≡_, refl, sym, ap, _∙_}
+use mathlib.Core.Path.{_≡_, refl, ap, _∙_}
 use mathlib.Core.Option.{Option, none, some}
 use mathlib.Core.List.{List, _∷_, _++_}
 use Prim.Native.Nat.{ℕ, suc, _-_}
@@ -9,7 +9,8 @@ use Rattle.rules.specs.Bytes.{Bytes, _>>=_}
 use Rattle.rules.specs.Json.Text.{Text, Reader, Taker, behind, spelled, byte}
 use Rattle.rules.specs.Json.Strings.{unescaped, escaped, utf8, char, chars, string}
 use Rattle.rules.specs.Json.Values.{Behind, closed, onward, neither, opening, closing, andThen, afterItem, items, list, Member, colon, member}
-use Rattle.rules.proofs.Json.Suffix.{EachTakes, some-same, never}
+use Rattle.rules.proofs.Tests.{apart}
+use Rattle.rules.proofs.Json.Suffix.{EachTakes, some-same}
 use Rattle.rules.proofs.Json.StringReads.{chars-char}
 use Rattle.rules.proofs.Json.Steps.{char-escape, char-plain, string-none, string-char, rest, list-closed, list-onward, list-neither, rest-none, rest-closed, rest-neither, rest-onward}
 
@@ -23,12 +24,12 @@ ahead neither others = none
 
 module _ {A : Type 0} where
   pub behind-some : (o : Option (A × Text)) {r : Text} → behind o ≡ some r → (x : A) × (o ≡ some (x, r))
-  behind-some none e = never e
+  behind-some none e = apart (cc)
   behind-some (some p) e = (p .0, ap (λ (u : Text). some (p .0, u)) (some-same e))
 
   pub behind-none : (o : Option (A × Text)) → behind o ≡ none → o ≡ none
   behind-none none e = refl
-  behind-none (some p) e = never (sym e)
+  behind-none (some p) e = apart (cc)
 
   -- something else made of what was read
   pub behind-made : {B : Type 0} (f : A → B) (o : Option (A × Text)) → behind (o >>= (λ p. some (f (p .0), p .1))) ≡ behind o

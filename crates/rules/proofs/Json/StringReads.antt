@@ -10,7 +10,8 @@ use lib.ListN.{length}
 use Rattle.rules.specs.Bytes.{Bytes, ascii, _>>=_, guard, among}
 use Rattle.rules.specs.Json.Text.{Text, Reader, Taker, spelled, byte, byteIn, word}
 use Rattle.rules.specs.Json.Strings.{tails, leads, isPlain, multibyte, unescaped, hexDigit, hexDigits, codeUnit, Surrogate, high, low, neither, surrogate, paired, codePoint, utf8, shortEscape, escaped, char, chars, string}
-use Rattle.rules.proofs.Json.Suffix.{Reads, EachReads, EachTakes, reads-none, reads-byte, reads-after, reads-as, reads-made, reads-then, reads-least, some-same, never, by, bound, taken, answered-byte, answered-none, answered-after, answered-as}
+use Rattle.rules.proofs.Tests.{apart, by}
+use Rattle.rules.proofs.Json.Suffix.{Reads, EachReads, EachTakes, reads-none, reads-byte, reads-after, reads-as, reads-made, reads-then, reads-least, some-same, bound, taken, answered-byte, answered-none, answered-after, answered-as}
 use Rattle.rules.proofs.Json.Bounds.{Within, EachWithin, within-reads, within-bound, within-taken, within-last, within-turn}
 use Rattle.rules.proofs.Json.TextReads.{byte-same, byte-other, byte-reads, byteIn-reads, word-reads, spelled-reads}
 
@@ -38,7 +39,7 @@ led (some p) t = byteIn (p .0) (p .1) t >>= tails (p .2)
 
 led-reads : (o : Option (ℕ × ℕ × ℕ)) → EachReads 1 (led o)
 unfolding led
-led-reads none t r e = never e
+led-reads none t r e = apart (cc)
 led-reads (some p) t r e =
     bound (byteIn (p .0) (p .1) t) _ e (λ u h k.
     reads-least (omega arith) (reads-then {both = led (some p)} (byteIn-reads (p .0) (p .1) t u h) (tails-reads (p .2) u r k) (λ w x s. rw s)))
@@ -53,12 +54,12 @@ multibyte-led b t = go (leads b)
 
 pub multibyte-reads : EachReads 2 multibyte
 unfolding multibyte
-multibyte-reads [] r e = never e
+multibyte-reads [] r e = apart (cc)
 multibyte-reads (b ∷ t) r e = answered-after {other = led (leads b)} e (multibyte-led b) (led-reads (leads b) t r)
 
 pub unescaped-reads : EachReads 1 unescaped
 unfolding unescaped
-unescaped-reads [] r e = never e
+unescaped-reads [] r e = apart (cc)
 unescaped-reads (b ∷ t) r e = by (isPlain b)
     (λ p. answered-byte e (λ w. rw (unescaped, p)))
     (λ p. answered-as {other = multibyte} e (λ w. rw (unescaped, p)) (λ q. reads-least (omega arith) (multibyte-reads (b ∷ t) r q)))
@@ -76,7 +77,7 @@ hexDigits-none n sofar b t e = rw (hexDigits, e)
 pub hexDigits-reads : (n sofar : ℕ) → EachTakes n (hexDigits n sofar)
 unfolding hexDigits
 hexDigits-reads zero sofar x t r e = taken e (reads-none (λ w. refl))
-hexDigits-reads (suc n) sofar x [] r e = never e
+hexDigits-reads (suc n) sofar x [] r e = apart (cc)
 hexDigits-reads (suc n) sofar x (b ∷ t) r e = bound (hexDigit b) _ e (λ d p q.
     reads-after (λ w. hexDigits-more n sofar b w p) (hexDigits-reads n (sofar * 16 + d) x t r q))
 
@@ -91,7 +92,7 @@ lowUnit u t = codeUnit t >>= (λ p. guard (among 0xDC00 0xDFFF (p .0)) >>= (λ _
 pub paired-reads : (s : Surrogate) (u : ℕ) → EachTakes 0 (paired s u)
 unfolding paired lowUnit
 paired-reads neither u x t r e = taken e (reads-none (λ w. refl))
-paired-reads low u x t r e = never e
+paired-reads low u x t r e = apart (cc)
 paired-reads high u x t r e =
     bound (word (ascii "\\u") t) _ e (λ t1 e1 h1.
     bound (codeUnit t1) _ h1 (λ p e2 h2.
@@ -109,7 +110,7 @@ codePoint-reads x t r e =
 
 pub escaped-reads : EachTakes 1 escaped
 unfolding escaped
-escaped-reads x [] r e = never e
+escaped-reads x [] r e = apart (cc)
 escaped-reads x (b ∷ t) r e = by (eqb b 0x75)
     (λ p. reads-least (omega arith) (answered-after {other = codePoint} e (λ w. rw (escaped, p)) (codePoint-reads x t r)))
     (λ p. let f : (w : Text) → escaped (b ∷ w) ≡ (shortEscape b >>= (λ c. some (c, w))) = λ w. rw (escaped, p) in
@@ -127,7 +128,7 @@ meant-reads x t r e = bound (escaped t) _ e (λ p h k. taken k (reads-made (λ w
 
 pub char-reads : EachTakes 1 char
 unfolding char meant
-char-reads x [] r e = never e
+char-reads x [] r e = apart (cc)
 char-reads x (b ∷ t) r e = by (eqb b 0x5C)
     (λ p. reads-least (omega arith) (answered-after {other = meant} e (λ w. rw (char, p)) (meant-reads x t r)))
     (λ p. answered-as {other = spelled unescaped} e (λ w. rw (char, p)) (spelled-reads unescaped-reads x (b ∷ t) r))
@@ -159,22 +160,22 @@ inner-char b p w = rw (inner, p)
 
 inner-turn : (n : ℕ) (w s v : Text) (x xs : Bytes) → inner w ≡ some (x, s) → chars n s ≡ some (xs, v) → chars (suc n) w ≡ some (x ++ xs, v)
 unfolding inner
-inner-turn n [] s v x xs e f = never e
+inner-turn n [] s v x xs e f = apart (cc)
 inner-turn n (b ∷ w) s v x xs e f = by (eqb b 0x22)
     (λ p. answered-none e (rw (inner, p)))
     (λ p. chars-char n b w p (sym (inner-char b p w) ∙ e) ∙ ap (λ o. o >>= (λ q. some (x ++ q .0, q .1))) f)
 
 quote-turn : (n : ℕ) (w v : Text) → byte 0x22 w ≡ some v → chars (suc n) w ≡ some ([], v)
 unfolding byte
-quote-turn n [] v e = never e
+quote-turn n [] v e = apart (cc)
 quote-turn n (b ∷ w) v e = by (eqb b 0x22)
     (λ p. chars-quote n b w p ∙ ap (λ (u : Text). some ([], u)) (some-same (sym (byte-same 0x22 b w p) ∙ e)))
     (λ p. answered-none e (byte-other 0x22 b w p))
 
 pub chars-within : EachWithin chars
 unfolding chars
-chars-within zero xs t r e = never e
-chars-within (suc n) xs [] r e = never e
+chars-within zero xs t r e = apart (cc)
+chars-within (suc n) xs [] r e = apart (cc)
 chars-within (suc n) xs (b ∷ t) r e = go (chars-within n) (eqb b 0x22) refl (char (b ∷ t)) refl
   where
     go : ((y : Bytes) (w u : Text) → chars n w ≡ some (y, u) → Within chars (λ v. some (y, v)) w u)

@@ -1,7 +1,6 @@
 -- A reader leaves a suffix of its text, and looks no further than one byte behind what it reads.
 -- Both are one relation, `Reads`, so that each reader is taken apart once.
 use mathlib.Core.Path.{_≡_, refl, sym, ap, _∙_, subst}
-use mathlib.Core.Bool.{Bool, true, false}
 use mathlib.Core.Option.{Option, none, some}
 use mathlib.Core.List.{[], _∷_, _++_, append-assoc}
 use Prim.Native.Nat.{ℕ, suc, _+_, _-_, _≤_}
@@ -10,6 +9,7 @@ use lib.ListN.{length, take, drop, length-append}
 use lib.Seq.{take-at, drop-append-seam}
 use Rattle.rules.specs.Bytes.{_>>=_}
 use Rattle.rules.specs.Json.Text.{Text, Reader, Taker}
+use Rattle.rules.proofs.Tests.{apart}
 
 -- ---- what may stand behind a thing in the place of u: nothing, or a text that begins as u does
 
@@ -141,19 +141,9 @@ value-same e = ap (λ p. p .0) (some-same e)
 pub left-same : {A B : Type 0} {p q : A × B} → some p ≡ some q → p .1 ≡ q .1
 left-same e = ap (λ p. p .1) (some-same e)
 
-pub never : {A P : Type 0} {a : A} → none ≡ some a → P
-never e =
-    let z : _≡_ {A = ℕ} 0 1 = cc in
-    absurd (omega arith)
-
--- by a test
-pub by : {P : Type 0} (test : Bool) → (test ≡ true → P) → (test ≡ false → P) → P
-by true f g = f refl
-by false f g = g refl
-
 -- by the answer that another answer was made from
 pub bound : {A B P : Type 0} {b : B} (o : Option A) (f : A → Option B) → (o >>= f) ≡ some b → ((a : A) → o ≡ some a → f a ≡ some b → P) → P
-bound none f e k = never e
+bound none f e k = apart (cc)
 bound (some a) f e k = k a refl e
 
 -- the same answer, written in two ways
@@ -171,7 +161,7 @@ module _ {read : Reader} {b : ℕ} {t r : Text} (e : read (b ∷ t) ≡ some r) 
   answered-byte f = subst (Reads 1 read some (b ∷ t)) (some-same (sym (f t) ∙ e)) (reads-byte t f)
 
 pub answered-none : {A P : Type 0} {o : Option A} {a : A} → o ≡ some a → o ≡ none → P
-answered-none e n = never (sym n ∙ e)
+answered-none e n = apart (cc)
 
 module _ {O : Type 0} {read answer other : Text → O} {least b : ℕ} {t r : Text} (e : read (b ∷ t) ≡ answer r) where
   pub answered-after : ((w : Text) → read (b ∷ w) ≡ other w) → (other t ≡ answer r → Reads least other answer t r) → Reads (suc least) read answer (b ∷ t) r

@@ -11,10 +11,23 @@ use lib.ListN.{length, take, length-append}
 use lib.Seq.{take-at}
 use Rattle.rules.specs.Bytes.{Bytes, among}
 use Rattle.rules.specs.Json.Text.{Text, Reader, spelled, isWs, ws, byte, byteIn, word}
-use Rattle.rules.proofs.Json.Suffix.{Reads, EachReads, EachTakes, reads-passed, reads-none, reads-end, reads-here, reads-after, reads-least, some-same, value-same, left-same, never, by, bound, taken, answered-byte, answered-none, answered-after}
+use Rattle.rules.proofs.Tests.{apart, by}
+use Rattle.rules.proofs.Json.Suffix.{Reads, EachReads, EachTakes, reads-passed, reads-none, reads-end, reads-here, reads-after, reads-least, some-same, value-same, left-same, bound, taken, answered-byte, answered-none, answered-after}
 
 abbrev pub all : Text → Text
 all t = t
+
+-- ---- the bytes that a test passes, one after another
+
+module _ {read : Text → Text} (test : ℕ → Bool) (end : read [] ≡ []) (more : (b : ℕ) (t : Text) → test b ≡ true → read (b ∷ t) ≡ read t)
+    (stop : (b : ℕ) (t : Text) → test b ≡ false → read (b ∷ t) ≡ b ∷ t) where
+  pub passes-reads : (t : Text) → Reads 0 read all t (read t)
+  passes-reads [] = subst (Reads 0 read all []) (sym end) (reads-end end)
+  passes-reads (b ∷ t) = go (passes-reads t) (test b) refl
+    where
+      go : Reads 0 read all t (read t) → (passed : Bool) → test b ≡ passed → Reads 0 read all (b ∷ t) (read (b ∷ t))
+      go ih true e = subst (Reads 0 read all (b ∷ t)) (sym (more b t e)) (reads-least (omega arith) (reads-after (λ w. more b w e) ih))
+      go ih false e = subst (Reads 0 read all (b ∷ t)) (sym (stop b t e)) (reads-here t end (λ w. stop b w e))
 
 -- ---- white space
 
@@ -28,12 +41,7 @@ ws-stop b t e = rw (ws, e)
 
 pub ws-reads : (t : Text) → Reads 0 ws all t (ws t)
 unfolding ws
-ws-reads [] = reads-end refl
-ws-reads (b ∷ t) = go (ws-reads t) (isWs b) refl
-  where
-    go : Reads 0 ws all t (ws t) → (test : Bool) → isWs b ≡ test → Reads 0 ws all (b ∷ t) (ws (b ∷ t))
-    go ih true e = subst (Reads 0 ws all (b ∷ t)) (sym (ws-more b t e)) (reads-least (omega arith) (reads-after (λ w. ws-more b w e) ih))
-    go ih false e = subst (Reads 0 ws all (b ∷ t)) (sym (ws-stop b t e)) (reads-here t refl (λ w. ws-stop b w e))
+ws-reads = passes-reads isWs refl ws-more ws-stop
 
 -- ---- bytes
 
@@ -47,14 +55,14 @@ byte-other c b t e = rw (byte, e)
 
 pub byte-reads : (c : ℕ) → EachReads 1 (byte c)
 unfolding byte
-byte-reads c [] r e = never e
+byte-reads c [] r e = apart (cc)
 byte-reads c (b ∷ t) r e = by (eqb b c)
     (λ p. answered-byte e (λ w. byte-same c b w p))
     (λ p. answered-none e (byte-other c b t p))
 
 pub byteIn-reads : (lo hi : ℕ) → EachReads 1 (byteIn lo hi)
 unfolding byteIn
-byteIn-reads lo hi [] r e = never e
+byteIn-reads lo hi [] r e = apart (cc)
 byteIn-reads lo hi (b ∷ t) r e = by (among lo hi b)
     (λ p. answered-byte e (λ w. rw (byteIn, p)))
     (λ p. answered-none e (rw (byteIn, p)))
@@ -72,7 +80,7 @@ word-other c w b t e = rw (word, e)
 pub word-reads : (w : Bytes) → EachReads (length w) (word w)
 unfolding word
 word-reads [] t r e = subst (Reads 0 (word []) some t) (some-same e) (reads-none (λ v. refl))
-word-reads (c ∷ w) [] r e = never e
+word-reads (c ∷ w) [] r e = apart (cc)
 word-reads (c ∷ w) (b ∷ t) r e = go (word-reads w t r) (eqb b c) refl
   where
     go : (word w t ≡ some r → Reads (length w) (word w) some t r) → (test : Bool) → eqb b c ≡ test → Reads (suc (length w)) (word (c ∷ w)) some (b ∷ t) r
@@ -83,7 +91,7 @@ word-reads (c ∷ w) (b ∷ t) r e = go (word-reads w t r) (eqb b c) refl
 pub word-text : (w t r : Text) → word w t ≡ some r → t ≡ w ++ r
 unfolding word
 word-text [] t r e = some-same e
-word-text (c ∷ w) [] r e = never e
+word-text (c ∷ w) [] r e = apart (cc)
 word-text (c ∷ w) (b ∷ t) r e = go (word-text w t r) (eqb b c) refl
   where
     go : (word w t ≡ some r → t ≡ w ++ r) → (test : Bool) → eqb b c ≡ test → b ∷ t ≡ c ∷ (w ++ r)

@@ -11,7 +11,8 @@ use Rattle.rules.specs.Json.Text.{Text, Reader, Taker, behind, spelled, 
 use Rattle.rules.specs.Json.Numbers.{number}
 use Rattle.rules.specs.Json.Strings.{string}
 use Rattle.rules.specs.Json.Values.{Behind, closed, onward, neither, openedBy, opening, closedBy, closing, andThen, afterItem, items, itemsBehind, list, Member, colon, member, contents, elements, scalar, valueBy, value}
-use Rattle.rules.proofs.Json.Suffix.{Reads, EachReads, EachTakes, reads-byte, reads-after, reads-made, reads-then, reads-least, some-same, never, by, bound, taken, answered-after, answered-as}
+use Rattle.rules.proofs.Tests.{apart, by}
+use Rattle.rules.proofs.Json.Suffix.{Reads, EachReads, EachTakes, reads-byte, reads-after, reads-made, reads-then, reads-least, some-same, bound, taken, answered-after, answered-as}
 use Rattle.rules.proofs.Json.Bounds.{Within, EachWithin, within-reads, within-bound, within-taken, within-last, within-turn}
 use Rattle.rules.proofs.Json.TextReads.{ws-reads, byte-reads, word-reads, spelled-reads}
 use Rattle.rules.proofs.Json.NumberReads.{number-reads}
@@ -112,7 +113,7 @@ module _ {A : Type 0} (item : Taker A) (close : ℕ) where
 
     pub items-within : EachWithin (items item close)
     unfolding items afterItem andThen
-    items-within zero xs t r e = never e
+    items-within zero xs t r e = apart (cc)
     items-within (suc n) xs t r e = bound (item t) _ e (λ p f g. go (items-within n) p f (closing close (p .1)) refl g)
       where
         go : ((ys : List A) (w u : Text) → items item close n w ≡ some (ys, u) → Within (items item close) (λ v. some (ys, v)) w u)
@@ -123,11 +124,11 @@ module _ {A : Type 0} (item : Taker A) (close : ℕ) where
         go ih p f (onward u) h g = one (items item close n u) refl g
           where
             one : (o : Option (List A × Text)) → items item close n u ≡ o → andThen (p .0) o ≡ some (xs, r) → Within (items item close) (λ v. some (xs, v)) t r
-            one none i k = never k
+            one none i k = apart (cc)
             one (some q) i k = within-taken k
                 (within-turn (itemThen-reads onward (p .0) t (p .1) u f (closing-onward close (p .1) u h)) (ih (q .0) u (q .1) i)
                 (λ m w s v a b. items-turn m w (p .0) (onward s) a ∙ ap (andThen (p .0)) b))
-        go ih p f neither h g = never g
+        go ih p f neither h g = apart (cc)
 
     -- items, with any bound from the number of bytes on
     pub items-bound : (t : Text) (n m : ℕ) → length t ≤ n → length t ≤ m → items item close n t ≡ items item close m t
@@ -135,7 +136,7 @@ module _ {A : Type 0} (item : Taker A) (close : ℕ) where
 
     listBy-reads : EachTakes 1 (λ t. itemsBehind item close (openedBy close t))
     unfolding itemsBehind openedBy
-    listBy-reads xs [] r e = never e
+    listBy-reads xs [] r e = apart (cc)
     listBy-reads xs (b ∷ t) r e = by (eqb b close)
         (λ p. let f : (w : Text) → itemsBehind item close (openedBy close (b ∷ w)) ≡ some ([], w) = λ w. rw (openedBy, p) in
         taken (sym (f t) ∙ e) (reads-byte t f))
@@ -195,12 +196,12 @@ pub behind-reads : {A : Type 0} {least : ℕ} {take : Taker A} → EachTakes lea
 behind-reads {A} {least} {take} each t r e = go (take t) refl e
   where
     go : (o : Option (A × Text)) → take t ≡ o → behind o ≡ some r → Reads least (λ t. behind (take t)) some t r
-    go none p q = never q
+    go none p q = apart (cc)
     go (some x) p q = subst (Reads least (λ t. behind (take t)) some t) (some-same q) (reads-made (λ w u s. ap behind s) (each (x .0) t (x .1) p))
 
 pub scalar-reads : EachReads 1 scalar
 unfolding scalar
-scalar-reads [] r e = never e
+scalar-reads [] r e = apart (cc)
 scalar-reads (b ∷ t) r e =
     by (eqb b 0x22) (λ p. reads-least (omega arith) (answered-after {other = λ w. behind (string w)} e (λ w. rw (scalar, p)) (behind-reads string-reads t r))) (λ p.
     by (eqb b 0x66) (λ q. reads-least (omega arith) (answered-after {other = word (ascii "alse")} e (λ w. rw (scalar, p, q)) (word-reads (ascii "alse") t r))) (λ q.
@@ -210,7 +211,7 @@ scalar-reads (b ∷ t) r e =
 
 valueBy-reads : (object array : Reader) → EachReads 0 object → EachReads 0 array → EachReads 1 (valueBy object array)
 unfolding valueBy
-valueBy-reads object array o a [] r e = never e
+valueBy-reads object array o a [] r e = apart (cc)
 valueBy-reads object array o a (b ∷ t) r e =
     by (eqb b 0x7B) (λ p. answered-after {other = object} e (λ w. rw (valueBy, p)) (o t r)) (λ p.
     by (eqb b 0x5B) (λ q. answered-after {other = array} e (λ w. rw (valueBy, p, q)) (a t r)) (λ q.
@@ -218,7 +219,7 @@ valueBy-reads object array o a (b ∷ t) r e =
 
 pub value-reads : (d : ℕ) → EachReads 1 (value d)
 unfolding value
-value-reads zero = valueBy-reads (λ t. none) (λ t. none) (λ t r e. never e) (λ t r e. never e)
+value-reads zero = valueBy-reads (λ t. none) (λ t. none) (λ t r e. apart (cc)) (λ t r e. apart (cc))
 value-reads (suc d) = valueBy-reads (λ t. behind (contents (value d) t)) (λ t. behind (elements (value d) t))
     (λ t r e. reads-least (omega arith) (behind-reads (contents-reads (value-reads d)) t r e))
     (λ t r e. reads-least (omega arith) (behind-reads (elements-reads (value-reads d)) t r e))
