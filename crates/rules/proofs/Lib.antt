@@ -14,3 +14,4 @@ pub mod Sameness
 pub mod Agreement
 pub mod TotalOrders
 pub mod Dropping
+pub mod Rooms

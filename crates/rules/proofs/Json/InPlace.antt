@@ -1,7 +1,7 @@
 -- The text of a value, by its first byte: what the paper asks of the text is answered in its place, so that code reads it once.
 use mathlib.Core.Path.{_≡_, refl, sym, ap, _∙_, subst}
 use mathlib.Core.Bool.{true, false, true≢false}
-use mathlib.Core.Option.{none, some}
+use mathlib.Core.Option.{Option, none, some}
 use mathlib.Core.List.{List, _∷_, _++_}
 use Prim.Native.Nat.{ℕ, suc, _+_, _-_, _≤_}
 use native.Mathlib.Omega.{arith}
@@ -11,12 +11,12 @@ use lib.ListN.{length, take, length-append}
 use lib.Seq.{take-at}
 use Rattle.rules.specs.Bytes.{Bytes, ascii, first, among, same, isEmpty}
 use Rattle.rules.specs.Numbers.{isDigit}
-use Rattle.rules.specs.Json.Text.{Text, behind, spelled, isWs, ws, byte, word}
+use Rattle.rules.specs.Json.Text.{Text, Taker, behind, spelled, isWs, ws, byte, word}
 use Rattle.rules.specs.Json.Numbers.{digits1, minus, int, number, whole}
 use Rattle.rules.specs.Json.Strings.{string}
 use Rattle.rules.specs.Json.Values.{Member, contents, elements, scalar, value, objectOf, arrayOf}
 use Rattle.rules.specs.Json.Fields.{isNull, stringOf, boolOf}
-use Rattle.rules.proofs.Tests.{by}
+use Rattle.rules.proofs.Tests.{apart, by}
 use Rattle.rules.proofs.Json.Suffix.{reads-fewer, answered-none}
 use Rattle.rules.proofs.Json.TextReads.{before, ws-stop, byte-other, spelled-left, spelled-text, word-text}
 use Rattle.rules.proofs.Json.ValueReads.{value-reads}
@@ -54,8 +54,7 @@ ws-cases P b e p q r s =
     by (eqb b 0x0A) (λ j. subst P (sym (eqb-true b 0x0A j)) r) (λ j.
     by (eqb b 0x0D) (λ k. subst P (sym (eqb-true b 0x0D k)) s) (λ k.
     let z : isWs b ≡ false = rw (isWs, h, i, j, k) in
-    let c : _≡_ {A = ℕ} 0 1 = cc (e, z) in
-    absurd (omega arith)))))
+    apart (cc (e, z))))))
 
 pub value-ws : (d b : ℕ) (t : Text) → isWs b ≡ true → value d (b ∷ t) ≡ none
 unfolding scalar number minus int digits1 isDigit among
@@ -71,6 +70,20 @@ value-here d b t y e = by (isWs b)
     (λ p. answered-none e (value-ws d b t p))
     (λ p. ws-stop b y p)
 
+-- ---- what the text of a value holds, by a reader that begins behind its first byte
+
+module _ {A : Type 0} (of : Text → Option A) (d b : ℕ) (t x r : Text) (e : spelled (value d) (b ∷ t) ≡ some (x, r)) where
+  inside-text : (inside : Taker A) → value d (b ∷ t) ≡ behind (inside t) → ((a : A) → inside t ≡ some (a, r) → of (b ∷ before t r) ≡ some a)
+      → (a : A) × (inside t ≡ some (a, r)) × (of x ≡ some a)
+  inside-text inside v h =
+      let (a, f) = behind-some (inside t) (sym v ∙ spelled-left (value d) (b ∷ t) e) in
+      (a, f, ap of (value-text d b t x r e) ∙ h a f)
+
+  -- it begins with another byte than c
+  other-text : (c : ℕ) → ((u : Text) → byte c (ws u) ≡ none → of u ≡ none) → (b ≡ c → ⊥) → of x ≡ none
+  other-text c h n = ap of (value-text d b t x r e) ∙ h (b ∷ before t r)
+      (ap (byte c) (value-here d b t (before t r) (spelled-left (value d) (b ∷ t) e)) ∙ byte-other c b (before t r) (ne-eqb b c n))
+
 -- ---- objects
 
 pub objectOf-alone : (d : ℕ) (ms : List Member) (t r : Text) → contents (value d) t ≡ some (ms, r) → objectOf d (0x7B ∷ before t r) ≡ some ms
@@ -79,13 +92,10 @@ objectOf-alone d ms t r e = objectOf-contents d (0x7B ∷ before t r) refl ∙ a
 
 pub object-text : (d : ℕ) (t x r : Text) → spelled (value (suc d)) (0x7B ∷ t) ≡ some (x, r)
     → (ms : List Member) × (contents (value d) t ≡ some (ms, r)) × (objectOf d x ≡ some ms)
-object-text d t x r e =
-    let (ms, f) = behind-some (contents (value d) t) (sym (value-object (suc d) d t refl) ∙ spelled-left (value (suc d)) (0x7B ∷ t) e) in
-    (ms, f, ap (objectOf d) (value-text (suc d) 0x7B t x r e) ∙ objectOf-alone d ms t r f)
+object-text d t x r e = inside-text (objectOf d) (suc d) 0x7B t x r e (contents (value d)) (value-object (suc d) d t refl) (λ ms f. objectOf-alone d ms t r f)
 
 pub objectOf-other : (c d b : ℕ) (t x r : Text) → (b ≡ 0x7B → ⊥) → spelled (value d) (b ∷ t) ≡ some (x, r) → objectOf c x ≡ none
-objectOf-other c d b t x r n e = ap (objectOf c) (value-text d b t x r e) ∙ objectOf-none c (b ∷ before t r)
-    (ap (byte 0x7B) (value-here d b t (before t r) (spelled-left (value d) (b ∷ t) e)) ∙ byte-other 0x7B b (before t r) (ne-eqb b 0x7B n))
+objectOf-other c d b t x r n e = other-text (objectOf c) d b t x r e 0x7B (objectOf-none c) n
 
 -- ---- arrays
 
@@ -95,13 +105,10 @@ arrayOf-alone d vs t r e = arrayOf-elements d (0x5B ∷ before t r) refl ∙ alo
 
 pub array-text : (d : ℕ) (t x r : Text) → spelled (value (suc d)) (0x5B ∷ t) ≡ some (x, r)
     → (vs : List Text) × (elements (value d) t ≡ some (vs, r)) × (arrayOf d x ≡ some vs)
-array-text d t x r e =
-    let (vs, f) = behind-some (elements (value d) t) (sym (value-array (suc d) d t refl) ∙ spelled-left (value (suc d)) (0x5B ∷ t) e) in
-    (vs, f, ap (arrayOf d) (value-text (suc d) 0x5B t x r e) ∙ arrayOf-alone d vs t r f)
+array-text d t x r e = inside-text (arrayOf d) (suc d) 0x5B t x r e (elements (value d)) (value-array (suc d) d t refl) (λ vs f. arrayOf-alone d vs t r f)
 
 pub arrayOf-other : (c d b : ℕ) (t x r : Text) → (b ≡ 0x5B → ⊥) → spelled (value d) (b ∷ t) ≡ some (x, r) → arrayOf c x ≡ none
-arrayOf-other c d b t x r n e = ap (arrayOf c) (value-text d b t x r e) ∙ arrayOf-none c (b ∷ before t r)
-    (ap (byte 0x5B) (value-here d b t (before t r) (spelled-left (value d) (b ∷ t) e)) ∙ byte-other 0x5B b (before t r) (ne-eqb b 0x5B n))
+arrayOf-other c d b t x r n e = other-text (arrayOf c) d b t x r e 0x5B (arrayOf-none c) n
 
 -- ---- strings
 
@@ -116,9 +123,7 @@ stringOf-other b y n = rw (byte-other 0x22 b y (ne-eqb b 0x22 n))
 pub string-text : (d : ℕ) (t x r : Text) → spelled (value d) (0x22 ∷ t) ≡ some (x, r)
     → (s : Bytes) × (string t ≡ some (s, r)) × (stringOf x ≡ some s)
 string-text d t x r e =
-    let left : behind (string t) ≡ some r = sym (value-scalar d 0x22 t (λ h. omega arith) (λ h. omega arith) ∙ scalar-string t) ∙ spelled-left (value d) (0x22 ∷ t) e in
-    let (s, f) = behind-some (string t) left in
-    (s, f, ap stringOf (value-text d 0x22 t x r e) ∙ stringOf-alone s t r f)
+    inside-text stringOf d 0x22 t x r e string (value-scalar d 0x22 t (λ h. omega arith) (λ h. omega arith) ∙ scalar-string t) (λ s f. stringOf-alone s t r f)
 
 -- ---- null, true and false
 
