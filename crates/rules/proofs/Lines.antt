@@ -1,20 +1,21 @@
 -- The lines of a text, one by one: up to the first 0x0A, or the end, and then the lines of the rest.
 use mathlib.Core.Path.{_≡_, refl, sym, ap, _∙_}
 use mathlib.Core.Logic.{_⊎_, inl, inr}
-use mathlib.Core.Bool.{Bool, true, false}
+use mathlib.Core.Bool.{true}
 use mathlib.Core.List.{List, [], _∷_, _++_}
 use Prim.Native.Nat.{ℕ, _+_, _-_, _≤_, _<_}
 use native.Mathlib.Nat.{not-suc-le-zero, eq-or-lt-of-le}
 use native.Mathlib.Omega.{arith}
 use lib.Dec.{eqb}
 use lib.ListN.{length, getD}
-use borrow.Author.Tests.{eqb-false, eq-eqb, ne-eqb}
+use borrow.Author.Tests.{eqb-true, eqb-false, eq-eqb, ne-eqb}
 use Rattle.facts.specs.Lists.{All}
 use Rattle.facts.specs.Parts.{part}
 use Rattle.facts.proofs.Lists.{All-of}
 use Rattle.facts.proofs.Parts.{length-part, part-none, getD-part, part-cons, part-split}
 use Rattle.rules.specs.Bytes.{Bytes}
 use Rattle.rules.specs.Lines.{onto, lines, anyObject}
+use Rattle.rules.proofs.Tests.{by}
 
 abbrev pub NoFeed : Bytes → Type 0
 NoFeed = All (λ (b : ℕ). b ≡ 0x0A → ⊥)
@@ -55,11 +56,10 @@ onto-no-feed b (l ∷ ls) n h = ((n, h .0), h .1)
 pub lines-no-feed : (s : Bytes) → All NoFeed (lines s)
 unfolding lines All
 lines-no-feed [] = tt
-lines-no-feed (b ∷ bs) = go (lines-no-feed bs) (eqb b 0x0A) refl
-  where
-    go : All NoFeed (lines bs) → (t : Bool) → eqb b 0x0A ≡ t → All NoFeed (elim t [ true ↦ [] ∷ lines bs | false ↦ onto b (lines bs) ])
-    go ih true e = (tt, ih)
-    go ih false e = onto-no-feed b (lines bs) (eqb-false b 0x0A e) ih
+lines-no-feed (b ∷ bs) =
+    by (eqb b 0x0A) (λ e. rw (lines-feed b bs (eqb-true b 0x0A e)) (tt, lines-no-feed bs)) (λ e.
+    let n : b ≡ 0x0A → ⊥ = eqb-false b 0x0A e in
+    rw (lines-onto b bs n) (onto-no-feed b (lines bs) n (lines-no-feed bs)))
 
 -- ---- the first line from a on: e is the first place of 0x0A, or the end
 

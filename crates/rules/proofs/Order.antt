@@ -12,7 +12,7 @@ use lib.ListN.{length, take, drop, getD, drop-of-length-le}
 use lib.Seq.{drop-cons}
 use borrow.Author.Tests.{ltb-true, ltb-false, leb-true, lt-ltb, le-ltb, le-leb, eqb-true, eq-eqb, ne-eqb}
 use Rattle.rules.specs.Bytes.{Bytes, same, begins, among, Order, less, equal, more, order, isEqual}
-use Rattle.rules.proofs.Tests.{apart, true-not-false, false-of, and-left, and-right, and-both}
+use Rattle.rules.proofs.Tests.{apart, by, true-not-false, false-of, and-left, and-right, and-both}
 
 -- ---- numbers
 
@@ -80,11 +80,7 @@ pub same-false : (x y : Bytes) → same x y ≡ false → x ≡ y → ⊥
 same-false x y f e = true-not-false (eq-same e) f
 
 pub same-or-not : (x y : Bytes) → (x ≡ y) ⊎ (x ≡ y → ⊥)
-same-or-not x y = go (same x y) refl
-  where
-    go : (b : Bool) → same x y ≡ b → (x ≡ y) ⊎ (x ≡ y → ⊥)
-    go true e = inl (same-true x y e)
-    go false e = inr (same-false x y e)
+same-or-not x y = by (same x y) (λ e. inl (same-true x y e)) (λ e. inr (same-false x y e))
 
 -- ---- begins
 

@@ -26,30 +26,14 @@ closed-same e = cc
 onward-same : {t u : Text} → onward t ≡ onward u → t ≡ u
 onward-same e = cc
 
--- two answers of different kinds
-clash : {P : Type 0} {t u : Text} → closed t ≡ onward u → P
-clash e =
-    let z : _≡_ {A = ℕ} 0 1 = cc in
-    absurd (omega arith)
-
-neither-closed : {P : Type 0} {u : Text} → neither ≡ closed u → P
-neither-closed e =
-    let z : _≡_ {A = ℕ} 0 1 = cc in
-    absurd (omega arith)
-
-neither-onward : {P : Type 0} {u : Text} → neither ≡ onward u → P
-neither-onward e =
-    let z : _≡_ {A = ℕ} 0 1 = cc in
-    absurd (omega arith)
-
 module _ (close : ℕ) where
   openedBy-closed : (t r : Text) → openedBy close t ≡ closed r → Reads 1 (openedBy close) closed t r
   unfolding openedBy
-  openedBy-closed [] r e = neither-closed e
+  openedBy-closed [] r e = apart (cc)
   openedBy-closed (b ∷ t) r e = by (eqb b close)
       (λ p. let f : (w : Text) → openedBy close (b ∷ w) ≡ closed w = λ w. rw (openedBy, p) in
       subst (Reads 1 (openedBy close) closed (b ∷ t)) (closed-same (sym (f t) ∙ e)) (reads-byte t f))
-      (λ p. let f : openedBy close (b ∷ t) ≡ onward (b ∷ t) = rw (openedBy, p) in clash (sym e ∙ f))
+      (λ p. let f : openedBy close (b ∷ t) ≡ onward (b ∷ t) = rw (openedBy, p) in apart (cc))
 
   pub opening-closed : (t r : Text) → opening close t ≡ closed r → Reads 1 (opening close) closed t r
   unfolding opening
@@ -57,13 +41,13 @@ module _ (close : ℕ) where
 
   closedBy-closed : (t r : Text) → closedBy close t ≡ closed r → Reads 1 (closedBy close) closed t r
   unfolding closedBy
-  closedBy-closed [] r e = neither-closed e
+  closedBy-closed [] r e = apart (cc)
   closedBy-closed (b ∷ t) r e = by (eqb b close)
       (λ p. let f : (w : Text) → closedBy close (b ∷ w) ≡ closed w = λ w. rw (closedBy, p) in
       subst (Reads 1 (closedBy close) closed (b ∷ t)) (closed-same (sym (f t) ∙ e)) (reads-byte t f))
       (λ p. by (eqb b 0x2C)
-      (λ q. let f : closedBy close (b ∷ t) ≡ onward (ws t) = rw (closedBy, p, q) in clash (sym e ∙ f))
-      (λ q. let f : closedBy close (b ∷ t) ≡ neither = rw (closedBy, p, q) in neither-closed (sym f ∙ e)))
+      (λ q. let f : closedBy close (b ∷ t) ≡ onward (ws t) = rw (closedBy, p, q) in apart (cc))
+      (λ q. let f : closedBy close (b ∷ t) ≡ neither = rw (closedBy, p, q) in apart (cc)))
 
   pub closing-closed : (t r : Text) → closing close t ≡ closed r → Reads 1 (closing close) closed t r
   unfolding closing
@@ -71,13 +55,13 @@ module _ (close : ℕ) where
 
   closedBy-onward : (t r : Text) → closedBy close t ≡ onward r → Reads 1 (closedBy close) onward t r
   unfolding closedBy
-  closedBy-onward [] r e = neither-onward e
+  closedBy-onward [] r e = apart (cc)
   closedBy-onward (b ∷ t) r e = by (eqb b close)
-      (λ p. let f : closedBy close (b ∷ t) ≡ closed t = rw (closedBy, p) in clash (sym f ∙ e))
+      (λ p. let f : closedBy close (b ∷ t) ≡ closed t = rw (closedBy, p) in apart (cc))
       (λ p. by (eqb b 0x2C)
       (λ q. let f : (w : Text) → closedBy close (b ∷ w) ≡ onward (ws w) = λ w. rw (closedBy, p, q) in
       subst (Reads 1 (closedBy close) onward (b ∷ t)) (onward-same (sym (f t) ∙ e)) (reads-after f (reads-made (λ w v s. ap onward s) (ws-reads t))))
-      (λ q. let f : closedBy close (b ∷ t) ≡ neither = rw (closedBy, p, q) in neither-onward (sym f ∙ e)))
+      (λ q. let f : closedBy close (b ∷ t) ≡ neither = rw (closedBy, p, q) in apart (cc)))
 
   pub closing-onward : (t r : Text) → closing close t ≡ onward r → Reads 1 (closing close) onward t r
   unfolding closing
@@ -89,9 +73,9 @@ module _ (close : ℕ) where
   opening-onward t r e = go (ws t) e
     where
       go : (u : Text) → openedBy close u ≡ onward r → r ≡ u
-      go [] f = neither-onward f
+      go [] f = apart (cc)
       go (b ∷ u) f = by (eqb b close)
-          (λ p. let g : openedBy close (b ∷ u) ≡ closed u = rw (openedBy, p) in clash (sym g ∙ f))
+          (λ p. let g : openedBy close (b ∷ u) ≡ closed u = rw (openedBy, p) in apart (cc))
           (λ p. let g : openedBy close (b ∷ u) ≡ onward (b ∷ u) = rw (openedBy, p) in onward-same (sym f ∙ g))
 
 -- ---- items
