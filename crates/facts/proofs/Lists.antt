@@ -144,6 +144,12 @@ module _ {A B : Type 0} (f : A → B) where
   map-set (x ∷ xs) zero v = refl
   map-set (x ∷ xs) (suc i) v = ap (λ (l : List B). f x ∷ l) (map-set xs i v)
 
+  -- whatever stands for a missing element, on either side
+  pub getD-map : (xs : List A) (i : ℕ) (d : A) (e : B) → i < length xs → getD (map f xs) i e ≡ f (getD xs i d)
+  getD-map [] i d e h = absurd (not-suc-le-zero h)
+  getD-map (x ∷ xs) zero d e h = refl
+  getD-map (x ∷ xs) (suc i) d e h = getD-map xs i d e (le-of-suc-le-suc h)
+
 -- ---- every element
 
 module _ {A : Type 0} (P : A → Type 0) where

@@ -7,13 +7,16 @@ use mathlib.Core.List.{List, [], _∷_, map}
 use Prim.Native.Nat.{ℕ, zero, suc, _+_, _≤_, _<_, zero-le, suc-le-suc}
 use native.Mathlib.Nat.{le-of-suc-le-suc, not-suc-le-zero, eq-or-lt-of-le, suc-add}
 use native.Mathlib.Omega.{arith}
-use lib.ListN.{length, getD, set}
+use lib.Dec.{ltb}
+use lib.ListN.{length, getD, set, length-map}
+use borrow.Author.Tests.{ltb-true, ltb-false}
 use Rattle.facts.specs.Rows.{insertAt, removeAt}
-use Rattle.facts.proofs.Lists.{All-at}
+use Rattle.facts.proofs.Lists.{All-at, getD-map}
 use Rattle.rules.specs.Bytes.{Bytes, less, equal, more, order, holds}
 use Rattle.rules.specs.Live.{put, takeOut}
+use Rattle.rules.proofs.Tests.{by}
 use Rattle.rules.proofs.Order.{order-trans, order-trans-more, order-equal, less-more, more-less, order-less-ne, order-more-ne}
-use Rattle.rules.proofs.Holding.{holds-past}
+use Rattle.rules.proofs.Holding.{nowhere-holds}
 use Rattle.rules.proofs.Ascending.{Ascends, Below, ascends-at}
 use Rattle.rules.proofs.Live.{lookup, put-below, put-over, put-past, takeOut-here, takeOut-past, takeOut-none, lookup-here, lookup-past, lookup-none}
 
@@ -69,14 +72,12 @@ module _ {A : Type 0} (key : A → Bytes) where
 
   pub nowhere-held : (k : Bytes) (xs : List A) (m : ℕ) (d : A) → ((j : ℕ) → j < m → order (key (getD xs j d)) k ≡ less)
       → ((j : ℕ) → m ≤ j → j < length xs → order (key (getD xs j d)) k ≡ more) → holds k (map key xs) ≡ false
-  unfolding holds
-  nowhere-held k [] m d lo hi = refl
-  nowhere-held k (x ∷ xs) zero d lo hi =
-      holds-past k (key x) (map key xs) (λ e. order-more-ne (key x) k (hi zero zero-le (suc-le-suc zero-le)) (sym e))
-      ∙ nowhere-held k xs zero d (λ j h. absurd (not-suc-le-zero h)) (λ j h g. hi (suc j) zero-le (suc-le-suc g))
-  nowhere-held k (x ∷ xs) (suc m) d lo hi =
-      holds-past k (key x) (map key xs) (λ e. order-less-ne (key x) k (lo zero (suc-le-suc zero-le)) (sym e))
-      ∙ nowhere-held k xs m d (λ j h. lo (suc j) (suc-le-suc h)) (λ j h g. hi (suc j) (suc-le-suc h) (suc-le-suc g))
+  nowhere-held k xs m d lo hi = nowhere-holds k (map key xs) (λ i l e. at i (rw length-map at l) e)
+    where
+      at : (i : ℕ) → i < length xs → getD (map key xs) i [] ≡ k → ⊥
+      at i l e =
+          let q : key (getD xs i d) ≡ k = sym (getD-map key xs i d [] l) ∙ e in
+          by (ltb i m) (λ t. order-less-ne (key (getD xs i d)) k (lo i (ltb-true i m t)) q) (λ t. order-more-ne (key (getD xs i d)) k (hi i (ltb-false i m t) l) q)
 
 module _ {A : Type 0} (key : A → Bytes) (k : Bytes) (xs : List A) (d : A) where
   pub bracket-start : Bracket key k xs d 0 (length xs)

@@ -12,6 +12,7 @@ apart z = absurd (omega arith)
 
 -- ---- one test
 
+-- by its two answers
 pub by : {P : Type 0} (test : Bool) → (test ≡ true → P) → (test ≡ false → P) → P
 by true f g = f refl
 by false f g = g refl
