@@ -1,0 +1,6 @@
+-- The shared laws.
+pub mod Lists
+pub mod Parts
+pub mod Moves
+pub mod Rows
+pub mod Tables
