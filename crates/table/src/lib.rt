@@ -89,9 +89,9 @@ pub fn zero_u32(t: &mut [u32], from: usize, to: usize)
     requires { ⌜ (from ≤ to) × (to ≤ length (now t)) ⌝ }
     ensures { λ _. ⌜ now (t .exit) ≡ zeroed from to (now (t .entry)) ⌝ }
 {
-    let mut i = from;
-    while i < to {
-        t[i] = 0;
-        i += 1;
+    let mut at = from;
+    while at < to {
+        t[at] = 0;
+        at += 1;
     }
 }

@@ -7,10 +7,10 @@ use Rattle.table.proofs.zero_u32.Statement.{statement}
 use Rattle.table.proofs.zero_u32.Tie as tie
 
 abbrev Inv-loop : tie.InvT-loop
-Inv-loop t₀ from to i₀ t i = Zeroing from to t₀ t i
+Inv-loop t₀ from to at₀ t at = Zeroing from to t₀ t at
 
 abbrev μ-loop : tie.MeasureT-loop
-μ-loop t₀ from to i₀ t i = to - i
+μ-loop t₀ from to at₀ t at = to - at
 
 loop-holds : tie.Need-loop-holds Inv-loop μ-loop
 loop-holds c = zeroing-start (now (c .args .t)) (c .pre .0)
@@ -21,8 +21,8 @@ mul-t c = search needs
 slice-write-t : tie.Need-slice-write-t Inv-loop μ-loop
 slice-write-t c = search needs
 
-add-i : tie.Need-add-i Inv-loop μ-loop
-add-i c = search needs
+add-at : tie.Need-add-at Inv-loop μ-loop
+add-at c = search needs
 
 loop-less : tie.Need-loop-less Inv-loop μ-loop
 loop-less c = search needs
@@ -45,7 +45,7 @@ zero-u32-spec =
     loop-holds
     mul-t
     slice-write-t
-    add-i
+    add-at
     loop-less
     loop-again
     same-length
