@@ -4,3 +4,4 @@ pub mod Parts
 pub mod Moves
 pub mod Rows
 pub mod Tables
+pub mod Examples

@@ -4,8 +4,8 @@ use Prim.Native.Nat.{ℕ, suc, _+_, _-_, _≤_, _<_}
 use native.Mathlib.Nat.{add-zero, sub-zero}
 use native.Mathlib.Omega.{arith}
 use mathlib.Core.List.{List, [], _∷_, _++_, append-assoc, append-nil}
-use lib.ListN.{length, take, drop, getD, set, replicate, length-append, length-drop, length-replicate, take-append-drop}
-use lib.Seq.{take-take, length-take-le, take-append-le, drop-at, set-at, set-append-seam, take-append-seam, drop-append-seam, append-snoc}
+use lib.ListN.{length, take, drop, getD, set, replicate, length-append, length-drop, length-replicate, take-append-drop, List·getD-append}
+use lib.Seq.{take-all, take-take, getD-drop, length-take-le, take-append-le, drop-at, set-at, set-append-seam, take-append-seam, drop-append-seam, append-snoc}
 use Rattle.facts.specs.Parts.{part}
 use Rattle.facts.specs.Moves.{putAt, stores, movedUp, movedDown, zeroed}
 use Rattle.facts.proofs.Lists.{drop-here, drop-later, take-one-more, drop-past, take-past, set-past, replicate-one-more, getD-behind, getD-before}
@@ -34,6 +34,9 @@ module _ {A : Type 0} (at : ℕ) (vs t : List A) (h : at + length vs ≤ length 
   pub drop-putAt-at : drop at (putAt at vs t) ≡ vs ++ drop (at + length vs) t
   unfolding putAt
   drop-putAt-at = drop-at (take at t) (vs ++ drop (at + length vs) t) at (length-take-le at t (omega arith))
+
+  pub getD-putAt : (i : ℕ) (d : A) → i < length vs → getD (putAt at vs t) (at + i) d ≡ getD vs i d
+  getD-putAt i d l = rw (← getD-drop at (putAt at vs t) i d, drop-putAt-at) (List·getD-append vs (drop (at + length vs) t) d i l)
 
   pub part-putAt : part (putAt at vs t) at (at + length vs) ≡ vs
   unfolding part
@@ -108,12 +111,15 @@ putAt-stores {A} at v vs t h = rw (← putAt-one at v t (omega arith)) (go (v �
         let e : length (us ++ (w ∷ [])) ≡ suc (length us) = simp length-append (omega arith) in
         rw (putAt-snoc at us t w (omega arith), ← e, ← append-snoc us w vs) (go (us ++ (w ∷ [])) vs (omega arith))
 
--- a turn of a loop that writes vs from the first on
+-- a loop that writes vs from the first on: the first i are written
 pub putAt-step : {A : Type 0} (at : ℕ) (vs t : List A) (i : ℕ) (d : A) → i < length vs → at + length vs ≤ length t
     → set (putAt at (take i vs) t) (at + i) (getD vs i d) ≡ putAt at (take (i + 1) vs) t
 putAt-step at vs t i d l h =
     let e : length (take i vs) ≡ i = length-take-le i vs (omega arith) in
     rw (take-one-more vs i d l) (rw e at (putAt-snoc at (take i vs) t (getD vs i d) (omega arith)))
+
+pub putAt-end : {A : Type 0} (at : ℕ) (vs t : List A) (i : ℕ) → length vs ≤ i → putAt at (take i vs) t ≡ putAt at vs t
+putAt-end at vs t i h = rw (take-all i vs h)
 
 -- ---- elements moved up: the loop goes from the last down to the first
 

@@ -20,6 +20,9 @@ module _ {A : Type 0} where
   unfolding part
   part-none s a b h = let e : b - a ≡ 0 = omega arith in rw e
 
+  pub part-empty : (s : List A) (a b : ℕ) → b ≤ length s → part s a b ≡ [] → b ≤ a
+  part-empty s a b h e = omega (arith, length-part s a b h, ap length e)
+
   pub part-front : (s : List A) (b : ℕ) → part s 0 b ≡ take b s
   unfolding part
   part-front s b = rw sub-zero
@@ -30,6 +33,11 @@ module _ {A : Type 0} where
 
   pub part-whole : (s : List A) (b : ℕ) → length s ≤ b → part s 0 b ≡ s
   part-whole s b h = part-behind s 0 b h
+
+  -- by its length
+  pub part-sized : (s : List A) (a n : ℕ) → part s a (a + n) ≡ take n (drop a s)
+  unfolding part
+  part-sized s a n = let e : a + n - a ≡ n = omega arith in rw e
 
   -- taken from the front instead of from behind
   pub slice-part : (s : List A) (a b : ℕ) → slice a b s ≡ part s a b

@@ -5,8 +5,8 @@ use native.Mathlib.Nat.{le-of-suc-le-suc, not-suc-le-zero, suc-mul, zero-mul, ad
 use native.Mathlib.Omega.{arith}
 use mathlib.Core.List.{List, [], _∷_, _++_, map, map-append, append-assoc}
 use lib.ListN.{length, take, drop, getD, length-append, length-drop, take-append-drop}
-use lib.Seq.{take-add, drop-drop, drop-at, length-take-le}
-use Rattle.facts.specs.Rows.{flat, rowsOf, Layout, insertAt, removeAt}
+use lib.Seq.{take-add, drop-cons, drop-drop, drop-at, length-take-le}
+use Rattle.facts.specs.Rows.{flat, rowsOf, Layout, reads, insertAt, removeAt}
 use Rattle.facts.specs.Lists.{All}
 use Rattle.facts.proofs.Lists.{All-append, All-take, All-drop, map-take, map-drop}
 
@@ -22,6 +22,15 @@ pub flat-map : {A B : Type 0} (cells : B → List ℕ) (f : A → B) (xs : List 
 unfolding flat
 flat-map cells f [] = refl
 flat-map cells f (x ∷ xs) = rw (flat-map cells f xs)
+
+-- numbers read one by one are the numbers that lie there: what a layout owes in `forth`
+pub take-reads : (n : ℕ) (t : List ℕ) → n ≤ length t → take n t ≡ reads 0 n t
+unfolding reads
+take-reads n t h = go n 0 (omega arith)
+  where
+    go : (n i : ℕ) → i + n ≤ length t → take n (drop i t) ≡ reads i n t
+    go zero i h = refl
+    go (suc n) i h = rw (drop-cons t i 0 (omega arith), go n (suc i) (omega arith))
 
 -- ---- the rows of a table
 
@@ -99,6 +108,10 @@ module _ {A : Type 0} {w : ℕ} {cells : A → List ℕ} {row : List ℕ → A} 
   pub rowsOf-same : (n : ℕ) (t u : List ℕ) → n * w ≤ length t → take (n * w) t ≡ take (n * w) u → rowsOf w row n t ≡ rowsOf w row n u
   rowsOf-same n t u h e =
       sym (rw (flat-rowsOf n t h, e, take-append-drop (n * w) u) at (rowsOf-flat (rowsOf w row n t) (drop (n * w) u) n (length-rowsOf w row n t)))
+
+  -- and numbers by their rows
+  pub take-same : (n : ℕ) (t u : List ℕ) → n * w ≤ length t → n * w ≤ length u → rowsOf w row n t ≡ rowsOf w row n u → take (n * w) t ≡ take (n * w) u
+  take-same n t u h l e = rw (← flat-rowsOf n t h, ← flat-rowsOf n u l, e)
 
 -- ---- a row that goes in or out
 

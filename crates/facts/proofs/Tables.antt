@@ -5,13 +5,15 @@ use Prim.Native.Nat.{ℕ, _+_, _-_, _*_, _≤_, _<_}
 use native.Mathlib.Nat.{suc-mul, add-mul, add-sub-of-le}
 use native.Mathlib.Numerals.{add-one}
 use native.Mathlib.Omega.{arith}
-use mathlib.Core.List.{List, [], _∷_, _++_, append-assoc, append-nil}
-use lib.ListN.{length, take, drop, set, replicate, length-drop, drop-of-length-le}
+use mathlib.Core.List.{List, [], _∷_, _++_, map, map-append, append-assoc, append-nil}
+use lib.ListN.{length, take, drop, set, replicate, length-drop, length-set, take-append-drop, drop-of-length-le}
+use lib.Seq.{drop-drop, drop-set-lt, length-take-le}
 use Rattle.facts.specs.Parts.{part}
 use Rattle.facts.specs.Rows.{flat, rowsOf, Layout, insertAt, removeAt}
 use Rattle.facts.specs.Moves.{putAt, movedUp, movedDown, zeroed}
+use Rattle.facts.proofs.Lists.{set-past}
 use Rattle.facts.proofs.Parts.{slice-part, part-rest}
-use Rattle.facts.proofs.Rows.{flat-append, length-flat, length-rowsOf, take-rowsOf, drop-rowsOf, flat-rowsOf, rowsOf-flat, rowsOf-same}
+use Rattle.facts.proofs.Rows.{flat-append, length-flat, length-rowsOf, take-rowsOf, drop-rowsOf, rowsOf-snoc, flat-rowsOf, rowsOf-flat, rowsOf-same}
 use Rattle.facts.proofs.Moves.{length-putAt, take-putAt, drop-putAt, putAt-one, putAt-movedUp, length-movedDown, drop-movedDown, take-zeroed, zeroed-whole}
 
 pub mul-one-more : (n w : ℕ) → (n + 1) * w ≡ n * w + w
@@ -20,6 +22,12 @@ mul-one-more n w = rw add-one (suc-mul n w)
 -- j of n rows and the others, in numbers
 mul-split : (w : ℕ) {j n : ℕ} → j ≤ n → j * w + (n - j) * w ≡ n * w
 mul-split w {j} {n} h = sym (add-mul j (n - j) w) ∙ ap (λ (x : ℕ). x * w) (add-sub-of-le h)
+
+-- row k of n lies before their end
+pub mul-fits : (w : ℕ) {k n : ℕ} → k < n → k * w + w ≤ n * w
+mul-fits w {k} {n} h =
+    let l : k + 1 ≤ n = omega arith in
+    omega (arith, mul-one-more k w, mul-split w l)
 
 module _ {A : Type 0} {w : ℕ} {cells : A → List ℕ} {row : List ℕ → A} (L : Layout w cells row) where
   -- ---- rows written
@@ -38,6 +46,13 @@ module _ {A : Type 0} {w : ℕ} {cells : A → List ℕ} {row : List ℕ → A} 
 
   pub flat-part : (n a b : ℕ) (t : List ℕ) → a ≤ b → b ≤ n → n * w ≤ length t → flat cells (part (rowsOf w row n t) a b) ≡ part t (a * w) (b * w)
   flat-part n a b t h k l = rw (← slice-part (rowsOf w row n t) a b, take-rowsOf w row b n t k) (flat-drop b a t h (omega (arith, mul-split w k)))
+
+  -- tables with the same rows from row j on, and the same behind them, have the same numbers there
+  pub drop-same : (n j : ℕ) (t u : List ℕ) → j ≤ n → n * w ≤ length t → n * w ≤ length u
+      → drop j (rowsOf w row n t) ≡ drop j (rowsOf w row n u) → drop (n * w) t ≡ drop (n * w) u → drop (j * w) t ≡ drop (j * w) u
+  drop-same n j t u h l m e f =
+      let k : j * w ≤ n * w = omega (arith, mul-split w h) in
+      rw (← part-rest t (j * w) (n * w) k, ← part-rest u (j * w) (n * w) k, ← flat-drop n j t h l, ← flat-drop n j u h m, e, f)
 
   -- rows written over the numbers, from row k on
   pub putAt-flat : (n k : ℕ) (rs : List A) (t : List ℕ) → k + length rs ≤ n → n * w ≤ length t
@@ -83,6 +98,21 @@ module _ {A : Type 0} {w : ℕ} {cells : A → List ℕ} {row : List ℕ → A} 
       let e : flat cells (r ∷ []) ≡ cells r = append-nil (cells r) in
       let m : k < length (rowsOf w row n t) = rw (length-rowsOf w row n t) h in
       rw (e, putAt-one k r (rowsOf w row n t) m) at (rowsOf-putAt n k (r ∷ []) t (omega arith) l)
+
+  -- one number written within row k
+  pub rowsOf-store : (n k j v : ℕ) (t : List ℕ) → k < n → j < w → n * w ≤ length t
+      → rowsOf w row n (set t (k * w + j) v) ≡ set (rowsOf w row n t) k (row (set (drop (k * w) t) j v))
+  unfolding putAt
+  rowsOf-store n k j v t h i l =
+      let from : List ℕ = drop (k * w) t in
+      let r : A = row (set from j v) in
+      let m : k * w + w ≤ n * w = mul-fits w h in
+      let c : cells r ≡ take w (set from j v) = L .forth (set from j v) (simp (length-set, length-drop) (omega arith)) in
+      let s : set t (k * w + j) v ≡ take (k * w) t ++ set from j v =
+      rw take-append-drop at (set-past (take (k * w) t) from (k * w) j v (length-take-le (k * w) t (omega arith))) in
+      let e : putAt (k * w) (cells r) t ≡ take (k * w) t ++ set from j v =
+      rw (L .wide r, c, ← drop-drop w (k * w) t, ← drop-set-lt w from j v i, take-append-drop w (set from j v)) in
+      rw (s, ← e) (rowsOf-set n k r t h l)
 
   -- one row written right behind the others
   pub rowsOf-add : (n : ℕ) (r : A) (t : List ℕ) → n * w + w ≤ length t → rowsOf w row (n + 1) (putAt (n * w) (cells r) t) ≡ rowsOf w row n t ++ (r ∷ [])
@@ -156,6 +186,22 @@ module _ {A : Type 0} {w : ℕ} {cells : A → List ℕ} {row : List ℕ → A} 
       pub length-close : length (putAt (k * w + (n - 1 - k) * w) vs (movedDown (k * w) ((n - 1 - k) * w) w t)) ≡ length t
       length-close =
           length-putAt (k * w + (n - 1 - k) * w) vs (movedDown (k * w) ((n - 1 - k) * w) w t) (omega (arith, length-remove, remove-end, remove-room)) ∙ length-remove
+
+  -- ---- a pass over the rows in place: the first k became f of what they were, the others are as they were
+
+  -- one row more, when t becomes u
+  pub rowsOf-pass : (f : A → A) (k : ℕ) (t₀ t u : List ℕ) → k * w ≤ length t → rowsOf w row k t ≡ map f (rowsOf w row k t₀) → drop (k * w) t ≡ drop (k * w) t₀
+      → take (k * w) u ≡ take (k * w) t → row (drop (k * w) u) ≡ f (row (drop (k * w) t)) → rowsOf w row (k + 1) u ≡ map f (rowsOf w row (k + 1) t₀)
+  rowsOf-pass f k t₀ t u l done rest same e =
+      rw (
+        rowsOf-snoc w row k u,
+        rowsOf-snoc w row k t₀,
+        map-append f (rowsOf w row k t₀) (row (drop (k * w) t₀) ∷ []),
+        ← done,
+        ← rest,
+        ← rowsOf-same L k t u l (sym same),
+        e,
+      )
 
   -- ---- zeros behind the rows
 

@@ -3,7 +3,7 @@
 use Prim.Native.Nat.{ℕ, zero, suc, _+_, _≤_}
 use mathlib.Core.Path.{_≡_}
 use mathlib.Core.List.{List, [], _∷_, _++_}
-use lib.ListN.{length, take, drop}
+use lib.ListN.{length, take, drop, getD}
 
 -- the numbers of the rows rs, one row after another; `cells` gives the numbers of one
 unfoldable pub flat : {A : Type 0} → (A → List ℕ) → List A → List ℕ
@@ -20,6 +20,11 @@ pub record Layout {A : Type 0} (w : ℕ) (cells : A → List ℕ) (row : List �
   pub wide : (r : A) → length (cells r) ≡ w
   pub back : (r : A) (t : List ℕ) → row (cells r ++ t) ≡ r
   pub forth : (t : List ℕ) → w ≤ length t → cells (row t) ≡ take w t
+
+-- n numbers of t, each read by itself, from place i on: a row read field by field
+unfoldable pub reads : ℕ → ℕ → List ℕ → List ℕ
+reads i zero t = []
+reads i (suc n) t = getD t i 0 ∷ reads (suc i) n t
 
 module _ {A : Type 0} where
   -- r becomes the element at place k; those from k on stand one later
