@@ -1,10 +1,10 @@
 -- A table of rows in a list of numbers: how a row lies in them, the rows of a table, and what a function that changes
--- rows leaves behind. The width of a row stands here and in the layout alone.
-use Prim.Native.Nat.{ℕ, _*_, _≤_}
+-- rows leaves. How wide a row is stands here alone: in `wide` and in the layout.
+use Prim.Native.Nat.{ℕ, _*_, _≤_, _<_}
 use mathlib.Core.Path.{_≡_, refl}
-use native.Mathlib.Nat.{not-suc-le-zero, le-of-suc-le-suc}
+use native.Mathlib.Omega.{arith}
 use mathlib.Core.List.{List, [], _∷_}
-use lib.ListN.{length, getD, take, drop}
+use lib.ListN.{length, getD, set, take, drop}
 use Rattle.facts.specs.Rows.{rowsOf, Layout}
 use Rattle.table.specs.declared.Cells.{Cells}
 
@@ -25,10 +25,10 @@ unfolding cells row
 layout = record { wide = λ c. refl; back = λ c t. refl; forth = whole }
   where
     whole : (t : List ℕ) → wide ≤ length t → cells (row t) ≡ take wide t
-    whole [] h = absurd (not-suc-le-zero h)
-    whole (a ∷ []) h = absurd (not-suc-le-zero (le-of-suc-le-suc h))
-    whole (a ∷ b ∷ []) h = absurd (not-suc-le-zero (le-of-suc-le-suc (le-of-suc-le-suc h)))
-    whole (a ∷ b ∷ c ∷ []) h = absurd (not-suc-le-zero (le-of-suc-le-suc (le-of-suc-le-suc (le-of-suc-le-suc h))))
+    whole [] h = absurd (omega arith)
+    whole (a ∷ []) h = absurd (omega arith)
+    whole (a ∷ b ∷ []) h = absurd (omega arith)
+    whole (a ∷ b ∷ c ∷ []) h = absurd (omega arith)
     whole (a ∷ b ∷ c ∷ d ∷ t) h = refl
 
 -- the first n rows of t
@@ -52,3 +52,7 @@ pub record Changed (m : ℕ) (rs : List Cells) (n : ℕ) (t t′ : List ℕ) : T
   pub rows : rows m t′ ≡ rs
   pub rest : behind n t′ ≡ behind n t
   pub length : length t′ ≡ length t
+
+-- t became t′: row k is c, and nothing else changed, however many rows are looked at
+abbrev pub Stored : ℕ → Cells → List ℕ → List ℕ → Type 0
+Stored k c t t′ = (n : ℕ) → k < n → Room n t → Changed n (set (rows n t) k c) n t t′

@@ -1,16 +1,16 @@
-// A table of rows in a lent slice: four numbers a row, the rows one after another from the front. What the numbers mean is
-// the callers' affair; which rows are in use, too.
+// A table of rows in a lent slice: four numbers a row, the rows one after another from the front. What the numbers mean,
+// and how many rows are in use, is the callers' affair.
 ghost use Prim.Native.Nat.{ℕ, _+_, _-_, _≤_, _<_};
 ghost use mathlib.Core.Path.{_≡_};
-ghost use lib.ListN.{length, set};
+ghost use lib.ListN.{length};
 ghost use Rattle.facts.specs.Rows.{insertAt, removeAt};
 ghost use Rattle.facts.specs.Moves.{zeroed};
-ghost use Rattle.table.specs.Table.{Room, rows, rowAt, Changed};
+ghost use Rattle.table.specs.Table.{Room, rows, rowAt, Changed, Stored};
 
 // How many numbers a row has.
 pub const ROW: usize = 4;
 
-// A row: the numbers of a table in the order in which they lie.
+// A row: its numbers, in the order in which they lie.
 pub struct Cells {
     pub head: u64,
     pub len: u64,
@@ -18,7 +18,7 @@ pub struct Cells {
     pub time: u64,
 }
 
-// Row k of the table, counted from 0.
+// Row k of a table, counted from 0.
 pub fn row_at(t: &[u64], k: usize) -> Cells
     requires { ⌜ Room (k + 1) (now t) ⌝ }
     ensures { λ r. ⌜ ((n : ℕ) → k < n → r ≡ rowAt (rows n (now (t .entry))) k) ⌝ }
@@ -35,7 +35,7 @@ pub fn row_at(t: &[u64], k: usize) -> Cells
 // Writes c over row k; all else stays.
 pub fn set_row(t: &mut [u64], k: usize, c: Cells)
     requires { ⌜ Room (k + 1) (now t) ⌝ }
-    ensures { λ _. ⌜ ((n : ℕ) → k < n → Room n (now (t .entry)) → Changed n (set (rows n (now (t .entry))) k c) n (now (t .entry)) (now (t .exit))) ⌝ }
+    ensures { λ _. ⌜ Stored k c (now (t .entry)) (now (t .exit)) ⌝ }
 {
     let at = k * ROW;
     t[at] = c.head;

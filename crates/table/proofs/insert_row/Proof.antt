@@ -35,7 +35,9 @@ loop-again : tie.Need-loop-again Inv-loop μ-loop
 loop-again c =
     let g = c .before .before .before .before .before .before .before in
     let m = g .before .before .args .n + 1 in
-    opening-turn (g .loop .inv) (c .before .before .before .before .before .before .loop-test .taken) (c .before .before .before .before .row-at .ensures m (omega arith)) (c .before .before .set-row .ensures m (omega arith) (omega arith))
+    let read = c .before .before .before .before .row-at .ensures m (omega arith) in
+    let written = c .before .before .set-row .ensures m (omega arith) (omega arith) in
+    opening-turn (g .loop .inv) (c .before .before .before .before .before .before .loop-test .taken) read written
 
 set-row-requires-2 : tie.Need-set-row-requires-2 Inv-loop μ-loop
 set-row-requires-2 c κs = omega arith
@@ -47,7 +49,8 @@ returns : tie.Need-returns Inv-loop μ-loop
 returns c =
     let g = c .before .before .before .before .before in
     let m = g .before .before .args .n + 1 in
-    opening-end (g .before .before .args .c) (g .loop .inv) (c .before .before .before .before .loop-test .left) (c .before .before .set-row2 .ensures m (omega arith) (omega arith))
+    let written = c .before .before .set-row2 .ensures m (omega arith) (omega arith) in
+    opening-end (g .before .before .args .c) (g .loop .inv) (c .before .before .before .before .loop-test .left) written
 
 pub insert-row-spec : {M : Type 1} → statement M
 insert-row-spec =

@@ -38,7 +38,9 @@ loop-again : tie.Need-loop-again Inv-loop μ-loop
 loop-again c =
     let g = c .before .before .before .before .before .before .before in
     let n = g .before .before .args .n in
-    closing-turn (g .loop .inv) (c .before .before .before .before .before .before .loop-test .taken) (c .before .before .before .before .row-at .ensures n (omega arith)) (c .before .before .set-row .ensures n (omega arith) (omega arith))
+    let read = c .before .before .before .before .row-at .ensures n (omega arith) in
+    let written = c .before .before .set-row .ensures n (omega arith) (omega arith) in
+    closing-turn (g .loop .inv) (c .before .before .before .before .before .before .loop-test .taken) read written
 
 same-length : tie.Need-same-length Inv-loop μ-loop
 same-length c = c .before .loop .inv .changed .length
