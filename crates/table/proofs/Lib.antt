@@ -1,0 +1,5 @@
+-- The laws that the functions of this crate cite.
+pub mod Shifts
+pub mod Changes
+pub mod Zeroing
+pub mod Moving
