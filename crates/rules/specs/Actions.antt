@@ -1,5 +1,4 @@
 -- What a line says: one JSON object with exactly one member, an action by its key.
-use mathlib.Core.Bool.{Bool, true, false}
 use mathlib.Core.Option.{Option, none, some}
 use mathlib.Core.List.{List, [], _∷_}
 use Prim.Native.Nat.{ℕ}

@@ -1,13 +1,12 @@
 -- Byte strings, and what every rule is written with: texts in ASCII, tests, answers that may be missing,
 -- the order of byte strings, lists of them.
-use mathlib.Core.Bool.{Bool, true, false, _&&_, not}
+use mathlib.Core.Bool.{Bool, true, false, _&&_}
 use mathlib.Core.Option.{Option, none, some}
 use mathlib.Core.List.{List, [], _∷_}
-use Prim.Native.Nat.{ℕ, zero, suc}
+use Prim.Native.Nat.{ℕ}
 use Prim.Native.Char.{code}
 use Prim.Native.String.{String, [] as end, _∷_ as _then_}
 use lib.Dec.{eqb, ltb, leb}
-use lib.ListN.{length}
 
 -- bytes, each a number below 256
 abbrev pub Bytes : Type 0

@@ -1,5 +1,5 @@
 -- The cleaner: which version files may go.
-use mathlib.Core.Bool.{Bool, true, false, not, _&&_}
+use mathlib.Core.Bool.{Bool, false, not, _&&_}
 use mathlib.Core.Option.{Option, none, some}
 use mathlib.Core.List.{List, [], _∷_}
 use Prim.Native.Nat.{ℕ, _-_}
@@ -8,13 +8,13 @@ use Rattle.rules.specs.Bytes.{Bytes, keepIf}
 use Rattle.rules.specs.Bundle.{File, bundle}
 use Rattle.rules.specs.Names.{nameOf, versionIn, anyTooLarge}
 use Rattle.rules.specs.History.{readZero, readFile}
-use Rattle.rules.specs.Starts.{Log, logOf, Way, startAt, otherWayTo, nothingLive, follow}
+use Rattle.rules.specs.Starts.{logOf, Way, startAt, otherWayTo, nothingLive, follow}
 use Rattle.rules.specs.Marker.{marked}
 use Rattle.rules.specs.Gate.{gate, writable}
 use Rattle.rules.specs.Reading.{mostLive}
 use Rattle.rules.specs.Agreement.{agree}
 use Rattle.rules.specs.Rooms.{Room, rowsRoom, namesRoom, leaves}
-use Rattle.rules.specs.Refusals.{Answer, accepted, refused, _>>=_, orRefuse, require, roomTooShort, bundleMalformed, versionTooLarge, noVersionZero, notWritable, checkpointDisagrees}
+use Rattle.rules.specs.Refusals.{Answer, accepted, _>>=_, orRefuse, require, roomTooShort, bundleMalformed, versionTooLarge, noVersionZero, notWritable, checkpointDisagrees}
 
 -- ---- what is named
 

@@ -1,19 +1,18 @@
 -- The paper's examples marked P, as one table: what is asked, and what the paper says.
 use mathlib.Core.Path.{_≡_}
 use mathlib.Core.Bool.{Bool, true, false}
-use mathlib.Core.Option.{Option, none, some}
 use mathlib.Core.List.{List, [], _∷_, map}
 use Prim.Native.Nat.{ℕ}
 use Prim.Native.String.{String, _++_ as _+++_}
 use lib.IntN.{pos}
 use Rattle.rules.specs.Bytes.{Bytes, ascii}
-use Rattle.rules.specs.Names.{Name, version, checkpoint, marker, other, tooLarge, nameOf}
+use Rattle.rules.specs.Names.{Name, version, checkpoint, tooLarge, nameOf}
 use Rattle.rules.specs.Lines.{lines}
 use Rattle.rules.specs.Actions.{MetaData}
-use Rattle.rules.specs.Live.{Row, pathOf}
+use Rattle.rules.specs.Live.{pathOf}
 use Rattle.rules.specs.History.{State, readLines}
 use Rattle.rules.specs.Starts.{nothingLive}
-use Rattle.rules.specs.Query.{Number, number, outOfRange, numberOf, As, asText, Op, eq, lt, le, gt, ge}
+use Rattle.rules.specs.Query.{Number, number, outOfRange, numberOf, asText, Op, gt, ge}
 use Rattle.rules.specs.Manifests.{outsideAs}
 use Rattle.rules.specs.Rooms.{rowsRoom, keptRoom, namesRoom}
 use Rattle.rules.specs.Reading.{mostLive, Asked, theLatest, theVersion, Listing, reading}

@@ -1,16 +1,15 @@
 -- Examples beside P1 to P12, in tables of the same form: the program's listing, both sides of edges, the tempting and wrong readings,
 -- and a small case for each refusal number.
-use mathlib.Core.Bool.{Bool, true, false}
 use mathlib.Core.List.{List, [], _∷_, _++_}
 use Prim.Native.Nat.{ℕ, zero, suc}
 use Prim.Native.String.{String, _++_ as _+++_}
 use lib.IntN.{pos}
 use Rattle.rules.specs.Bytes.{Bytes, ascii}
 use Rattle.rules.specs.Names.{version, other, tooLarge}
-use Rattle.rules.specs.Query.{number, notNumber}
+use Rattle.rules.specs.Query.{number}
 use Rattle.rules.specs.Reading.{theLatest, theVersion}
-use Rattle.rules.specs.Samples.{Sample, json, bodyOf, file, bundleOf}
-use Rattle.rules.specs.Edges.{Question, name, numeral, apply, drops, read, keep, clean, print, Says, named, value, live, test, listed, numbers, text, refusal, addOf, removeOf, v0, v1, v3, c2, m2}
+use Rattle.rules.specs.Samples.{Sample, json, file, bundleOf}
+use Rattle.rules.specs.Edges.{Question, name, numeral, apply, read, keep, clean, print, Says, named, value, live, listed, numbers, text, refusal, addOf, removeOf, v0, v1, v3, c2, m2}
 
 -- ---- the Program section's example, down to the printed text
 

@@ -1,11 +1,11 @@
 -- Which protocols are readable, and which writable.
-use mathlib.Core.Bool.{Bool, true, false, _&&_}
+use mathlib.Core.Bool.{Bool, _&&_}
 use mathlib.Core.List.{List, [], _∷_}
 use Prim.Native.Nat.{ℕ}
 use lib.Dec.{leb}
 use Rattle.rules.specs.Bytes.{Bytes, ascii, allAmong}
 use Rattle.rules.specs.Actions.{Protocol}
-use Rattle.rules.specs.Refusals.{Answer, accepted, refused, _>>=_, require, readerTooHigh, unknownFeature}
+use Rattle.rules.specs.Refusals.{Answer, _>>=_, require, readerTooHigh, unknownFeature}
 
 -- the highest protocol numbers that are known
 unfoldable pub knownReader : ℕ

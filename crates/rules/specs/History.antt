@@ -1,5 +1,4 @@
 -- Lines applied in order: one line, one file, version 0 with its own rules. Refusals 6 and 7 come with the first line met.
-use mathlib.Core.Bool.{Bool, true, false}
 use mathlib.Core.Option.{Option, none, some}
 use mathlib.Core.List.{List, [], _∷_}
 use Prim.Native.Nat.{ℕ, suc, _+_}
@@ -10,7 +9,7 @@ use Rattle.rules.specs.Bundle.{File}
 use Rattle.rules.specs.Lines.{lines, anyObject}
 use Rattle.rules.specs.Actions.{Protocol, unstated, MetaData, Action, add, remove, protocol, metaData, mergeskip, other, action}
 use Rattle.rules.specs.Live.{Row, pathOf, put, takeOut}
-use Rattle.rules.specs.Refusals.{Answer, accepted, refused, _>>=_, orRefuse, require, malformed, tooManyLive}
+use Rattle.rules.specs.Refusals.{Answer, accepted, _>>=_, orRefuse, require, malformed, tooManyLive}
 
 -- what a log says: the metadata and the protocol in force, and the live files
 pub record State : Type 0 where

@@ -1,7 +1,5 @@
 -- Keeping manifests: the answer for a state manifest, a query and a lent room.
-use mathlib.Core.Bool.{Bool, true, false}
-use mathlib.Core.Option.{Option, none, some}
-use mathlib.Core.List.{List, [], _∷_}
+use mathlib.Core.List.{List}
 use Prim.Native.Nat.{ℕ}
 use lib.Dec.{leb}
 use lib.ListN.{length}
@@ -9,7 +7,7 @@ use Rattle.rules.specs.Bytes.{Bytes}
 use Rattle.rules.specs.Query.{query}
 use Rattle.rules.specs.Manifests.{manifests, mostManifests, keptFrom}
 use Rattle.rules.specs.Rooms.{Room, keptRoom, leaves}
-use Rattle.rules.specs.Refusals.{Answer, accepted, refused, _>>=_, orRefuse, require, roomTooShort, queryMalformed, stateMalformed, tooManyManifests}
+use Rattle.rules.specs.Refusals.{Answer, accepted, _>>=_, orRefuse, require, roomTooShort, queryMalformed, stateMalformed, tooManyManifests}
 
 -- refusals 1, 10, 14, 15, or the numbers of the manifests kept, ascending; `room` is how many u32 are lent
 unfoldable pub keeping : (room : ℕ) → (state q : Bytes) → Answer (List ℕ)

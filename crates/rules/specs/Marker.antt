@@ -1,7 +1,6 @@
 -- The marker, and the latest version.
-use mathlib.Core.Bool.{Bool, true, false}
+use mathlib.Core.Bool.{Bool, true}
 use mathlib.Core.Option.{Option, none, some}
-use mathlib.Core.List.{List, [], _∷_}
 use Prim.Native.Nat.{ℕ, zero, suc}
 use Rattle.rules.specs.Bytes.{Bytes, ascii, _>>=_, guard, same}
 use Rattle.rules.specs.Numbers.{most}

@@ -1,7 +1,7 @@
 -- Numbers as digits and as bytes.
 use mathlib.Core.Bool.{Bool, true, false}
 use mathlib.Core.Option.{Option, none, some}
-use mathlib.Core.List.{List, [], _∷_}
+use mathlib.Core.List.{[], _∷_}
 use Prim.Native.Nat.{ℕ, zero, suc, _+_, _*_, _-_, _/_, _%_}
 use lib.Dec.{ltb}
 use Rattle.rules.specs.Bytes.{Bytes, among}

@@ -2,7 +2,6 @@
 use mathlib.Core.Bool.{Bool, true, false, not}
 use mathlib.Core.Option.{Option, none, some}
 use mathlib.Core.List.{List, [], _∷_}
-use Prim.Native.Nat.{ℕ}
 use lib.IntN.{ℤ}
 use lib.Signed.{ltZ}
 use Rattle.rules.specs.Bytes.{Bytes, same, Order, less, equal, more, order, isLess, isEqual, isMore, keepIf}

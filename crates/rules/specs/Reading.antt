@@ -1,12 +1,11 @@
 -- Reading a bundle at a version, or at the latest, with a query and a lent room.
-use mathlib.Core.Bool.{Bool, true, false, not}
-use mathlib.Core.Option.{Option, none, some}
-use mathlib.Core.List.{List, [], _∷_, map}
+use mathlib.Core.Bool.{Bool, not}
+use mathlib.Core.Option.{Option}
+use mathlib.Core.List.{List, map}
 use Prim.Native.Nat.{ℕ}
 use lib.Dec.{leb}
-use lib.ListN.{length}
 use Rattle.rules.specs.Bytes.{Bytes, allAmong}
-use Rattle.rules.specs.Bundle.{File, bundle}
+use Rattle.rules.specs.Bundle.{bundle}
 use Rattle.rules.specs.Names.{anyTooLarge}
 use Rattle.rules.specs.Actions.{MetaData, Protocol}
 use Rattle.rules.specs.Live.{Row}
@@ -17,7 +16,7 @@ use Rattle.rules.specs.Gate.{gate, writable}
 use Rattle.rules.specs.Query.{Condition, columnOf, query}
 use Rattle.rules.specs.Picking.{picked}
 use Rattle.rules.specs.Rooms.{Room, rowsRoom, leaves, rowsNumbers}
-use Rattle.rules.specs.Refusals.{Answer, accepted, refused, _>>=_, orRefuse, require, roomTooShort, bundleMalformed, versionTooLarge, noVersionZero, notKept, queryMalformed, noSuchColumn}
+use Rattle.rules.specs.Refusals.{Answer, accepted, _>>=_, orRefuse, require, roomTooShort, bundleMalformed, versionTooLarge, noVersionZero, notKept, queryMalformed, noSuchColumn}
 
 unfoldable pub mostLive : ℕ
 mostLive = 1_024

@@ -1,11 +1,11 @@
 -- Lent rooms, as lists of numbers: how long they must be, and what they hold at the end, whatever the answer is.
-use mathlib.Core.Bool.{Bool, true, false}
+use mathlib.Core.Bool.{true, false}
 use mathlib.Core.List.{List, [], _∷_, _++_}
 use Prim.Native.Nat.{ℕ, _-_}
-use lib.Dec.{leb, eqb}
+use lib.Dec.{eqb}
 use lib.ListN.{length, drop, replicate}
 use Rattle.rules.specs.Live.{Row}
-use Rattle.rules.specs.Refusals.{Refusal, Answer, accepted, refused}
+use Rattle.rules.specs.Refusals.{Answer, accepted, refused}
 
 abbrev pub Room : Type 0
 Room = List ℕ

@@ -1,7 +1,6 @@
 -- "Same answer" in the sense of demand 3, and when a checkpoint is true. Positions may differ; the facts may not.
 use mathlib.Core.Path.{_≡_}
-use mathlib.Core.Bool.{Bool}
-use mathlib.Core.Option.{Option, none, some}
+use mathlib.Core.Option.{some}
 use mathlib.Core.List.{List, [], _∷_}
 use Prim.Native.Nat.{ℕ}
 use Rattle.rules.specs.Bytes.{Bytes, holds}

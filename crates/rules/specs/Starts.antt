@@ -7,9 +7,9 @@ use Rattle.rules.specs.Bytes.{Bytes}
 use Rattle.rules.specs.Bundle.{File}
 use Rattle.rules.specs.Names.{Name, nameOf, versionIn, checkpointIn, isMarker, is}
 use Rattle.rules.specs.Lines.{lines, anyObject}
-use Rattle.rules.specs.Actions.{Action, MetaData, unstated, action}
+use Rattle.rules.specs.Actions.{MetaData, unstated, action}
 use Rattle.rules.specs.History.{State, readFile}
-use Rattle.rules.specs.Refusals.{Answer, accepted, refused, _>>=_}
+use Rattle.rules.specs.Refusals.{Answer, accepted, _>>=_}
 
 -- ---- the log
 

@@ -4,7 +4,6 @@ use mathlib.Core.Option.{Option, none, some}
 use mathlib.Core.List.{List, [], _∷_}
 use Prim.Native.Nat.{ℕ, _-_}
 use Prim.Native.String.{String}
-use lib.Dec.{eqb}
 use lib.ListN.{length, take, drop}
 use Rattle.rules.specs.Bytes.{Bytes, ascii, _>>=_, guard, first, same, isEmpty}
 use Rattle.rules.specs.Json.Text.{Text, byte}

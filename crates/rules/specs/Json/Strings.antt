@@ -1,12 +1,12 @@
 -- Strings of RFC 8259 and the bytes, in UTF-8, that they stand for. A lone surrogate escape is malformed.
 use mathlib.Core.Bool.{Bool, true, false}
 use mathlib.Core.Option.{Option, none, some}
-use mathlib.Core.List.{List, [], _∷_, _++_}
+use mathlib.Core.List.{[], _∷_, _++_}
 use Prim.Native.Nat.{ℕ, zero, suc, _+_, _-_, _*_, _/_, _%_}
 use lib.Dec.{eqb, ltb}
 use lib.ListN.{length}
 use Rattle.rules.specs.Bytes.{Bytes, ascii, _>>=_, guard, first, among}
-use Rattle.rules.specs.Json.Text.{Text, Reader, Taker, spelled, byteIn, word}
+use Rattle.rules.specs.Json.Text.{Reader, Taker, spelled, byteIn, word}
 
 -- ---- unescaped = %x20-21 / %x23-5B / %x5D-10FFFF, in UTF-8 (RFC 3629, section 4)
 

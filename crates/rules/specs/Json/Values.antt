@@ -1,11 +1,11 @@
 -- Objects, arrays and values. What a container holds is a list; how deep values nest is a number that falls.
-use mathlib.Core.Bool.{Bool, true, false}
+use mathlib.Core.Bool.{true, false}
 use mathlib.Core.Option.{Option, none, some}
 use mathlib.Core.List.{List, [], _∷_}
 use Prim.Native.Nat.{ℕ, zero, suc}
 use lib.Dec.{eqb}
 use lib.ListN.{length}
-use Rattle.rules.specs.Bytes.{Bytes, ascii, _>>=_, guard, isEmpty}
+use Rattle.rules.specs.Bytes.{Bytes, ascii, _>>=_, isEmpty}
 use Rattle.rules.specs.Json.Text.{Text, Reader, Taker, behind, spelled, ws, byte, word}
 use Rattle.rules.specs.Json.Numbers.{number}
 use Rattle.rules.specs.Json.Strings.{string}
