@@ -73,7 +73,7 @@ unfolding Actions.inLine Actions.inAction Actions.inField Actions.pathAt Actions
 inActions = tt
 
 unfoldable pub inLive : Unit {0}
-unfolding Live.pathOf Live.putBeside Live.takeIf Live.put Live.takeOut
+unfolding Live.mostLive Live.pathOf Live.putBeside Live.takeIf Live.put Live.takeOut
 inLive = tt
 
 unfoldable pub inHistory : Unit {0}
@@ -109,7 +109,7 @@ unfolding Rooms.rowsRoom Rooms.keptRoom Rooms.namesRoom Rooms.filled Rooms.leave
 inRooms = tt
 
 unfoldable pub inReading : Unit {0}
-unfolding Reading.mostLive Reading.versionAsked Reading.stateBy Reading.listing Reading.listingBy Reading.listingAt Reading.historyListing Reading.reading Reading.roomAfterReading
+unfolding Reading.versionAsked Reading.stateBy Reading.listing Reading.listingBy Reading.listingAt Reading.historyListing Reading.reading Reading.roomAfterReading
 inReading = tt
 
 unfoldable pub inKeeping : Unit {0}

@@ -15,11 +15,11 @@ use Rattle.rules.specs.Bytes.{Bytes}
 use Rattle.rules.specs.Bundle.{File}
 use Rattle.rules.specs.Lines.{lines, anyObject}
 use Rattle.rules.specs.Actions.{MetaData, Action, add, remove, protocol, metaData, mergeskip, other, action}
-use Rattle.rules.specs.Live.{pathOf}
+use Rattle.rules.specs.Live.{mostLive, pathOf}
 use Rattle.rules.specs.Refusals.{Refusal, Answer, accepted, refused, _>>=_, orRefuse, require, malformed, tooManyLive, noVersionZero, notKept}
 use Rattle.rules.specs.History.{State, Said, effect, withinLimit, readLine, readLines, readFile, saidNothing, zeroLines, orUnstated, readZero}
 use Rattle.rules.specs.Starts.{Log, Way, fromZero, fromCheckpoint, andThen, nothingLive, follow}
-use Rattle.rules.specs.Reading.{mostLive, stateBy}
+use Rattle.rules.specs.Reading.{stateBy}
 use Rattle.rules.proofs.Tests.{apart}
 use Rattle.rules.proofs.Ascending.{Ascends}
 use Rattle.rules.proofs.Lines.{lines-part, lines-part-none}

@@ -11,7 +11,7 @@ use Rattle.rules.specs.History.{readZero, readFile}
 use Rattle.rules.specs.Starts.{logOf, Way, startAt, otherWayTo, nothingLive, follow}
 use Rattle.rules.specs.Marker.{marked}
 use Rattle.rules.specs.Gate.{gate, writable}
-use Rattle.rules.specs.Reading.{mostLive}
+use Rattle.rules.specs.Live.{mostLive}
 use Rattle.rules.specs.Agreement.{agree}
 use Rattle.rules.specs.Rooms.{Room, rowsRoom, namesRoom, leaves}
 use Rattle.rules.specs.Refusals.{Answer, accepted, _>>=_, orRefuse, require, roomTooShort, bundleMalformed, versionTooLarge, noVersionZero, notWritable, checkpointDisagrees}

@@ -9,13 +9,13 @@ use Rattle.rules.specs.Bytes.{Bytes, ascii}
 use Rattle.rules.specs.Names.{Name, version, checkpoint, tooLarge, nameOf}
 use Rattle.rules.specs.Lines.{lines}
 use Rattle.rules.specs.Actions.{MetaData}
-use Rattle.rules.specs.Live.{pathOf}
+use Rattle.rules.specs.Live.{mostLive, pathOf}
 use Rattle.rules.specs.History.{State, readLines}
 use Rattle.rules.specs.Starts.{nothingLive}
 use Rattle.rules.specs.Query.{Number, number, outOfRange, numberOf, asText, Op, gt, ge}
 use Rattle.rules.specs.Manifests.{outsideAs}
 use Rattle.rules.specs.Rooms.{rowsRoom, keptRoom, namesRoom}
-use Rattle.rules.specs.Reading.{mostLive, Asked, theLatest, theVersion, Listing, reading}
+use Rattle.rules.specs.Reading.{Asked, theLatest, theVersion, Listing, reading}
 use Rattle.rules.specs.Keeping.{keeping}
 use Rattle.rules.specs.Cleaning.{cleaning}
 use Rattle.rules.specs.Program.{printed}

@@ -11,6 +11,10 @@ pub record Row : Type 0 where
   pub size : ℕ
   pub facts : Facts
 
+-- more than this many live after a line is refused
+unfoldable pub mostLive : ℕ
+mostLive = 1_024
+
 unfoldable pub pathOf : Row → Bytes
 pathOf r = r .facts .path
 

@@ -8,7 +8,7 @@ use Rattle.rules.specs.Bytes.{Bytes, allAmong}
 use Rattle.rules.specs.Bundle.{bundle}
 use Rattle.rules.specs.Names.{anyTooLarge}
 use Rattle.rules.specs.Actions.{MetaData, Protocol}
-use Rattle.rules.specs.Live.{Row}
+use Rattle.rules.specs.Live.{mostLive, Row}
 use Rattle.rules.specs.History.{State, readZero}
 use Rattle.rules.specs.Starts.{Log, logOf, Way, wayTo, historyTo, follow}
 use Rattle.rules.specs.Marker.{latest}
@@ -17,9 +17,6 @@ use Rattle.rules.specs.Query.{Condition, columnOf, query}
 use Rattle.rules.specs.Picking.{picked}
 use Rattle.rules.specs.Rooms.{Room, rowsRoom, leaves, rowsNumbers}
 use Rattle.rules.specs.Refusals.{Answer, accepted, _>>=_, orRefuse, require, roomTooShort, bundleMalformed, versionTooLarge, noVersionZero, notKept, queryMalformed, noSuchColumn}
-
-unfoldable pub mostLive : ℕ
-mostLive = 1_024
 
 pub data Asked : Type 0 where
   theLatest : Asked
