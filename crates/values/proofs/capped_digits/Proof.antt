@@ -1,8 +1,9 @@
 -- `capped_digits`: each answer by the length.
-use mathlib.Core.Path.{_≡_, sym, ap, _∙_}
+use mathlib.Core.Path.{sym, ap, _∙_}
 use Rattle.rules.specs.Query.{mostDigits}
 use Rattle.values.specs.Readings.{cappedIs}
-use Rattle.values.proofs.Cuts.{value-digits, no-digits, digits-many, digits-few}
+use Rattle.values.proofs.Cuts.{value-digits, no-digits}
+use Rattle.values.proofs.Queries.{digits-many, digits-few}
 use native.Mathlib.Omega.{arith}
 use borrow.Author.Needs.{needs}
 use Rattle.values.proofs.capped_digits.Statement.{statement}

@@ -1,8 +1,8 @@
 -- `positive_of`: each answer by what the digits stand for.
-use mathlib.Core.Path.{_≡_, sym, ap, _∙_}
+use mathlib.Core.Path.{sym, ap, _∙_}
 use Rattle.rules.specs.Numbers.{most}
 use Rattle.values.specs.Answers.{numeralIs, signedOf}
-use Rattle.values.proofs.Cuts.{positive-none, positive-large, positive-out, positive-in}
+use Rattle.values.proofs.Queries.{positive-none, positive-large, positive-out, positive-in}
 use borrow.Author.Needs.{needs}
 use Rattle.values.proofs.positive_of.Statement.{statement}
 use Rattle.values.proofs.positive_of.Tie as tie

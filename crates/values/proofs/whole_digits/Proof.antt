@@ -1,5 +1,5 @@
 -- `whole_digits`: each answer by what the digits stand for.
-use mathlib.Core.Path.{_≡_, sym, ap, _∙_}
+use mathlib.Core.Path.{sym, ap, _∙_}
 use Rattle.rules.specs.Numbers.{most}
 use Rattle.values.specs.Answers.{wholeIs}
 use Rattle.values.specs.Readings.{inBounds}
