@@ -18,10 +18,10 @@ abbrev μ-loop : tie.MeasureT-loop
 
 returns : tie.Need-returns Inv-loop μ-loop
 unfolding digitsIs
-returns c = ap digitsIs (sym (decimal-empty (c .before .before .args .v .now) (c .if1 .taken)))
+returns c = ap digitsIs (sym (decimal-empty (c .before .before .args .v .now) (omega arith)))
 
 loop-holds : tie.Need-loop-holds Inv-loop μ-loop
-loop-holds c = (omega arith, omega arith, sym (decimal-start (c .before .before .args .v .now) (c .if1 .left)))
+loop-holds c = (omega arith, omega arith, sym (decimal-start (c .before .before .args .v .now) (omega arith)))
 
 shared-slice-read-b : tie.Need-shared-slice-read-b Inv-loop μ-loop
 shared-slice-read-b c = omega arith
