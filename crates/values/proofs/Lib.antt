@@ -1,0 +1,9 @@
+-- The laws that the proofs of the functions cite, and those for callers.
+pub mod Words
+pub mod Decimals
+pub mod Wholes
+pub mod Cuts
+pub mod Queries
+pub mod Signs
+pub mod Conditions
+pub mod Back
