@@ -1,4 +1,4 @@
--- A text at a position: its byte there and what follows, or nothing; and an answer seen from an earlier position.
+-- A text at a position: its byte there and what follows, or nothing; and answers seen from an earlier position.
 use mathlib.Core.Path.{_≡_, ap, _∙_}
 use mathlib.Core.Option.{Option}
 use mathlib.Core.List.{[], _∷_}
@@ -9,6 +9,9 @@ use lib.ListN.{length, drop, getD, drop-of-length-le}
 use lib.Seq.{drop-cons}
 use Rattle.rules.specs.Json.Text.{Text}
 use Rattle.text.specs.Answers.{Answer}
+use Rattle.text.specs.Codes.{Taken}
+use Rattle.text.specs.declared.Code.{Code}
+use Rattle.text.specs.declared.Code.the-variants.{Point, NoCode}
 use Rattle.text.specs.declared.Next.{Next}
 use Rattle.text.specs.declared.Next.the-variants.{At, Bad}
 
@@ -27,3 +30,7 @@ ended s i h = drop-of-length-le s h
 pub answer-from : (o o′ : Option Text) (s : Text) (lo lo′ : ℕ) (r : Next) → Answer o s lo r → lo′ ≤ lo → o′ ≡ o → Answer o′ s lo′ r
 answer-from o o′ s lo lo′ (At i) a h e = (e ∙ a .0, le-trans h (a .1), a .2)
 answer-from o o′ s lo lo′ Bad a h e = e ∙ a
+
+pub taken-from : (o o′ : Option (ℕ × Text)) (s : Text) (lo lo′ hi : ℕ) (r : Code) → Taken o s lo hi r → lo′ ≤ lo → o′ ≡ o → Taken o′ s lo′ hi r
+taken-from o o′ s lo lo′ hi (Point x i) a h e = (e ∙ a .0, le-trans h (a .1), a .2, a .3)
+taken-from o o′ s lo lo′ hi NoCode a h e = e ∙ a
