@@ -123,13 +123,13 @@ pub fn value(s: &[u8], at: usize, depth: usize) -> Next
     }
     let b = s[at];
     if b == OPEN_BRACE {
-        if depth == 0 {
+        if depth == 0 { // too deep for an object
             return Next::Bad;
         }
         return object(s, at + 1, depth - 1);
     }
     if b == OPEN_BRACKET {
-        if depth == 0 {
+        if depth == 0 { // too deep for an array
             return Next::Bad;
         }
         return array(s, at + 1, depth - 1);

@@ -42,7 +42,9 @@ module _ (t : ℕ) where
   enum-known-first c = search needs
 
   pub loop-holds : lts.Need-loop-holds (claims t) (array-at t) array.Post Inv-loop μ-loop
-  loop-holds c = going-start (spelled-reads (value-reads (c .before .before .before .before .before .args .depth))) 0x5D (c .before .before .before .before .before .args .s .now) (c .before .before .before .before .before .args .at) (subst (Follows _ _ _) (c .before .first .given .1) (c .before .before .before .opening .ensures))
+  loop-holds c =
+      let a = (c .before .before .before .before .before .args) in
+      going-start (spelled (rValue (a .depth))) 0x5D (a .s .now) (a .at) (subst (Follows _ _ _) (c .before .first .given .1) (c .before .before .before .opening .ensures))
 
   pub value-requires : lts.Need-value-requires (claims t) (array-at t) array.Post Inv-loop μ-loop
   value-requires c κs = (omega arith, (c .loop .inv .within))
@@ -55,7 +57,7 @@ module _ (t : ℕ) where
 
   pub returns : lts.Need-returns (claims t) (array-at t) array.Post Inv-loop μ-loop
   unfolding elements
-  returns c = going-none (spelled-reads (value-reads (c .before .before .before .before .before .before .before .before .before .args .depth))) 0x5D (c .before .before .before .before .before .before .before .before .before .args .s .now) (c .before .before .before .before .before .before .before .before .before .args .at) (c .before .before .before .loop .inv) (behind-spelled _ _ ∙ subst (Answer _ _ _) (c .enum-told2 .given .1) (c .before .before .value .ensures))
+  returns c = going-none (c .before .before .before .loop .inv) (behind-spelled _ _ ∙ subst (Answer _ _ _) (c .enum-told2 .given .1) (c .before .before .value .ensures))
 
   pub closing-requires : lts.Need-closing-requires (claims t) (array-at t) array.Post Inv-loop μ-loop
   closing-requires c κs = subst (Answer _ _ _) (c .before .j .given .1) (c .before .before .before .value .ensures) .2
@@ -67,7 +69,7 @@ module _ (t : ℕ) where
   unfolding elements
   returns-2 c =
       let v = subst (Answer _ _ _) (c .before .before .before .before .j .given .1) (c .before .before .before .before .before .before .value .ensures) in
-      going-neither (spelled-reads (value-reads (c .before .before .before .before .before .before .before .before .before .before .before .before .before .args .depth))) 0x5D (c .before .before .before .before .before .before .before .before .before .before .before .before .before .args .s .now) (c .before .before .before .before .before .before .before .before .before .before .before .before .before .args .at) (c .before .before .before .before .before .before .before .loop .inv) (c .before .before .before .before .j .given .0 .0) (behind-spelled _ _ ∙ v .0) (subst (Follows _ _ _) (c .enum-told3 .given .1) (c .before .before .closing .ensures))
+      going-neither (c .before .before .before .before .before .before .before .loop .inv) (c .before .before .before .before .j .given .0 .0) (behind-spelled _ _ ∙ v .0) (subst (Follows _ _ _) (c .enum-told3 .given .1) (c .before .before .closing .ensures))
 
   pub enum-known-end-2 : lts.Need-enum-known-end-2 (claims t) (array-at t) array.Post Inv-loop μ-loop
   enum-known-end-2 c = search needs
@@ -76,7 +78,7 @@ module _ (t : ℕ) where
   unfolding elements
   returns-3 c =
       let v = subst (Answer _ _ _) (c .before .before .before .before .before .j .given .1) (c .before .before .before .before .before .before .before .value .ensures) in
-      going-closed (spelled-reads (value-reads (c .before .before .before .before .before .before .before .before .before .before .before .before .before .before .args .depth))) 0x5D (c .before .before .before .before .before .before .before .before .before .before .before .before .before .before .args .s .now) (c .before .before .before .before .before .before .before .before .before .before .before .before .before .before .args .at) (c .before .before .before .before .before .before .before .before .loop .inv) (c .before .before .before .before .before .j .given .0 .0) (behind-spelled _ _ ∙ v .0) (c .before .before .before .before .before .before .before .before .before .before .before .before .before .before .pre .1) (subst (Follows _ _ _) (c .before .end2 .given .1) (c .before .before .before .closing .ensures))
+      going-closed (c .before .before .before .before .before .before .before .before .loop .inv) (c .before .before .before .before .before .j .given .0 .0) (behind-spelled _ _ ∙ v .0) (spelled-reads (value-reads (c .before .before .before .before .before .before .before .before .before .before .before .before .before .before .args .depth))) (c .before .before .before .before .before .before .before .before .before .before .before .before .before .before .pre .1) (subst (Follows _ _ _) (c .before .end2 .given .1) (c .before .before .before .closing .ensures))
 
   pub enum-known-k : lts.Need-enum-known-k (claims t) (array-at t) array.Post Inv-loop μ-loop
   enum-known-k c = search needs
@@ -90,12 +92,16 @@ module _ (t : ℕ) where
   pub loop-again : lts.Need-loop-again (claims t) (array-at t) array.Post Inv-loop μ-loop
   loop-again c =
       let v = subst (Answer _ _ _) (c .before .before .before .before .before .j .given .1) (c .before .before .before .before .before .before .before .value .ensures) in
-      going-more (spelled-reads (value-reads (c .before .before .before .before .before .before .before .before .before .before .before .before .before .before .args .depth))) 0x5D (c .before .before .before .before .before .before .before .before .before .before .before .before .before .before .args .s .now) (c .before .before .before .before .before .before .before .before .before .before .before .before .before .before .args .at) (c .before .before .before .before .before .before .before .before .loop .inv) (c .before .before .before .before .before .j .given .0 .0) (behind-spelled _ _ ∙ v .0) (subst (Follows _ _ _) (c .before .k .given .1) (c .before .before .before .closing .ensures))
+      going-more (c .before .before .before .before .before .before .before .before .loop .inv) (c .before .before .before .before .before .j .given .0 .0) (behind-spelled _ _ ∙ v .0) (spelled-reads (value-reads (c .before .before .before .before .before .before .before .before .before .before .before .before .before .before .args .depth))) (subst (Follows _ _ _) (c .before .k .given .1) (c .before .before .before .closing .ensures))
 
   pub returns-4 : lts.Need-returns-4 (claims t) (array-at t) array.Post Inv-loop μ-loop
   unfolding elements
-  returns-4 c = opened-none (spelled-reads (value-reads (c .before .before .before .before .args .depth))) 0x5D (c .before .before .before .before .args .s .now) (c .before .before .before .before .args .at) (subst (Follows _ _ _) (c .enum-told .given .1) (c .before .before .opening .ensures))
+  returns-4 c =
+      let a = (c .before .before .before .before .args) in
+      opened-none (spelled (rValue (a .depth))) 0x5D (a .s .now) (a .at) (subst (Follows _ _ _) (c .enum-told .given .1) (c .before .before .opening .ensures))
 
   pub returns-5 : lts.Need-returns-5 (claims t) (array-at t) array.Post Inv-loop μ-loop
   unfolding elements
-  returns-5 c = opened-closed (spelled-reads (value-reads (c .before .before .before .before .before .args .depth))) 0x5D (c .before .before .before .before .before .args .s .now) (c .before .before .before .before .before .args .at) (c .before .before .before .before .before .pre .1) (subst (Follows _ _ _) (c .before .end .given .1) (c .before .before .before .opening .ensures))
+  returns-5 c =
+      let a = (c .before .before .before .before .before .args) in
+      opened-closed (spelled (rValue (a .depth))) 0x5D (a .s .now) (a .at) (spelled-reads (value-reads (a .depth))) (c .before .before .before .before .before .pre .1) (subst (Follows _ _ _) (c .before .end .given .1) (c .before .before .before .opening .ensures))

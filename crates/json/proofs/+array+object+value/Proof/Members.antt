@@ -42,7 +42,9 @@ module _ (t : ℕ) where
   enum-known-first c = search needs
 
   pub loop-holds : lts.Need-loop-holds (claims t) (object-at t) object.Post Inv-loop μ-loop
-  loop-holds c = going-start (member-reads (value-reads (c .before .before .before .before .before .args .depth))) 0x7D (c .before .before .before .before .before .args .s .now) (c .before .before .before .before .before .args .at) (subst (Follows _ _ _) (c .before .first .given .1) (c .before .before .before .opening .ensures))
+  loop-holds c =
+      let a = (c .before .before .before .before .before .args) in
+      going-start (member (rValue (a .depth))) 0x7D (a .s .now) (a .at) (subst (Follows _ _ _) (c .before .first .given .1) (c .before .before .before .opening .ensures))
 
   pub skip-name-requires : lts.Need-skip-name-requires (claims t) (object-at t) object.Post Inv-loop μ-loop
   skip-name-requires c κs = (c .loop .inv .within)
@@ -55,7 +57,7 @@ module _ (t : ℕ) where
 
   pub returns : lts.Need-returns (claims t) (object-at t) object.Post Inv-loop μ-loop
   unfolding contents
-  returns c = going-none (member-reads (value-reads (c .before .before .before .before .before .before .before .before .before .args .depth))) 0x7D (c .before .before .before .before .before .before .before .before .before .args .s .now) (c .before .before .before .before .before .before .before .before .before .args .at) (c .before .before .before .loop .inv) (member-nameless _ _ (subst (Answer _ _ _) (c .enum-told2 .given .1) (c .before .before .skip-name .ensures)))
+  returns c = going-none (c .before .before .before .loop .inv) (member-nameless _ _ (subst (Answer _ _ _) (c .enum-told2 .given .1) (c .before .before .skip-name .ensures)))
 
   pub value-requires : lts.Need-value-requires (claims t) (object-at t) object.Post Inv-loop μ-loop
   value-requires c κs = (omega arith, subst (Answer _ _ _) (c .before .v .given .1) (c .before .before .before .skip-name .ensures) .2)
@@ -68,7 +70,9 @@ module _ (t : ℕ) where
 
   pub returns-2 : lts.Need-returns-2 (claims t) (object-at t) object.Post Inv-loop μ-loop
   unfolding contents
-  returns-2 c = going-none (member-reads (value-reads (c .before .before .before .before .before .before .before .before .before .before .before .before .before .args .depth))) 0x7D (c .before .before .before .before .before .before .before .before .before .before .before .before .before .args .s .now) (c .before .before .before .before .before .before .before .before .before .before .before .before .before .args .at) (c .before .before .before .before .before .before .before .loop .inv) (member-named _ _ (subst (Answer _ _ _) (c .before .before .before .before .v .given .1) (c .before .before .before .before .before .before .skip-name .ensures) .0) (subst (Answer _ _ _) (c .enum-told3 .given .1) (c .before .before .value .ensures)))
+  returns-2 c =
+      let n = subst (Answer _ _ _) (c .before .before .before .before .v .given .1) (c .before .before .before .before .before .before .skip-name .ensures) in
+      going-none (c .before .before .before .before .before .before .before .loop .inv) (member-named _ _ (n .0) (subst (Answer _ _ _) (c .enum-told3 .given .1) (c .before .before .value .ensures)))
 
   pub closing-requires : lts.Need-closing-requires (claims t) (object-at t) object.Post Inv-loop μ-loop
   closing-requires c κs = subst (Answer _ _ _) (c .before .j .given .1) (c .before .before .before .value .ensures) .2
@@ -81,7 +85,7 @@ module _ (t : ℕ) where
   returns-3 c =
       let n = subst (Answer _ _ _) (c .before .before .before .before .before .before .before .before .v .given .1) (c .before .before .before .before .before .before .before .before .before .before .skip-name .ensures) in
       let v = subst (Answer _ _ _) (c .before .before .before .before .j .given .1) (c .before .before .before .before .before .before .value .ensures) in
-      going-neither (member-reads (value-reads (c .before .before .before .before .before .before .before .before .before .before .before .before .before .before .before .before .before .args .depth))) 0x7D (c .before .before .before .before .before .before .before .before .before .before .before .before .before .before .before .before .before .args .s .now) (c .before .before .before .before .before .before .before .before .before .before .before .before .before .before .before .before .before .args .at) (c .before .before .before .before .before .before .before .before .before .before .before .loop .inv) (c .before .before .before .before .j .given .0 .0) (member-named _ _ (n .0) (v .0)) (subst (Follows _ _ _) (c .enum-told4 .given .1) (c .before .before .closing .ensures))
+      going-neither (c .before .before .before .before .before .before .before .before .before .before .before .loop .inv) (c .before .before .before .before .j .given .0 .0) (member-named _ _ (n .0) (v .0)) (subst (Follows _ _ _) (c .enum-told4 .given .1) (c .before .before .closing .ensures))
 
   pub enum-known-end-2 : lts.Need-enum-known-end-2 (claims t) (object-at t) object.Post Inv-loop μ-loop
   enum-known-end-2 c = search needs
@@ -91,7 +95,7 @@ module _ (t : ℕ) where
   returns-4 c =
       let n = subst (Answer _ _ _) (c .before .before .before .before .before .before .before .before .before .v .given .1) (c .before .before .before .before .before .before .before .before .before .before .before .skip-name .ensures) in
       let v = subst (Answer _ _ _) (c .before .before .before .before .before .j .given .1) (c .before .before .before .before .before .before .before .value .ensures) in
-      going-closed (member-reads (value-reads (c .before .before .before .before .before .before .before .before .before .before .before .before .before .before .before .before .before .before .args .depth))) 0x7D (c .before .before .before .before .before .before .before .before .before .before .before .before .before .before .before .before .before .before .args .s .now) (c .before .before .before .before .before .before .before .before .before .before .before .before .before .before .before .before .before .before .args .at) (c .before .before .before .before .before .before .before .before .before .before .before .before .loop .inv) (c .before .before .before .before .before .j .given .0 .0) (member-named _ _ (n .0) (v .0)) (c .before .before .before .before .before .before .before .before .before .before .before .before .before .before .before .before .before .before .pre .1) (subst (Follows _ _ _) (c .before .end2 .given .1) (c .before .before .before .closing .ensures))
+      going-closed (c .before .before .before .before .before .before .before .before .before .before .before .before .loop .inv) (c .before .before .before .before .before .j .given .0 .0) (member-named _ _ (n .0) (v .0)) (member-reads (value-reads (c .before .before .before .before .before .before .before .before .before .before .before .before .before .before .before .before .before .before .args .depth))) (c .before .before .before .before .before .before .before .before .before .before .before .before .before .before .before .before .before .before .pre .1) (subst (Follows _ _ _) (c .before .end2 .given .1) (c .before .before .before .closing .ensures))
 
   pub enum-known-k : lts.Need-enum-known-k (claims t) (object-at t) object.Post Inv-loop μ-loop
   enum-known-k c = search needs
@@ -107,12 +111,16 @@ module _ (t : ℕ) where
   loop-again c =
       let n = subst (Answer _ _ _) (c .before .before .before .before .before .before .before .before .before .v .given .1) (c .before .before .before .before .before .before .before .before .before .before .before .skip-name .ensures) in
       let v = subst (Answer _ _ _) (c .before .before .before .before .before .j .given .1) (c .before .before .before .before .before .before .before .value .ensures) in
-      going-more (member-reads (value-reads (c .before .before .before .before .before .before .before .before .before .before .before .before .before .before .before .before .before .before .args .depth))) 0x7D (c .before .before .before .before .before .before .before .before .before .before .before .before .before .before .before .before .before .before .args .s .now) (c .before .before .before .before .before .before .before .before .before .before .before .before .before .before .before .before .before .before .args .at) (c .before .before .before .before .before .before .before .before .before .before .before .before .loop .inv) (c .before .before .before .before .before .j .given .0 .0) (member-named _ _ (n .0) (v .0)) (subst (Follows _ _ _) (c .before .k .given .1) (c .before .before .before .closing .ensures))
+      going-more (c .before .before .before .before .before .before .before .before .before .before .before .before .loop .inv) (c .before .before .before .before .before .j .given .0 .0) (member-named _ _ (n .0) (v .0)) (member-reads (value-reads (c .before .before .before .before .before .before .before .before .before .before .before .before .before .before .before .before .before .before .args .depth))) (subst (Follows _ _ _) (c .before .k .given .1) (c .before .before .before .closing .ensures))
 
   pub returns-5 : lts.Need-returns-5 (claims t) (object-at t) object.Post Inv-loop μ-loop
   unfolding contents
-  returns-5 c = opened-none (member-reads (value-reads (c .before .before .before .before .args .depth))) 0x7D (c .before .before .before .before .args .s .now) (c .before .before .before .before .args .at) (subst (Follows _ _ _) (c .enum-told .given .1) (c .before .before .opening .ensures))
+  returns-5 c =
+      let a = (c .before .before .before .before .args) in
+      opened-none (member (rValue (a .depth))) 0x7D (a .s .now) (a .at) (subst (Follows _ _ _) (c .enum-told .given .1) (c .before .before .opening .ensures))
 
   pub returns-6 : lts.Need-returns-6 (claims t) (object-at t) object.Post Inv-loop μ-loop
   unfolding contents
-  returns-6 c = opened-closed (member-reads (value-reads (c .before .before .before .before .before .args .depth))) 0x7D (c .before .before .before .before .before .args .s .now) (c .before .before .before .before .before .args .at) (c .before .before .before .before .before .pre .1) (subst (Follows _ _ _) (c .before .end .given .1) (c .before .before .before .opening .ensures))
+  returns-6 c =
+      let a = (c .before .before .before .before .before .args) in
+      opened-closed (member (rValue (a .depth))) 0x7D (a .s .now) (a .at) (member-reads (value-reads (a .depth))) (c .before .before .before .before .before .pre .1) (subst (Follows _ _ _) (c .before .end .given .1) (c .before .before .before .opening .ensures))
