@@ -1,0 +1,3 @@
+-- The shared laws.
+pub mod Lists
+pub mod Parts

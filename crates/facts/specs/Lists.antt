@@ -1,0 +1,7 @@
+-- A property of every element of a list.
+use mathlib.Core.List.{List, [], _∷_}
+
+-- P holds of each element
+unfoldable pub All : {A : Type 0} → (A → Type 0) → List A → Type 0
+All P [] = Unit {0}
+All P (x ∷ xs) = P x × All P xs
