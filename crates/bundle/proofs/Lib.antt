@@ -1,0 +1,8 @@
+-- The laws that the proofs of the functions cite.
+pub mod Fields
+pub mod Padding
+pub mod Choices
+pub mod Entries
+pub mod Ascent
+pub mod Passing
+pub mod Opening
