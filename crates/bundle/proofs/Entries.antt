@@ -29,9 +29,9 @@ module _ (e : ℕ) (s : Bytes) where
   unfolding entryOf
   entry-size at h = rw (field-drop e 100 4 s, h)
 
-  pub entry-time : entryOf (drop e s) .time ≡ little (field (e + 104) 8 s)
+  pub entry-time : (at : ℕ) → at ≡ e + 104 → entryOf (drop e s) .time ≡ little (field at 8 s)
   unfolding entryOf
-  entry-time = rw (field-drop e 104 8 s)
+  entry-time at h = rw (field-drop e 104 8 s, h)
 
 -- ---- one after another
 

@@ -6,3 +6,7 @@ pub mod Entries
 pub mod Ascent
 pub mod Passing
 pub mod Opening
+pub mod Reading
+pub mod Naming
+pub mod Answering
+pub mod Large

@@ -1,5 +1,7 @@
 // The bundle: which byte strings are well-formed, and of one that is, each file's name, body and modified time.
 // Names and bodies are handed on as parts of the bundle; nothing is copied.
+use names::Millis;
+use names::Name;
 use values::Order;
 ghost use mathlib.Core.Path.{_≡_};
 ghost use mathlib.Core.Bool.{true};
@@ -8,8 +10,10 @@ ghost use lib.ListN.{length, drop, getD};
 ghost use Rattle.rules.specs.Bytes.{among};
 ghost use Rattle.rules.specs.Numbers.{little};
 ghost use Rattle.rules.specs.Bundle.{field, zeros, nameIn, bundle as rBundle};
-ghost use Rattle.bundle.specs.Files.{isSome, nameSize, firstTwo, left, leftFits};
-ghost use Rattle.bundle.specs.Answers.{Passed, OpenedAs};
+ghost use Rattle.rules.specs.Names.{nameOf, isTooLarge, anyTooLarge};
+ghost use Rattle.names.specs.Names.{nameIs};
+ghost use Rattle.bundle.specs.Files.{isSome, filesIn, fileIn, nameSize, firstTwo, left, leftFits};
+ghost use Rattle.bundle.specs.Answers.{Passed, OpenedAs, EntryIs};
 
 // The count's bytes, an entry's, and those of its name.
 const COUNT: usize = 4;
@@ -214,4 +218,93 @@ pub fn open(s: &[u8]) -> Opened
         return Opened::Entries(n);
     }
     Opened::Malformed
+}
+
+// ---- the files of a well-formed bundle
+
+// An entry: its name has so many bytes, and its body so many from `start` on.
+pub struct Entry {
+    pub name: usize,
+    pub start: usize,
+    pub size: usize,
+    pub time: Millis,
+}
+
+// Entry k of the bundle s.
+pub fn entry_at(s: &[u8], k: usize) -> Entry
+    requires { ⌜ k < length (filesIn (now s)) ⌝ }
+    ensures { λ r. ⌜ EntryIs (now (s .entry)) (fileIn (now (s .entry)) k) k r ⌝ }
+{
+    let e = COUNT + ENTRY * k;
+    let e_start = e + NAME;
+    let name = name_size(&s[e..e_start]);
+    let start = u32_at(s, e_start);
+    let size = u32_at(s, e_start + 4);
+    let time = u64_at(s, e_start + 8);
+    Entry {
+        name,
+        start,
+        size,
+        time: Millis(time),
+    }
+}
+
+// The name of file k, as a part of the bundle.
+pub fn name_in<'a>(s: &'a [u8], k: usize) -> &'a [u8]
+    requires { ⌜ k < length (filesIn (now s)) ⌝ }
+    ensures { λ r. ⌜ now r ≡ fileIn (now (s .entry)) k .name ⌝ }
+{
+    let e = entry_at(s, k);
+    let a = COUNT + ENTRY * k;
+    let b = a + e.name;
+    &s[a..b]
+}
+
+// The body of file k, as a part of the bundle.
+pub fn body_in<'a>(s: &'a [u8], k: usize) -> &'a [u8]
+    requires { ⌜ k < length (filesIn (now s)) ⌝ }
+    ensures { λ r. ⌜ now r ≡ fileIn (now (s .entry)) k .body ⌝ }
+{
+    let e = entry_at(s, k);
+    let a = e.start;
+    let b = a + e.size;
+    &s[a..b]
+}
+
+// What the name of file k says.
+pub fn kind(s: &[u8], k: usize) -> Name
+    requires { ⌜ k < length (filesIn (now s)) ⌝ }
+    ensures { λ r. ⌜ r ≡ nameIs (nameOf (fileIn (now (s .entry)) k .name)) ⌝ }
+{
+    names::name_of(name_in(s, k))
+}
+
+// Whether the version in the name of file k is too large.
+fn too_large(s: &[u8], k: usize) -> bool
+    requires { ⌜ k < length (filesIn (now s)) ⌝ }
+    ensures { λ r. ⌜ r ≡ isTooLarge (nameOf (fileIn (now (s .entry)) k .name)) ⌝ }
+{
+    match kind(s, k) {
+        Name::VersionFile(_) => false,
+        Name::Checkpoint(_) => false,
+        Name::Marker => false,
+        Name::Other => false,
+        Name::TooLarge => true,
+    }
+}
+
+// Whether the version in some name of the well-formed bundle s is too large.
+pub fn any_too_large(s: &[u8]) -> bool
+    requires { ⌜ isSome (rBundle (now s)) ≡ true ⌝ }
+    ensures { λ r. ⌜ r ≡ anyTooLarge (filesIn (now (s .entry))) ⌝ }
+{
+    let n = u32_at(s, 0);
+    let mut k = 0;
+    while k < n {
+        if too_large(s, k) {
+            return true;
+        }
+        k += 1;
+    }
+    false
 }

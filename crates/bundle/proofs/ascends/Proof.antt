@@ -1,3 +1,4 @@
+-- Two names of 96 bytes are compared; the last entry has no next.
 use borrow.Author.Needs.{needs}
 use Rattle.bundle.proofs.ascends.Statement.{statement}
 use Rattle.bundle.proofs.ascends.Tie as tie

@@ -1,3 +1,4 @@
+-- A byte of a slice is below 256.
 use mathlib.Core.Path.{refl}
 use native.Mathlib.Omega.{arith}
 use Rattle.bundle.proofs.byte_at.Statement.{statement}

@@ -1,3 +1,4 @@
+-- What is left decides, turn by turn; in the end, that the last body ends where the bundle does.
 use borrow.Author.Needs.{needs}
 use native.Mathlib.Omega.{arith}
 use Rattle.bundle.proofs.filled.Statement.{statement}

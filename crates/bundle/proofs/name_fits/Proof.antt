@@ -1,3 +1,4 @@
+-- Behind its first byte a name fits just where what is left of it does.
 use borrow.Author.Needs.{needs}
 use native.Mathlib.Omega.{arith}
 use Rattle.bundle.proofs.name_fits.Statement.{statement}

@@ -1,3 +1,4 @@
+-- The bytes passed, and the size of what is left.
 use native.Mathlib.Omega.{arith}
 use Rattle.bundle.proofs.name_size.Statement.{statement}
 use Rattle.bundle.proofs.name_size.Tie as tie

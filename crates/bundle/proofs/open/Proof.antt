@@ -1,3 +1,4 @@
+-- The rule's tests in its order; a well-formed bundle has as many files as its count says.
 use borrow.Author.Needs.{needs}
 use Rattle.bundle.proofs.open.Statement.{statement}
 use Rattle.bundle.proofs.open.Tie as tie

@@ -1,3 +1,4 @@
+-- Each test is one of the rule's for the first entry that is left; where all pass, the rest decides.
 use native.Mathlib.Omega.{arith}
 use borrow.Author.Needs.{needs}
 use Rattle.bundle.proofs.pass_entry.Statement.{statement}

@@ -1,3 +1,4 @@
+-- Four bytes stand for their number by the law of four.
 use native.Mathlib.Omega.{arith}
 use borrow.Author.Needs.{needs}
 use Rattle.bundle.proofs.u32_at.Statement.{statement}

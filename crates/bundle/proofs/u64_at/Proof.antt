@@ -1,3 +1,4 @@
+-- Eight bytes are two fours, the lower first.
 use native.Mathlib.Omega.{arith}
 use borrow.Author.Needs.{needs}
 use Rattle.bundle.proofs.u64_at.Statement.{statement}

@@ -1,3 +1,4 @@
+-- The rule's range, by its two ends.
 use Rattle.bundle.proofs.visible.Statement.{statement}
 use Rattle.bundle.proofs.visible.Tie as tie
 use mathlib.Core.Path.{sym}

@@ -1,3 +1,4 @@
+-- What is left is zeros just where what began is.
 use native.Mathlib.Omega.{arith}
 use Rattle.bundle.proofs.zeros_from.Statement.{statement}
 use Rattle.bundle.proofs.zeros_from.Tie as tie

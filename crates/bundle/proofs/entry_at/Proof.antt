@@ -1,0 +1,87 @@
+-- What is read of the entry is its file's, by the law of file k.
+use native.Mathlib.Omega.{arith}
+use borrow.Author.Needs.{needs}
+use Rattle.bundle.proofs.entry_at.Statement.{statement}
+use Rattle.bundle.proofs.entry_at.Tie as tie
+use Prim.Native.Nat.{_+_, _-_, _*_, _≤_}
+use lib.ListN.{length}
+use Rattle.bundle.proofs.Reading.{found}
+use Rattle.bundle.proofs.Answering.{entry-is}
+
+mul-e : tie.Need-mul-e
+mul-e c =
+    let long : 4 + 112 * (c .before .args .k) + 112 ≤ length (c .before .args .s .now) = found (c .before .args .s .now) (c .before .args .k) (c .before .pre) .contents in
+    omega arith
+
+add-e : tie.Need-add-e
+add-e c =
+    let long : 4 + 112 * (c .before .args .k) + 112 ≤ length (c .before .args .s .now) = found (c .before .args .s .now) (c .before .args .k) (c .before .pre) .contents in
+    omega arith
+
+add-e-start : tie.Need-add-e-start
+add-e-start c =
+    let long : 4 + 112 * (c .before .args .k) + 112 ≤ length (c .before .args .s .now) = found (c .before .args .s .now) (c .before .args .k) (c .before .pre) .contents in
+    omega arith
+
+sub-name-size : tie.Need-sub-name-size
+sub-name-size c = search needs
+
+part-name-size-start : tie.Need-part-name-size-start
+part-name-size-start c = search needs
+
+part-name-size-end : tie.Need-part-name-size-end
+part-name-size-end c =
+    let long : 4 + 112 * (c .before .args .k) + 112 ≤ length (c .before .args .s .now) = found (c .before .args .s .now) (c .before .args .k) (c .before .pre) .contents in
+    omega arith
+
+name-size-requires : tie.Need-name-size-requires
+name-size-requires c κs = search needs
+
+u32-at-requires : tie.Need-u32-at-requires
+u32-at-requires c κs =
+    let long : 4 + 112 * (c .before .before .before .args .k) + 112 ≤ length (c .before .before .before .args .s .now) = found (c .before .before .before .args .s .now) (c .before .before .before .args .k) (c .before .before .before .pre) .contents in
+    omega arith
+
+add-u32-at : tie.Need-add-u32-at
+add-u32-at c =
+    let long : 4 + 112 * (c .before .before .before .before .args .k) + 112 ≤ length (c .before .before .before .before .args .s .now) = found (c .before .before .before .before .args .s .now) (c .before .before .before .before .args .k) (c .before .before .before .before .pre) .contents in
+    omega arith
+
+u32-at-requires-2 : tie.Need-u32-at-requires-2
+u32-at-requires-2 c κs =
+    let long : 4 + 112 * (c .before .before .before .before .args .k) + 112 ≤ length (c .before .before .before .before .args .s .now) = found (c .before .before .before .before .args .s .now) (c .before .before .before .before .args .k) (c .before .before .before .before .pre) .contents in
+    omega arith
+
+add-u64-at : tie.Need-add-u64-at
+add-u64-at c =
+    let long : 4 + 112 * (c .before .before .before .before .before .args .k) + 112 ≤ length (c .before .before .before .before .before .args .s .now) = found (c .before .before .before .before .before .args .s .now) (c .before .before .before .before .before .args .k) (c .before .before .before .before .before .pre) .contents in
+    omega arith
+
+u64-at-requires : tie.Need-u64-at-requires
+u64-at-requires c κs =
+    let long : 4 + 112 * (c .before .before .before .before .before .args .k) + 112 ≤ length (c .before .before .before .before .before .args .s .now) = found (c .before .before .before .before .before .args .s .now) (c .before .before .before .before .before .args .k) (c .before .before .before .before .before .pre) .contents in
+    omega arith
+
+returns : tie.Need-returns
+returns c =
+    entry-is (c .before .before .before .before .before .before .args .s .now) (c .before .before .before .before .before .before .args .k) (c .before .before .before .name-size .result) (c .before .before .u32-at .result) (c .before .u32-at2 .result) (c .u64-at .result)
+    (found (c .before .before .before .before .before .before .args .s .now) (c .before .before .before .before .before .before .args .k) (c .before .before .before .before .before .before .pre))
+    (c .before .before .before .name-size .ensures .0) (c .before .before .before .name-size .ensures .1) (c .before .before .u32-at .ensures .0) (c .before .u32-at2 .ensures .0) (c .u64-at .ensures)
+
+pub entry-at-spec : {M : Type 1} → statement M
+entry-at-spec =
+    tie.close
+    (tie.spec
+    mul-e
+    add-e
+    add-e-start
+    sub-name-size
+    part-name-size-start
+    part-name-size-end
+    name-size-requires
+    u32-at-requires
+    add-u32-at
+    u32-at-requires-2
+    add-u64-at
+    u64-at-requires
+    returns)
