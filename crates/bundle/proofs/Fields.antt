@@ -1,5 +1,5 @@
 -- Numbers that lie in the bundle byte by byte, the lowest first.
-use mathlib.Core.Path.{_≡_, _∙_}
+use mathlib.Core.Path.{_≡_, sym, _∙_}
 use Prim.Native.Nat.{ℕ, suc, _+_, _*_, _≤_, _<_}
 use native.Mathlib.Omega.{arith}
 use lib.ListN.{length, drop, getD}
@@ -30,10 +30,16 @@ module _ (s : Bytes) where
       let d = little-more (at + 3) (at + 4) m (omega arith) (omega arith) in
       rw (a, b, c, d)
 
-  pub little-four : (at : ℕ) → at + 4 ≤ length s
+  little-four : (at : ℕ) → at + 4 ≤ length s
       → little (field at 4 s) ≡ getD s at 0 + 256 * (getD s (at + 1) 0 + 256 * (getD s (at + 2) 0 + 256 * getD s (at + 3) 0))
   unfolding field little
   little-four at h = little-four-more at 0 h ∙ omega arith
+
+  -- the four bytes, the lowest first, make the number
+  pub four-little : (at a b c d : ℕ) → at + 4 ≤ length s
+      → a ≡ getD s at 0 → b ≡ getD s (at + 1) 0 → c ≡ getD s (at + 2) 0 → d ≡ getD s (at + 3) 0
+      → a + 256 * (b + 256 * (c + 256 * d)) ≡ little (field at 4 s)
+  four-little at a b c d h ea eb ec ed = rw (ea, eb, ec, ed) (sym (little-four at h))
 
   pub little-eight : (at : ℕ) → at + 8 ≤ length s → little (field at 8 s) ≡ little (field at 4 s) + 4294967296 * little (field (at + 4) 4 s)
   little-eight at h =

@@ -1,10 +1,10 @@
--- Four bytes stand for their number by the law of four.
+-- Four bytes make their number by the law of four.
 use native.Mathlib.Omega.{arith}
 use borrow.Author.Needs.{needs}
 use Rattle.bundle.proofs.u32_at.Statement.{statement}
 use Rattle.bundle.proofs.u32_at.Tie as tie
 use Prim.Native.Nat.{_-_}
-use Rattle.bundle.proofs.Fields.{little-four}
+use Rattle.bundle.proofs.Fields.{four-little}
 
 byte-at-requires : tie.Need-byte-at-requires
 byte-at-requires c κs = search needs
@@ -47,12 +47,11 @@ add-result-3 c = search needs
 
 returns : tie.Need-returns
 returns c =
-    let h = little-four (c .before .before .before .before .before .args .s .now) (c .before .before .before .before .before .args .at) (c .before .before .before .before .before .pre) in
-    let x0 = c .before .before .before .byte-at .ensures in
-    let x1 = c .before .before .byte-at2 .ensures in
-    let x2 = c .before .byte-at3 .ensures in
-    let x3 = c .byte-at4 .ensures in
-    (omega arith, omega arith)
+    let a = c .before .before .before .byte-at .ensures in
+    let b = c .before .before .byte-at2 .ensures in
+    let x = c .before .byte-at3 .ensures in
+    let y = c .byte-at4 .ensures in
+    (four-little (c .before .before .before .before .before .args .s .now) (c .before .before .before .before .before .args .at) _ _ _ _ (c .before .before .before .before .before .pre) (a .0) (b .0) (x .0) (y .0), omega arith)
 
 pub u32-at-spec : {M : Type 1} → statement M
 u32-at-spec =
