@@ -8,20 +8,18 @@ use lib.ListN.{length}
 use Rattle.bundle.proofs.Reading.{found}
 use Rattle.bundle.proofs.Answering.{entry-is}
 
+-- the entry lies in the bundle
+inside : (c : tie.Start) → 4 + 112 * c .args .k + 112 ≤ length (c .args .s .now)
+inside c = found (c .args .s .now) (c .args .k) (c .pre) .contents
+
 mul-e : tie.Need-mul-e
-mul-e c =
-    let long : 4 + 112 * (c .before .args .k) + 112 ≤ length (c .before .args .s .now) = found (c .before .args .s .now) (c .before .args .k) (c .before .pre) .contents in
-    omega arith
+mul-e c = omega (arith, inside (c .before))
 
 add-e : tie.Need-add-e
-add-e c =
-    let long : 4 + 112 * (c .before .args .k) + 112 ≤ length (c .before .args .s .now) = found (c .before .args .s .now) (c .before .args .k) (c .before .pre) .contents in
-    omega arith
+add-e c = omega (arith, inside (c .before))
 
 add-e-start : tie.Need-add-e-start
-add-e-start c =
-    let long : 4 + 112 * (c .before .args .k) + 112 ≤ length (c .before .args .s .now) = found (c .before .args .s .now) (c .before .args .k) (c .before .pre) .contents in
-    omega arith
+add-e-start c = omega (arith, inside (c .before))
 
 sub-name-size : tie.Need-sub-name-size
 sub-name-size c = search needs
@@ -30,37 +28,25 @@ part-name-size-start : tie.Need-part-name-size-start
 part-name-size-start c = search needs
 
 part-name-size-end : tie.Need-part-name-size-end
-part-name-size-end c =
-    let long : 4 + 112 * (c .before .args .k) + 112 ≤ length (c .before .args .s .now) = found (c .before .args .s .now) (c .before .args .k) (c .before .pre) .contents in
-    omega arith
+part-name-size-end c = omega (arith, inside (c .before))
 
 name-size-requires : tie.Need-name-size-requires
 name-size-requires c κs = search needs
 
 u32-at-requires : tie.Need-u32-at-requires
-u32-at-requires c κs =
-    let long : 4 + 112 * (c .before .before .before .args .k) + 112 ≤ length (c .before .before .before .args .s .now) = found (c .before .before .before .args .s .now) (c .before .before .before .args .k) (c .before .before .before .pre) .contents in
-    omega arith
+u32-at-requires c κs = omega (arith, inside (c .before .before .before))
 
 add-u32-at : tie.Need-add-u32-at
-add-u32-at c =
-    let long : 4 + 112 * (c .before .before .before .before .args .k) + 112 ≤ length (c .before .before .before .before .args .s .now) = found (c .before .before .before .before .args .s .now) (c .before .before .before .before .args .k) (c .before .before .before .before .pre) .contents in
-    omega arith
+add-u32-at c = omega (arith, inside (c .before .before .before .before))
 
 u32-at-requires-2 : tie.Need-u32-at-requires-2
-u32-at-requires-2 c κs =
-    let long : 4 + 112 * (c .before .before .before .before .args .k) + 112 ≤ length (c .before .before .before .before .args .s .now) = found (c .before .before .before .before .args .s .now) (c .before .before .before .before .args .k) (c .before .before .before .before .pre) .contents in
-    omega arith
+u32-at-requires-2 c κs = omega (arith, inside (c .before .before .before .before))
 
 add-u64-at : tie.Need-add-u64-at
-add-u64-at c =
-    let long : 4 + 112 * (c .before .before .before .before .before .args .k) + 112 ≤ length (c .before .before .before .before .before .args .s .now) = found (c .before .before .before .before .before .args .s .now) (c .before .before .before .before .before .args .k) (c .before .before .before .before .before .pre) .contents in
-    omega arith
+add-u64-at c = omega (arith, inside (c .before .before .before .before .before))
 
 u64-at-requires : tie.Need-u64-at-requires
-u64-at-requires c κs =
-    let long : 4 + 112 * (c .before .before .before .before .before .args .k) + 112 ≤ length (c .before .before .before .before .before .args .s .now) = found (c .before .before .before .before .before .args .s .now) (c .before .before .before .before .before .args .k) (c .before .before .before .before .before .pre) .contents in
-    omega arith
+u64-at-requires c κs = omega (arith, inside (c .before .before .before .before .before))
 
 returns : tie.Need-returns
 returns c =

@@ -5,10 +5,16 @@ use Rattle.names.proofs.name_of.Statement.{statement}
 use Rattle.names.proofs.name_of.Tie as tie
 use mathlib.Core.Path.{_≡_, sym, _∙_}
 use Prim.Native.Nat.{_-_}
-use lib.ListN.{length, take, drop, length-drop}
-use lib.Seq.{take-all}
-use Rattle.rules.specs.Bytes.{ascii}
+use lib.ListN.{length, take, drop}
+use Rattle.facts.specs.Parts.{part}
+use Rattle.facts.proofs.Parts.{part-behind}
+use Rattle.rules.specs.Bytes.{Bytes, ascii}
 use Rattle.names.proofs.Endings.{name-marker, name-short, name-ended, name-other}
+
+-- what lies behind the digits
+ending : (n : Bytes) → take (length n - 20) (drop 20 n) ≡ drop 20 n
+unfolding part
+ending n = part-behind n 20 (length n) (omega arith)
 
 slice-aggregate-same-bytes : tie.Need-slice-aggregate-same-bytes
 slice-aggregate-same-bytes c = search needs
@@ -46,8 +52,7 @@ returns-3 : tie.Need-returns-3
 unfolding ascii
 returns-3 c =
     let n = c .before .before .before .before .before .before .before .before .before .before .args .n .now in
-    let rest : take (length n - 20) (drop 20 n) ≡ drop 20 n = take-all (length n - 20) (drop 20 n) (simp length-drop (omega arith)) in
-    c .version-file .ensures ∙ name-ended n (ascii ".json") (sym (c .before .before .before .before .before .before .before .same-bytes .ensures) ∙ c .before .before .before .before .before .before .if1 .left) (rw (← rest) (sym (c .before .before .same-bytes2 .ensures) ∙ c .before .if3 .taken))
+    c .version-file .ensures ∙ name-ended n (ascii ".json") (sym (c .before .before .before .before .before .before .before .same-bytes .ensures) ∙ c .before .before .before .before .before .before .if1 .left) (rw (← ending n) (sym (c .before .before .same-bytes2 .ensures) ∙ c .before .if3 .taken))
 
 sub-same-bytes-2 : tie.Need-sub-same-bytes-2
 sub-same-bytes-2 c = search needs
@@ -71,15 +76,13 @@ returns-4 : tie.Need-returns-4
 unfolding ascii
 returns-4 c =
     let n = c .before .before .before .before .before .before .before .before .before .before .before .before .before .before .args .n .now in
-    let rest : take (length n - 20) (drop 20 n) ≡ drop 20 n = take-all (length n - 20) (drop 20 n) (simp length-drop (omega arith)) in
-    c .checkpoint .ensures ∙ name-ended n (ascii ".checkpoint.json") (sym (c .before .before .before .before .before .before .before .before .before .before .before .same-bytes .ensures) ∙ c .before .before .before .before .before .before .before .before .before .before .if1 .left) (rw (← rest) (sym (c .before .before .same-bytes3 .ensures) ∙ c .before .if4 .taken))
+    c .checkpoint .ensures ∙ name-ended n (ascii ".checkpoint.json") (sym (c .before .before .before .before .before .before .before .before .before .before .before .same-bytes .ensures) ∙ c .before .before .before .before .before .before .before .before .before .before .if1 .left) (rw (← ending n) (sym (c .before .before .same-bytes3 .ensures) ∙ c .before .if4 .taken))
 
 returns-5 : tie.Need-returns-5
 unfolding ascii
 returns-5 c =
     let n = c .before .before .before .before .before .before .before .before .before .before .before .before .before .args .n .now in
-    let rest : take (length n - 20) (drop 20 n) ≡ drop 20 n = take-all (length n - 20) (drop 20 n) (simp length-drop (omega arith)) in
-    name-other n (sym (c .before .before .before .before .before .before .before .before .before .before .same-bytes .ensures) ∙ c .before .before .before .before .before .before .before .before .before .if1 .left) (rw (← rest) (sym (c .before .before .before .before .before .same-bytes2 .ensures) ∙ c .before .before .before .before .if3 .left)) (rw (← rest) (sym (c .before .same-bytes3 .ensures) ∙ c .if4 .left))
+    name-other n (sym (c .before .before .before .before .before .before .before .before .before .before .same-bytes .ensures) ∙ c .before .before .before .before .before .before .before .before .before .if1 .left) (rw (← ending n) (sym (c .before .before .before .before .before .same-bytes2 .ensures) ∙ c .before .before .before .before .if3 .left)) (rw (← ending n) (sym (c .before .same-bytes3 .ensures) ∙ c .if4 .left))
 
 pub name-of-spec : {M : Type 1} → statement M
 name-of-spec =
