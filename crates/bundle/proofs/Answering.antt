@@ -14,38 +14,50 @@ use Rattle.bundle.proofs.Entries.{entry-start, entry-size, entry-time}
 use Rattle.bundle.proofs.Naming.{nameIn-size}
 use Rattle.bundle.proofs.Reading.{Found}
 
-module _ (s : Bytes) (k m a z t : ℕ) (found : Found s k) where
+module _ (s : Bytes) (k : ℕ) (found : Found s k) where
   abbrev e : ℕ
   e = 4 + 112 * k
 
-  pub entry-is : m ≡ nameSize (take (e + 96 - e) (drop e s)) → m ≤ length (take (e + 96 - e) (drop e s))
-      → a ≡ little (field (e + 96) 4 s) → z ≡ little (field (e + 96 + 4) 4 s) → t ≡ little (field (e + 96 + 8) 8 s)
-      → EntryIs s (fileIn s k) k (record { name = m; start = a; size = z; time = record { 0 = t } })
+  pub name-part : (m : ℕ) → m ≡ nameSize (take (e + 96 - e) (drop e s)) → m ≤ length (take (e + 96 - e) (drop e s))
+      → (m ≤ 96) × (part s e (e + m) ≡ fileIn s k .name)
   unfolding part entryOf field
-  entry-is hm hl ha hz ht =
-      let f = found .file in
+  name-part m hm hl =
       let long : 4 + 112 * k + 112 ≤ length s = found .contents in
-      let start : a ≡ entryOf (drop e s) .start = ha ∙ sym (entry-start e s) in
-      let size : z ≡ entryOf (drop e s) .size = hz ∙ sym (entry-size e s (e + 96 + 4) (omega arith)) in
       let c : e + 96 - e ≡ 96 = omega arith in
       let padded = take 96 (drop e s) in
       let counted : m ≡ nameSize padded = rw c at hm in
       let bound : m ≤ length padded = rw c at hl in
       let room : 96 ≤ length (drop e s) = rw length-drop (omega arith) in
       let short : m ≤ 96 = rw (length-take-le 96 (drop e s) room) at bound in
-      let upTo : e + m - e ≡ m = omega arith in
+      let upTo : e + m - e ≡ m = omega arith in (
+        short,
+        rw upTo
+            (sym (take-take m 96 (drop e s) short) ∙ ap (λ (x : ℕ). take x padded) counted ∙ nameIn-size padded (fileIn s k .name) (found .file .named)),
+      )
+
+  pub body-part : (a z : ℕ) → a ≡ little (field (e + 96) 4 s) → z ≡ little (field (e + 96 + 4) 4 s)
+      → (a ≡ fileIn s k .start) × (a + z ≤ length s) × (part s a (a + z) ≡ fileIn s k .body)
+  unfolding part
+  body-part a z ha hz =
+      let f = found .file in
+      let start : a ≡ entryOf (drop e s) .start = ha ∙ sym (entry-start e s) in
+      let size : z ≡ entryOf (drop e s) .size = hz ∙ sym (entry-size e s (e + 96 + 4) (omega arith)) in
       let wide : a + z - a ≡ z = omega arith in
+      (start ∙ f .start, rw (start, size) (f .inside), rw (wide, start, size) (f .body))
+
+  pub entry-is : (m a z t : ℕ) → m ≡ nameSize (take (e + 96 - e) (drop e s)) → m ≤ length (take (e + 96 - e) (drop e s))
+      → a ≡ little (field (e + 96) 4 s) → z ≡ little (field (e + 96 + 4) 4 s) → t ≡ little (field (e + 96 + 8) 8 s)
+      → EntryIs s (fileIn s k) k (record { name = m; start = a; size = z; time = record { 0 = t } })
+  entry-is m a z t hm hl ha hz ht =
+      let name = name-part m hm hl in
+      let body = body-part a z ha hz in
       record {
-        contents = omega arith;
-        short = short;
-        name =
-            rw upTo
-            (sym (take-take m 96 (drop e s) short)
-            ∙ ap (λ (x : ℕ). take x padded) counted
-            ∙ nameIn-size padded (fileIn s k .name) (f .named));
-        start = start ∙ f .start;
-        inside = rw (start, size) (f .inside);
-        body = rw (wide, start, size) (f .body);
-        time = ht ∙ sym (entry-time e s (e + 96 + 8) (omega arith)) ∙ f .time;
-        number = f .number;
+        contents = omega (arith, found .contents);
+        short = name .0;
+        name = name .1;
+        start = body .0;
+        inside = body .1;
+        body = body .2;
+        time = ht ∙ sym (entry-time e s (e + 96 + 8) (omega arith)) ∙ found .file .time;
+        number = found .file .number;
       }

@@ -254,9 +254,9 @@ pub fn name_in<'a>(s: &'a [u8], k: usize) -> &'a [u8]
     requires { ⌜ k < length (filesIn (now s)) ⌝ }
     ensures { λ r. ⌜ now r ≡ fileIn (now (s .entry)) k .name ⌝ }
 {
-    let e = entry_at(s, k);
     let a = COUNT + ENTRY * k;
-    let b = a + e.name;
+    let a_end = a + NAME;
+    let b = a + name_size(&s[a..a_end]);
     &s[a..b]
 }
 
@@ -265,9 +265,9 @@ pub fn body_in<'a>(s: &'a [u8], k: usize) -> &'a [u8]
     requires { ⌜ k < length (filesIn (now s)) ⌝ }
     ensures { λ r. ⌜ now r ≡ fileIn (now (s .entry)) k .body ⌝ }
 {
-    let e = entry_at(s, k);
-    let a = e.start;
-    let b = a + e.size;
+    let e_start = COUNT + ENTRY * k + NAME;
+    let a = u32_at(s, e_start);
+    let b = a + u32_at(s, e_start + 4);
     &s[a..b]
 }
 

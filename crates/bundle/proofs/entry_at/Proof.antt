@@ -50,9 +50,13 @@ u64-at-requires c κs = omega (arith, inside (c .before .before .before .before 
 
 returns : tie.Need-returns
 returns c =
-    entry-is (c .before .before .before .before .before .before .args .s .now) (c .before .before .before .before .before .before .args .k) (c .before .before .before .name-size .result) (c .before .before .u32-at .result) (c .before .u32-at2 .result) (c .u64-at .result)
-    (found (c .before .before .before .before .before .before .args .s .now) (c .before .before .before .before .before .before .args .k) (c .before .before .before .before .before .before .pre))
-    (c .before .before .before .name-size .ensures .0) (c .before .before .before .name-size .ensures .1) (c .before .before .u32-at .ensures .0) (c .before .u32-at2 .ensures .0) (c .u64-at .ensures)
+    let o = c .before .before .before .before .before .before in
+    entry-is (o .args .s .now) (o .args .k) (found (o .args .s .now) (o .args .k) (o .pre)) _ _ _ _
+    (c .before .before .before .name-size .ensures .0)
+    (c .before .before .before .name-size .ensures .1)
+    (c .before .before .u32-at .ensures .0)
+    (c .before .u32-at2 .ensures .0)
+    (c .u64-at .ensures)
 
 pub entry-at-spec : {M : Type 1} → statement M
 entry-at-spec =
