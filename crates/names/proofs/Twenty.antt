@@ -32,7 +32,7 @@ module _ (n b : ℕ) where
 pub turn-start : (s : Bytes) → 20 ≤ length s → decimal (take 20 s) ≡ decimalFrom 0 (drop 0 (take 20 s))
 turn-start s h =
     let l : length (take 20 s) ≡ 20 = length-take-le 20 s h in
-    decimal-start (take 20 s) (λ e. omega (arith, l, e))
+    decimal-start (take 20 s) (omega (arith, l))
 
 module _ (s : Bytes) (i v : ℕ) (long : 20 ≤ length s) where
   pub turn-other : i < 20 → decimal (take 20 s) ≡ decimalFrom v (drop i (take 20 s)) → isDigit (getD s i 0) ≡ false
