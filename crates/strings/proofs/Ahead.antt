@@ -80,3 +80,6 @@ went-escape s i x j n {b} h e f l w p q k = record {
   sound = record { within = w; point = p; part = omega arith };
   nearer = omega (arith, size-bounds x .most);
 }
+
+pub sound-fresh : (s : Text) (i : ℕ) → i ≤ length s → Sound s (fresh i)
+sound-fresh s i h = record { within = h; point = omega arith; part = omega arith }

@@ -4,3 +4,8 @@ pub mod Firsts
 pub mod Raw
 pub mod Widths
 pub mod Ahead
+pub mod Keys
+pub mod Sizes
+pub mod Scanning
+pub mod Orders
+pub mod Numerals

@@ -106,11 +106,19 @@ multibyte-passes (b ∷ t) e = bound (leads b) _ e (λ p h k.
 plain-other : {b k : ℕ} → isPlain b ≡ true → isPlain k ≡ false → b ≡ k → ⊥
 plain-other p f e = false≢true (sym f ∙ ap isPlain (sym e) ∙ p)
 
+pub plain-quote : {b : ℕ} → isPlain b ≡ true → b ≡ 0x22 → ⊥
+unfolding isPlain first among
+plain-quote p = plain-other p refl
+
+pub plain-backslash : {b : ℕ} → isPlain b ≡ true → b ≡ 0x5C → ⊥
+unfolding isPlain first among
+plain-backslash p = plain-other p refl
+
 unescaped-passes : (t : Text) {r : Text} → unescaped t ≡ some r → Passes t r
-unfolding unescaped isPlain first among
+unfolding unescaped
 unescaped-passes [] e = never e
 unescaped-passes (b ∷ t) {r} e = by (isPlain b)
-    (λ p. passes-byte (plain-other p refl) (plain-other p refl) (subst (Passes t) (some-same (sym (rw (unescaped, p)) ∙ e)) passes-none))
+    (λ p. passes-byte (plain-quote p) (plain-backslash p) (subst (Passes t) (some-same (sym (rw (unescaped, p)) ∙ e)) passes-none))
     (λ p. multibyte-passes (b ∷ t) (sym (rw (unescaped, p)) ∙ e))
 
 -- a character that is no escape

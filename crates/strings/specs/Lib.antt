@@ -2,3 +2,4 @@
 pub mod Decoded
 pub mod Flat
 pub mod Ahead
+pub mod Scanned
