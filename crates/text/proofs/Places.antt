@@ -10,8 +10,8 @@ use lib.Seq.{drop-cons}
 use Rattle.rules.specs.Json.Text.{Text}
 use Rattle.text.specs.Answers.{Answer}
 use Rattle.text.specs.Codes.{Taken}
-use Rattle.text.specs.declared.Code.{Code}
-use Rattle.text.specs.declared.Code.the-variants.{Point, NoCode}
+use Rattle.text.specs.declared.escapes.Code.{Code}
+use Rattle.text.specs.declared.escapes.Code.the-variants.{Point, NoCode}
 use Rattle.text.specs.declared.Next.{Next}
 use Rattle.text.specs.declared.Next.the-variants.{At, Bad}
 

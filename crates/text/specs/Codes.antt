@@ -4,12 +4,12 @@ use mathlib.Core.Option.{Option, none, some}
 use Prim.Native.Nat.{ℕ, _≤_}
 use lib.ListN.{length, drop}
 use Rattle.rules.specs.Json.Text.{Text}
-use Rattle.text.specs.declared.Code.{Code}
-use Rattle.text.specs.declared.Code.the-variants.{Point, NoCode}
-use Rattle.text.specs.declared.Lead.{Lead}
-use Rattle.text.specs.declared.Lead.the-variants.{Of, NoLead}
-use Rattle.text.specs.declared.Meant.{Meant}
-use Rattle.text.specs.declared.Meant.the-variants.{Number, Nothing}
+use Rattle.text.specs.declared.escapes.Code.{Code}
+use Rattle.text.specs.declared.escapes.Code.the-variants.{Point, NoCode}
+use Rattle.text.specs.declared.utf8.Lead.{Lead}
+use Rattle.text.specs.declared.utf8.Lead.the-variants.{Of, NoLead}
+use Rattle.text.specs.declared.escapes.Meant.{Meant}
+use Rattle.text.specs.declared.escapes.Meant.the-variants.{Number, Nothing}
 
 -- o is what a taker says of a text within s: a number, at most hi, and what is left, no earlier than lo; or none
 abbrev pub Taken : Option (ℕ × Text) → (s : Text) → (lo hi : ℕ) → Code → Type 0
