@@ -2,10 +2,10 @@
 use crate::BACKSLASH;
 use crate::QUOTE;
 use text::Next;
+use text::is_plain;
 ghost use mathlib.Core.Path.{_≡_};
 ghost use Prim.Native.Nat.{_≤_};
 ghost use lib.ListN.{length};
-ghost use Rattle.rules.specs.Json.Strings.{isPlain};
 ghost use Rattle.strings.specs.Scanned.{Scanned};
 
 // What stands behind an opening quote: a string that is spelled as the bytes that it stands for, or one with escapes,
@@ -14,22 +14,6 @@ pub enum Spelling {
     Plain(usize),
     Escaped(usize),
     Bad,
-}
-
-// Whether a byte is a character by itself: ASCII but controls, the quote and the backslash.
-fn is_plain(b: u8) -> bool
-    ensures { λ r. ⌜ r ≡ isPlain b ⌝ }
-{
-    if b < 0x20 {
-        return false;
-    }
-    if 0x7F < b {
-        return false;
-    }
-    if b == QUOTE {
-        return false;
-    }
-    if b == BACKSLASH { false } else { true }
 }
 
 // The string behind the opening quote, in one pass.

@@ -1,12 +1,11 @@
 -- A text at a position: its byte there and what follows, or nothing; and answers seen from an earlier position.
-use mathlib.Core.Path.{_≡_, ap, _∙_}
+use mathlib.Core.Path.{_≡_, _∙_}
 use mathlib.Core.Option.{Option}
 use mathlib.Core.List.{[], _∷_}
 use Prim.Native.Nat.{ℕ, _+_, _≤_, _<_}
-use native.Mathlib.Numerals.{add-one}
 use native.Mathlib.Nat.{le-trans}
 use lib.ListN.{length, drop, getD, drop-of-length-le}
-use lib.Seq.{drop-cons}
+use Rattle.facts.proofs.Lists.{drop-here, drop-is}
 use Rattle.rules.specs.Json.Text.{Text}
 use Rattle.text.specs.Answers.{Answer}
 use Rattle.text.specs.Codes.{Taken}
@@ -17,11 +16,11 @@ use Rattle.text.specs.declared.Next.the-variants.{At, Bad}
 
 -- the text from i on is its byte at i and the text from i + 1 on
 pub here : (s : Text) (i : ℕ) → i < length s → drop i s ≡ getD s i 0 ∷ drop (i + 1) s
-here s i h = rw (add-one, drop-cons s i 0)
+here s i h = drop-here s i 0 h
 
 -- the same at a byte that is known
 pub here-is : (s : Text) (i b : ℕ) → i < length s → getD s i 0 ≡ b → drop i s ≡ b ∷ drop (i + 1) s
-here-is s i b h e = here s i h ∙ ap (λ (x : ℕ). x ∷ drop (i + 1) s) e
+here-is s i b h e = drop-is s i 0 b h e
 
 pub ended : (s : Text) (i : ℕ) → length s ≤ i → drop i s ≡ []
 ended s i h = drop-of-length-le s h

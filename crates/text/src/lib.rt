@@ -9,6 +9,7 @@ pub use escapes::escape;
 pub use numbers::skip_number;
 pub use strings::skip_char;
 pub use strings::skip_string;
+pub use utf8::is_plain;
 pub use utf8::skip_unescaped;
 ghost use mathlib.Core.Path.{_≡_};
 ghost use Prim.Native.Nat.{_≤_, _+_};
