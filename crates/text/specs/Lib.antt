@@ -1,0 +1,3 @@
+-- What the scanners of text promise, in the rules' terms.
+pub mod Answers
+pub mod Codes
