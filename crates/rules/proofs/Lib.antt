@@ -4,6 +4,7 @@ pub mod Examples
 pub mod Tests
 pub mod Order
 pub mod Holding
+<<<<<<< HEAD
 pub mod Ascending
 pub mod Live
 pub mod Searching
@@ -15,3 +16,5 @@ pub mod Agreement
 pub mod TotalOrders
 pub mod Dropping
 pub mod Rooms
+=======
+>>>>>>> values

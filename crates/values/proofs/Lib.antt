@@ -1,0 +1,6 @@
+-- The laws that the proofs of the functions cite, and those for callers.
+pub mod Words
+pub mod Decimals
+pub mod Wholes
+pub mod Cuts
+pub mod Signs

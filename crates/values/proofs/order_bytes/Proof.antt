@@ -1,0 +1,77 @@
+-- `order_bytes`: the rests stand to each other as the strings do.
+use mathlib.Core.Path.{_≡_, refl, sym, ap, _∙_}
+use Prim.Native.Nat.{_≤_, _<_, _-_}
+use lib.ListN.{length, drop, getD}
+use Rattle.rules.specs.Bytes.{order}
+use Rattle.rules.proofs.Order.{order-at-less, order-at-more, order-at-equal, order-first-ends, order-second-ends, order-both-end}
+use Rattle.values.specs.Answers.{orderIs}
+use native.Mathlib.Omega.{arith}
+use borrow.Author.Needs.{needs}
+use Rattle.values.proofs.order_bytes.Statement.{statement}
+use Rattle.values.proofs.order_bytes.Tie as tie
+
+abbrev Inv-loop : tie.InvT-loop
+Inv-loop a b n i₀ i = (i ≤ n) × (n ≡ length a - (length a - length b)) × (order (drop i a) (drop i b) ≡ order a b)
+
+abbrev μ-loop : tie.MeasureT-loop
+μ-loop a b n i₀ i = n - i
+
+lesser-requires : tie.Need-lesser-requires Inv-loop μ-loop
+lesser-requires c κs = search needs
+
+loop-holds : tie.Need-loop-holds Inv-loop μ-loop
+loop-holds c = (omega arith, c .lesser .ensures, refl)
+
+shared-slice-read-x : tie.Need-shared-slice-read-x Inv-loop μ-loop
+shared-slice-read-x c = omega arith
+
+shared-slice-read-y : tie.Need-shared-slice-read-y Inv-loop μ-loop
+shared-slice-read-y c = omega arith
+
+returns : tie.Need-returns Inv-loop μ-loop
+unfolding orderIs
+returns c = ap orderIs (sym (order-at-less (c .before .before .before .before .before .before .before .before .before .args .a .now) (c .before .before .before .before .before .before .before .before .before .args .b .now) (c .before .before .before .before .before .loop .i) (omega arith) (omega arith) (c .if2 .taken)) ∙ c .before .before .before .before .before .loop .inv .2)
+
+returns-2 : tie.Need-returns-2 Inv-loop μ-loop
+unfolding orderIs
+returns-2 c = ap orderIs (sym (order-at-more (c .before .before .before .before .before .before .before .before .before .args .a .now) (c .before .before .before .before .before .before .before .before .before .args .b .now) (c .before .before .before .before .before .loop .i) (omega arith) (omega arith) (omega arith)) ∙ c .before .before .before .before .before .loop .inv .2)
+
+add-i : tie.Need-add-i Inv-loop μ-loop
+add-i c = omega arith
+
+loop-less : tie.Need-loop-less Inv-loop μ-loop
+loop-less c = omega arith
+
+loop-again : tie.Need-loop-again Inv-loop μ-loop
+loop-again c = (omega arith, c .before .before .before .before .loop .inv .1, sym (order-at-equal (c .before .before .before .before .before .before .before .before .args .a .now) (c .before .before .before .before .before .before .before .before .args .b .now) (c .before .before .before .before .loop .i) (omega arith) (omega arith) (c .if1 .left)) ∙ c .before .before .before .before .loop .inv .2)
+
+returns-3 : tie.Need-returns-3 Inv-loop μ-loop
+unfolding orderIs
+returns-3 c = ap orderIs (sym (order-first-ends (c .before .before .before .before .before .before .args .a .now) (c .before .before .before .before .before .before .args .b .now) (c .before .before .loop .i) (omega arith) (omega arith)) ∙ c .before .before .loop .inv .2)
+
+returns-4 : tie.Need-returns-4 Inv-loop μ-loop
+unfolding orderIs
+returns-4 c = ap orderIs (sym (order-second-ends (c .before .before .before .before .before .before .before .args .a .now) (c .before .before .before .before .before .before .before .args .b .now) (c .before .before .before .loop .i) (omega arith) (omega arith)) ∙ c .before .before .before .loop .inv .2)
+
+returns-5 : tie.Need-returns-5 Inv-loop μ-loop
+unfolding orderIs
+returns-5 c = ap orderIs (sym (order-both-end (c .before .before .before .before .before .before .before .args .a .now) (c .before .before .before .before .before .before .before .args .b .now) (c .before .before .before .loop .i) (omega arith) (omega arith)) ∙ c .before .before .before .loop .inv .2)
+
+pub order-bytes-spec : {M : Type 1} → statement M
+order-bytes-spec =
+    tie.close
+    (tie.spec
+    Inv-loop
+    μ-loop
+    lesser-requires
+    loop-holds
+    shared-slice-read-x
+    shared-slice-read-y
+    returns
+    returns-2
+    add-i
+    loop-less
+    loop-again
+    returns-3
+    returns-4
+    returns-5)
