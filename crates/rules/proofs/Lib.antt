@@ -4,7 +4,6 @@ pub mod Examples
 pub mod Tests
 pub mod Order
 pub mod Holding
-<<<<<<< HEAD
 pub mod Ascending
 pub mod Live
 pub mod Searching
@@ -16,5 +15,3 @@ pub mod Agreement
 pub mod TotalOrders
 pub mod Dropping
 pub mod Rooms
-=======
->>>>>>> values
