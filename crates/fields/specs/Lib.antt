@@ -1,0 +1,3 @@
+-- What the functions over members and elements promise, in the rules' terms.
+pub mod Kinds
+pub mod Slots
