@@ -1,0 +1,83 @@
+-- `value`, `object` and `array` call each other: what each of them leaves is answered in a file of its own, and the depth that is left falls.
+mod Falling
+mod Elements
+mod Members
+mod Values
+use Rattle.json.proofs.array.Reads as array
+use Rattle.json.proofs.+array+object+value.Lts-array as array-lts
+use Rattle.json.proofs.object.Reads as object
+use Rattle.json.proofs.+array+object+value.Lts-object as object-lts
+use Rattle.json.proofs.value.Reads as value
+use Rattle.json.proofs.+array+object+value.Lts-value as value-lts
+use Rattle.json.proofs.+array+object+value.{statement}
+use Rattle.json.proofs.+array+object+value.Tie.{close}
+use Rattle.json.proofs.+array+object+value.Proof.Falling.{μ-array, μ-object, μ-value, array-at, object-at, value-at}
+use Rattle.json.proofs.+array+object+value.Proof.Elements as elements
+use Rattle.json.proofs.+array+object+value.Proof.Members as members
+use Rattle.json.proofs.+array+object+value.Proof.Values as values
+
+pub +array+object+value-spec : {M : Type 1} → statement M
++array+object+value-spec =
+    close
+    μ-array
+    μ-object
+    μ-value
+    (λ t. array-lts.spec (elements.claims t) (array-at t) array.Post elements.Inv-loop elements.μ-loop
+    (elements.opening-requires t)
+    (elements.enum-told t)
+    (elements.enum-known-end t)
+    (elements.enum-known-first t)
+    (elements.loop-holds t)
+    (elements.value-requires t)
+    (elements.enum-known-j t)
+    (elements.enum-told-2 t)
+    (elements.returns t)
+    (elements.closing-requires t)
+    (elements.enum-told-3 t)
+    (elements.returns-2 t)
+    (elements.enum-known-end-2 t)
+    (elements.returns-3 t)
+    (elements.enum-known-k t)
+    (elements.loop-less t)
+    (elements.loop-again t)
+    (elements.returns-4 t)
+    (elements.returns-5 t))
+    (λ t. object-lts.spec (members.claims t) (object-at t) object.Post members.Inv-loop members.μ-loop
+    (members.opening-requires t)
+    (members.enum-told t)
+    (members.enum-known-end t)
+    (members.enum-known-first t)
+    (members.loop-holds t)
+    (members.skip-name-requires t)
+    (members.enum-known-v t)
+    (members.enum-told-2 t)
+    (members.returns t)
+    (members.value-requires t)
+    (members.enum-known-j t)
+    (members.enum-told-3 t)
+    (members.returns-2 t)
+    (members.closing-requires t)
+    (members.enum-told-4 t)
+    (members.returns-3 t)
+    (members.enum-known-end-2 t)
+    (members.returns-4 t)
+    (members.enum-known-k t)
+    (members.loop-less t)
+    (members.loop-again t)
+    (members.returns-5 t)
+    (members.returns-6 t))
+    (λ t. value-lts.spec (values.claims t) (value-at t) value.Post
+    (values.returns t)
+    (values.shared-slice-read-b t)
+    (values.returns-2 t)
+    (values.add-object t)
+    (values.sub-object t)
+    (values.object-requires t)
+    (values.returns-3 t)
+    (values.returns-4 t)
+    (values.add-array t)
+    (values.sub-array t)
+    (values.array-requires t)
+    (values.returns-5 t)
+    (values.skip-scalar-requires t)
+    (values.returns-6 t))
