@@ -51,6 +51,7 @@ fn short_escape(b: u8) -> Meant
     }
 }
 
+// The same number in a wider type.
 fn wide(n: u8) -> u32
     ensures { λ r. ⌜ r ≡ n ⌝ }
 {

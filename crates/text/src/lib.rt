@@ -22,6 +22,7 @@ pub enum Next {
     Bad,
 }
 
+// Space, tab, line feed or carriage return.
 fn is_ws(b: u8) -> bool
     ensures { λ r. ⌜ r ≡ isWs b ⌝ }
 {

@@ -15,6 +15,7 @@ const PLUS: u8 = 0x2B;
 
 const DOT: u8 = 0x2E;
 
+// 0 to 9.
 fn is_digit(b: u8) -> bool
     ensures { λ r. ⌜ r ≡ isDigit b ⌝ }
 {

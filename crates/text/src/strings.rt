@@ -2,6 +2,8 @@
 use crate::Next;
 use crate::escapes::Code;
 use crate::escapes::escape;
+use crate::utf8::BACKSLASH;
+use crate::utf8::QUOTE;
 use crate::utf8::is_plain;
 use crate::utf8::skip_unescaped;
 ghost use Prim.Native.Nat.{_≤_, _+_};
@@ -9,10 +11,6 @@ ghost use lib.ListN.{length, drop};
 ghost use Rattle.rules.specs.Json.Text.{behind};
 ghost use Rattle.rules.specs.Json.Strings.{char, string};
 ghost use Rattle.text.specs.Answers.{Answer};
-
-const QUOTE: u8 = 0x22;
-
-const BACKSLASH: u8 = 0x5C;
 
 // A character of a string, as it is or escaped.
 pub fn skip_char(s: &[u8], at: usize) -> Next

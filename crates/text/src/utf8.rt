@@ -8,9 +8,9 @@ ghost use Rattle.rules.specs.Json.Strings.{isPlain, leads, tails, multibyte, un
 ghost use Rattle.text.specs.Answers.{Answer};
 ghost use Rattle.text.specs.Codes.{Leads};
 
-const QUOTE: u8 = 0x22;
+pub const QUOTE: u8 = 0x22;
 
-const BACKSLASH: u8 = 0x5C;
+pub const BACKSLASH: u8 = 0x5C;
 
 // Whether a byte is a character by itself in a string: ASCII but controls, the quote and the backslash.
 pub fn is_plain(b: u8) -> bool
@@ -34,6 +34,7 @@ enum Lead {
     NoLead,
 }
 
+// The seven kinds of first bytes, and that any other byte begins no longer character.
 fn lead_of(b: u8) -> Lead
     ensures { λ r. ⌜ Leads (leads b) r ⌝ }
 {

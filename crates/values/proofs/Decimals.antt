@@ -1,8 +1,8 @@
 -- Decimal digits from a place of a text, and how large what they stand for grows with their number.
-use mathlib.Core.Path.{_≡_, refl, sym, ap, _∙_}
+use mathlib.Core.Path.{_≡_, refl, sym, _∙_}
 use mathlib.Core.Bool.{Bool, true, false}
-use mathlib.Core.List.{List, [], _∷_}
-use mathlib.Core.Option.{Option, none, some}
+use mathlib.Core.List.{[], _∷_}
+use mathlib.Core.Option.{none, some}
 use Prim.Native.Nat.{ℕ, zero, suc, _+_, _-_, _*_, _^_, _≤_, _<_}
 use native.Mathlib.Numerals.{add-one}
 use native.Mathlib.Nat.{add-zero, pow-suc, pow-le-pow-right, le-trans}
@@ -60,14 +60,14 @@ room-left n i h k = le-trans h (pow-le-pow-right (omega arith) {i = i} {j = 18} 
 
 -- ---- a whole text
 
-pub decimal-empty : (s : Bytes) → length s ≡ 0 → decimal s ≡ none
+pub decimal-empty : (s : Bytes) → length s < 1 → decimal s ≡ none
 unfolding decimal
 decimal-empty [] h = refl
 decimal-empty (b ∷ s) h = absurd (omega arith)
 
-pub decimal-start : (s : Bytes) → (length s ≡ 0 → ⊥) → decimal s ≡ decimalFrom 0 s
+pub decimal-start : (s : Bytes) → 1 ≤ length s → decimal s ≡ decimalFrom 0 s
 unfolding decimal
-decimal-start [] h = absurd (h refl)
+decimal-start [] h = absurd (omega arith)
 decimal-start (b ∷ s) h = refl
 
 -- ---- what digits stand for, and its size

@@ -1,13 +1,12 @@
 -- How two numbers stand to each other, by their signs and sizes.
-use mathlib.Core.Path.{_≡_, refl, sym, ap, _∙_}
+use mathlib.Core.Path.{_≡_, refl, sym, ap}
 use mathlib.Core.Bool.{Bool, true, false}
 use mathlib.Core.Logic.{_⊎_, inl, inr}
 use Prim.Native.Nat.{ℕ, zero, suc, _≤_, _<_}
 use native.Mathlib.Omega.{arith}
-use lib.Dec.{ltb}
-use lib.IntN.{ℤ, pos, negsuc, negℤ}
+use lib.IntN.{pos, negsuc, negℤ}
 use borrow.Author.Tests.{lt-ltb, le-ltb}
-use Rattle.rules.specs.Bytes.{Order, less, equal, more}
+use Rattle.rules.specs.Bytes.{less, equal, more}
 use Rattle.rules.specs.Picking.{orderOfNumbers}
 use Rattle.rules.proofs.Order.{trichotomy}
 use Rattle.values.specs.Answers.{signedAs, signedIs}

@@ -38,6 +38,11 @@ orderOf Less = less
 orderOf Equal = equal
 orderOf More = more
 
+unfoldable pub byOrder : rOrder → (l e m : Bool) → Bool
+byOrder less l e m = l
+byOrder equal l e m = e
+byOrder more l e m = m
+
 unfoldable pub opIs : Op → rOp
 opIs Eq = eq
 opIs Lt = lt

@@ -5,19 +5,20 @@ ghost use Prim.Native.Nat.{_-_, _≤_};
 ghost use lib.ListN.{length};
 ghost use lib.IntN.{pos};
 ghost use mathlib.Core.Option.{some};
-ghost use Rattle.rules.specs.Bytes.{same, begins, order, isLess, isEqual, isMore};
+ghost use Rattle.rules.specs.Bytes.{same, begins, order};
 ghost use Rattle.rules.specs.Numbers.{decimal};
 ghost use Rattle.rules.specs.Json.Numbers.{whole};
 ghost use Rattle.rules.specs.Json.Fields.{isNull, boolOf};
 ghost use Rattle.rules.specs.Query.{mostDigits, numberOf, digitsIn, positive, negative};
 ghost use Rattle.rules.specs.Picking.{orderOfNumbers, meets as rMeets};
-ghost use Rattle.values.specs.Answers.{wholeIs, truthIs, orderIs, orderOf, opIs, signedIs, numeralIs};
+ghost use Rattle.values.specs.Answers.{wholeIs, truthIs, orderIs, orderOf, byOrder, opIs, signedIs, numeralIs};
 ghost use Rattle.values.specs.Readings.{safeDigits, digitsIs, inBounds, cappedIs};
 
-// 2^63 - 1, the highest whole number, and 2^63, the size of the lowest number of a query.
+// 2^63 - 1: the highest whole number, and the highest number of a query.
 const MOST: u64 = 9223372036854775807;
 
-const MOST_BELOW: u64 = 9223372036854775808;
+// 2^63: the lowest number of a query is -2^63.
+const LOWEST_SIZE: u64 = 9223372036854775808;
 
 // So many digits always fit a u64.
 const SAFE_DIGITS: usize = 19;
@@ -154,7 +155,7 @@ fn short_digits(v: &[u8]) -> Digits
     requires { ⌜ length (now v) ≤ safeDigits ⌝ }
     ensures { λ r. ⌜ r ≡ digitsIs (decimal (now (v .entry))) ⌝ }
 {
-    if v.len() == 0 {
+    if v.len() < 1 {
         return Digits::NotDigits;
     }
     let mut i = 0;
@@ -167,7 +168,7 @@ fn short_digits(v: &[u8]) -> Digits
         if b'9' < b {
             return Digits::NotDigits;
         }
-        n = n * 10 + (wide(b) - 48);
+        n = n * 10 + wide(b - b'0');
         i += 1;
     }
     Digits::Value(n)
@@ -237,7 +238,7 @@ enum Capped {
 fn cap(n: u64) -> Capped
     ensures { λ r. ⌜ r ≡ cappedIs (some n) ⌝ }
 {
-    if MOST_BELOW < n {
+    if LOWEST_SIZE < n {
         return Capped::TooBig;
     }
     Capped::Below(n)
@@ -359,33 +360,14 @@ pub enum Op {
     Ge,
 }
 
-fn is_less(o: Order) -> bool
-    ensures { λ r. ⌜ r ≡ isLess (orderOf o) ⌝ }
+// The answer for the order that it is.
+fn by_order(o: Order, less: bool, equal: bool, more: bool) -> bool
+    ensures { λ r. ⌜ r ≡ byOrder (orderOf o) less equal more ⌝ }
 {
     match o {
-        Order::Less => true,
-        Order::Equal => false,
-        Order::More => false,
-    }
-}
-
-fn is_equal(o: Order) -> bool
-    ensures { λ r. ⌜ r ≡ isEqual (orderOf o) ⌝ }
-{
-    match o {
-        Order::Less => false,
-        Order::Equal => true,
-        Order::More => false,
-    }
-}
-
-fn is_more(o: Order) -> bool
-    ensures { λ r. ⌜ r ≡ isMore (orderOf o) ⌝ }
-{
-    match o {
-        Order::Less => false,
-        Order::Equal => false,
-        Order::More => true,
+        Order::Less => less,
+        Order::Equal => equal,
+        Order::More => more,
     }
 }
 
@@ -394,10 +376,10 @@ pub fn meets(op: Op, o: Order) -> bool
     ensures { λ r. ⌜ r ≡ rMeets (opIs op) (orderOf o) ⌝ }
 {
     match op {
-        Op::Eq => is_equal(o),
-        Op::Lt => is_less(o),
-        Op::Le => !is_more(o),
-        Op::Gt => is_more(o),
-        Op::Ge => !is_less(o),
+        Op::Eq => by_order(o, false, true, false),
+        Op::Lt => by_order(o, true, false, false),
+        Op::Le => by_order(o, true, true, false),
+        Op::Gt => by_order(o, false, false, true),
+        Op::Ge => by_order(o, false, true, true),
     }
 }

@@ -1,3 +1,4 @@
+-- `is_ws` meets its contract. White space, byte by byte.
 use borrow.Author.Tests.{ne-eqb}
 use Rattle.rules.specs.Bytes.{first}
 use Rattle.rules.specs.Json.Text.{isWs}

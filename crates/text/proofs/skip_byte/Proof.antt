@@ -1,3 +1,4 @@
+-- `skip_byte` meets its contract. The text is over, or its byte there is b or another.
 use borrow.Author.Needs.{needs}
 use borrow.Author.Tests.{eq-eqb, ne-eqb}
 use native.Mathlib.Omega.{arith}

@@ -1,3 +1,4 @@
+-- `skip_word` meets its contract. The word has been met up to its byte j and the position i.
 use Prim.Native.Nat.{_-_}
 use borrow.Author.Needs.{needs}
 use lib.ListN.{length}

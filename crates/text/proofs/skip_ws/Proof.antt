@@ -1,3 +1,4 @@
+-- `skip_ws` meets its contract. The run of white space from `at` on goes on at i.
 use Prim.Native.Nat.{_-_}
 use borrow.Author.Needs.{needs}
 use lib.ListN.{length}

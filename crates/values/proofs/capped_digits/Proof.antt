@@ -1,8 +1,9 @@
 -- `capped_digits`: each answer by the length.
-use mathlib.Core.Path.{_≡_, sym, ap, _∙_}
+use mathlib.Core.Path.{sym, ap, _∙_}
 use Rattle.rules.specs.Query.{mostDigits}
 use Rattle.values.specs.Readings.{cappedIs}
-use Rattle.values.proofs.Cuts.{value-digits, no-digits, digits-many, digits-few}
+use Rattle.values.proofs.Cuts.{value-digits, no-digits}
+use Rattle.values.proofs.Queries.{digits-many, digits-few}
 use native.Mathlib.Omega.{arith}
 use borrow.Author.Needs.{needs}
 use Rattle.values.proofs.capped_digits.Statement.{statement}
@@ -10,14 +11,14 @@ use Rattle.values.proofs.capped_digits.Tie as tie
 
 returns : tie.Need-returns
 unfolding cappedIs
-returns c = ap cappedIs (sym (digits-many (c .before .before .args .v .now) (c .if1 .taken)))
+returns c = ap cappedIs (sym (digits-many (c .before .before .args .v .now) (omega arith)))
 
 twenty-digits-requires : tie.Need-twenty-digits-requires
 unfolding mostDigits
 twenty-digits-requires c κs = omega arith
 
 returns-2 : tie.Need-returns-2
-returns-2 c = c .twenty-digits .ensures ∙ ap cappedIs (sym (digits-few (c .before .before .before .before .args .v .now) (c .before .before .if1 .left)))
+returns-2 c = c .twenty-digits .ensures ∙ ap cappedIs (sym (digits-few (c .before .before .before .before .args .v .now) (omega arith)))
 
 short-digits-requires : tie.Need-short-digits-requires
 short-digits-requires c κs = search needs
@@ -33,10 +34,10 @@ cap-requires c κs = search needs
 
 returns-3 : tie.Need-returns-3
 unfolding cappedIs
-returns-3 c = ap cappedIs (sym (digits-few (c .before .before .before .before .before .before .args .v .now) (c .before .before .before .before .if1 .left) ∙ no-digits _ (sym (c .before .before .short-digits .ensures) ∙ c .enum-told .given .1)))
+returns-3 c = ap cappedIs (sym (digits-few (c .before .before .before .before .before .before .args .v .now) (omega arith) ∙ no-digits _ (sym (c .before .before .short-digits .ensures) ∙ c .enum-told .given .1)))
 
 returns-4 : tie.Need-returns-4
-returns-4 c = c .cap .ensures ∙ ap cappedIs (sym (digits-few (c .before .before .before .before .before .before .before .before .args .v .now) (c .before .before .before .before .before .before .if1 .left) ∙ value-digits _ (sym (c .before .before .before .before .short-digits .ensures) ∙ c .before .before .n .given .1)))
+returns-4 c = c .cap .ensures ∙ ap cappedIs (sym (digits-few (c .before .before .before .before .before .before .before .before .args .v .now) (omega arith) ∙ value-digits _ (sym (c .before .before .before .before .short-digits .ensures) ∙ c .before .before .n .given .1)))
 
 pub capped-digits-spec : {M : Type 1} → statement M
 capped-digits-spec =

@@ -1,7 +1,7 @@
 -- `numeral_of`: each answer by the first byte.
-use mathlib.Core.Path.{_≡_, sym, ap, _∙_}
+use mathlib.Core.Path.{sym, ap, _∙_}
 use Rattle.values.specs.Answers.{numeralIs}
-use Rattle.values.proofs.Cuts.{number-empty, number-minus, number-plain}
+use Rattle.values.proofs.Queries.{number-empty, number-minus, number-plain}
 use borrow.Author.Needs.{needs}
 use Rattle.values.proofs.numeral_of.Statement.{statement}
 use Rattle.values.proofs.numeral_of.Tie as tie

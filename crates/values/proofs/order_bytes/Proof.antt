@@ -1,7 +1,7 @@
 -- `order_bytes`: the rests stand to each other as the strings do.
 use mathlib.Core.Path.{_≡_, refl, sym, ap, _∙_}
-use Prim.Native.Nat.{_≤_, _<_, _-_}
-use lib.ListN.{length, drop, getD}
+use Prim.Native.Nat.{_≤_, _-_}
+use lib.ListN.{length, drop}
 use Rattle.rules.specs.Bytes.{order}
 use Rattle.rules.proofs.Order.{order-at-less, order-at-more, order-at-equal, order-first-ends, order-second-ends, order-both-end}
 use Rattle.values.specs.Answers.{orderIs}

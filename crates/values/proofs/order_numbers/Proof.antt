@@ -1,5 +1,5 @@
 -- `order_numbers`: each answer by the signs; a zero with a minus is zero.
-use mathlib.Core.Path.{_≡_, sym, ap, _∙_}
+use mathlib.Core.Path.{sym, ap, _∙_}
 use Rattle.values.specs.Answers.{orderIs}
 use Rattle.values.proofs.Signs.{numbers-negative, numbers-positive, numbers-less, numbers-more, numbers-first-zero, numbers-second-zero}
 use borrow.Author.Needs.{needs}

@@ -1,5 +1,5 @@
 -- `order_sizes`: each answer by its tests.
-use mathlib.Core.Path.{_≡_, sym, ap}
+use mathlib.Core.Path.{sym, ap}
 use Rattle.values.specs.Answers.{orderIs}
 use Rattle.values.proofs.Signs.{sizes-less, sizes-more, sizes-equal}
 use Rattle.values.proofs.order_sizes.Statement.{statement}

@@ -1,8 +1,9 @@
 -- `positive_of`: each answer by what the digits stand for.
-use mathlib.Core.Path.{_≡_, sym, ap, _∙_}
+use mathlib.Core.Path.{sym, ap, _∙_}
+use native.Mathlib.Omega.{arith}
 use Rattle.rules.specs.Numbers.{most}
 use Rattle.values.specs.Answers.{numeralIs, signedOf}
-use Rattle.values.proofs.Cuts.{positive-none, positive-large, positive-out, positive-in}
+use Rattle.values.proofs.Queries.{positive-none, positive-large, positive-out, positive-in}
 use borrow.Author.Needs.{needs}
 use Rattle.values.proofs.positive_of.Statement.{statement}
 use Rattle.values.proofs.positive_of.Tie as tie
@@ -21,7 +22,7 @@ enum-known-n c = search needs
 
 returns : tie.Need-returns
 unfolding numeralIs most
-returns c = ap numeralIs (sym (positive-out _ (sym (c .before .before .before .before .capped-digits .ensures) ∙ c .before .before .n .given .1) (c .if1 .taken)))
+returns c = ap numeralIs (sym (positive-out _ (sym (c .before .before .before .before .capped-digits .ensures) ∙ c .before .before .n .given .1) (omega arith)))
 
 returns-2 : tie.Need-returns-2
 unfolding numeralIs
@@ -33,7 +34,7 @@ returns-3 c = ap numeralIs (sym (positive-large _ (sym (c .before .before .cappe
 
 returns-4 : tie.Need-returns-4
 unfolding numeralIs signedOf most
-returns-4 c = ap numeralIs (sym (positive-in _ (sym (c .before .before .before .before .capped-digits .ensures) ∙ c .before .before .n .given .1) (c .if1 .left)))
+returns-4 c = ap numeralIs (sym (positive-in _ (sym (c .before .before .before .before .capped-digits .ensures) ∙ c .before .before .n .given .1) (omega arith)))
 
 pub positive-of-spec : {M : Type 1} → statement M
 positive-of-spec =

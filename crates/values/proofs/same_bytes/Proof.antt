@@ -1,5 +1,5 @@
 -- `same_bytes`: of equal lengths, the one begins the other.
-use mathlib.Core.Path.{_≡_, sym, _∙_}
+use mathlib.Core.Path.{sym, _∙_}
 use Rattle.values.proofs.Words.{same-lengths, same-begins}
 use borrow.Author.Needs.{needs}
 use Rattle.values.proofs.same_bytes.Statement.{statement}

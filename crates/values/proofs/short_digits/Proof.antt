@@ -2,7 +2,7 @@
 use mathlib.Core.Path.{_≡_, sym, ap, _∙_}
 use Prim.Native.Nat.{ℕ, _≤_, _<_, _+_, _-_, _*_, _^_}
 use lib.ListN.{length, drop, getD}
-use Rattle.rules.specs.Numbers.{isDigit, decimal, decimalFrom}
+use Rattle.rules.specs.Numbers.{decimal, decimalFrom}
 use Rattle.values.specs.Readings.{digitsIs}
 use Rattle.values.proofs.Decimals.{digit-between, digit-below, digit-above, decimal-at-digit, decimal-at-other, decimal-end, decimal-empty, decimal-start, grown, room-left}
 use native.Mathlib.Omega.{arith}
@@ -18,10 +18,10 @@ abbrev μ-loop : tie.MeasureT-loop
 
 returns : tie.Need-returns Inv-loop μ-loop
 unfolding digitsIs
-returns c = ap digitsIs (sym (decimal-empty (c .before .before .args .v .now) (c .if1 .taken)))
+returns c = ap digitsIs (sym (decimal-empty (c .before .before .args .v .now) (omega arith)))
 
 loop-holds : tie.Need-loop-holds Inv-loop μ-loop
-loop-holds c = (omega arith, omega arith, sym (decimal-start (c .before .before .args .v .now) (c .if1 .left)))
+loop-holds c = (omega arith, omega arith, sym (decimal-start (c .before .before .args .v .now) (omega arith)))
 
 shared-slice-read-b : tie.Need-shared-slice-read-b Inv-loop μ-loop
 shared-slice-read-b c = omega arith
@@ -40,11 +40,8 @@ mul-n c = omega (arith, room-left (c .before .before .before .before .loop .n) (
 wide-requires : tie.Need-wide-requires Inv-loop μ-loop
 wide-requires c κs = search needs
 
-sub-n : tie.Need-sub-n Inv-loop μ-loop
-sub-n c = omega arith
-
 add-n : tie.Need-add-n Inv-loop μ-loop
-add-n c = let w : c .wide .result ≡ getD (c .before .before .before .before .before .before .before .before .args .v .now) (c .before .before .before .before .before .loop .i) 0 = c .wide .ensures in
+add-n c = let w : c .wide .result ≡ getD (c .before .before .before .before .before .before .before .before .args .v .now) (c .before .before .before .before .before .loop .i) 0 - 48 = c .wide .ensures in
     let h : getD (c .before .before .before .before .before .before .before .before .args .v .now) (c .before .before .before .before .before .loop .i) 0 ≤ 57 = c .before .if3 .left in
     omega (arith, room-left (c .before .before .before .before .before .loop .n) (c .before .before .before .before .before .loop .i) (c .before .before .before .before .before .loop .inv .1) (omega arith))
 
@@ -55,13 +52,10 @@ loop-less : tie.Need-loop-less Inv-loop μ-loop
 loop-less c = omega arith
 
 loop-again : tie.Need-loop-again Inv-loop μ-loop
-loop-again c = let w : c .wide .result ≡ getD (c .before .before .before .before .before .before .before .before .args .v .now) (c .before .before .before .before .before .loop .i) 0 = c .wide .ensures in
+loop-again c = let w : c .wide .result ≡ getD (c .before .before .before .before .before .before .before .before .args .v .now) (c .before .before .before .before .before .loop .i) 0 - 48 = c .wide .ensures in
     let l : 48 ≤ getD (c .before .before .before .before .before .before .before .before .args .v .now) (c .before .before .before .before .before .loop .i) 0 = c .before .before .if2 .left in
-    let h : getD (c .before .before .before .before .before .before .before .before .args .v .now) (c .before .before .before .before .before .loop .i) 0 ≤ 57 = c .before .if3 .left in (
-      omega arith,
-      grown (c .before .before .before .before .before .loop .n) (c .wide .result - 48) (c .before .before .before .before .before .loop .i) (c .before .before .before .before .before .loop .inv .1) (omega arith),
-      ap (λ (x : ℕ). decimalFrom (c .before .before .before .before .before .loop .n * 10 + (x - 48)) (drop (c .before .before .before .before .before .loop .i + 1) (c .before .before .before .before .before .before .before .before .args .v .now))) w ∙ sym (decimal-at-digit (c .before .before .before .before .before .before .before .before .args .v .now) (c .before .before .before .before .before .loop .i) (c .before .before .before .before .before .loop .n) (c .before .before .before .before .loop-test .taken) (digit-between _ l h)) ∙ c .before .before .before .before .before .loop .inv .2,
-    )
+    let h : getD (c .before .before .before .before .before .before .before .before .args .v .now) (c .before .before .before .before .before .loop .i) 0 ≤ 57 = c .before .if3 .left in
+    (omega arith, grown (c .before .before .before .before .before .loop .n) (c .wide .result) (c .before .before .before .before .before .loop .i) (c .before .before .before .before .before .loop .inv .1) (omega arith), ap (λ (d : ℕ). decimalFrom (c .before .before .before .before .before .loop .n * 10 + d) (drop (c .before .before .before .before .before .loop .i + 1) (c .before .before .before .before .before .before .before .before .args .v .now))) w ∙ sym (decimal-at-digit (c .before .before .before .before .before .before .before .before .args .v .now) (c .before .before .before .before .before .loop .i) (c .before .before .before .before .before .loop .n) (c .before .before .before .before .loop-test .taken) (digit-between _ l h)) ∙ c .before .before .before .before .before .loop .inv .2)
 
 returns-4 : tie.Need-returns-4 Inv-loop μ-loop
 unfolding digitsIs
@@ -80,7 +74,6 @@ short-digits-spec =
     returns-3
     mul-n
     wide-requires
-    sub-n
     add-n
     add-i
     loop-less

@@ -1,5 +1,5 @@
 -- `truth_of`: each answer by its words.
-use mathlib.Core.Path.{_≡_, sym, ap, _∙_}
+use mathlib.Core.Path.{sym, ap, _∙_}
 use Rattle.rules.specs.Bytes.{ascii}
 use Rattle.values.specs.Answers.{truthIs}
 use Rattle.values.proofs.Words.{bool-true, bool-false, bool-none}

@@ -1,5 +1,5 @@
 -- `twenty_digits`: each answer by the first digit and what the others stand for.
-use mathlib.Core.Path.{_≡_, sym, ap, _∙_}
+use mathlib.Core.Path.{sym, ap, _∙_}
 use Rattle.rules.specs.Query.{mostDigits}
 use Rattle.values.specs.Readings.{cappedIs}
 use Rattle.values.proofs.Decimals.{digit-between, digit-below, digit-above}

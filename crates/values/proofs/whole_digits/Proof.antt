@@ -1,5 +1,6 @@
 -- `whole_digits`: each answer by what the digits stand for.
-use mathlib.Core.Path.{_≡_, sym, ap, _∙_}
+use mathlib.Core.Path.{sym, ap, _∙_}
+use native.Mathlib.Omega.{arith}
 use Rattle.rules.specs.Numbers.{most}
 use Rattle.values.specs.Answers.{wholeIs}
 use Rattle.values.specs.Readings.{inBounds}
@@ -20,7 +21,7 @@ enum-known-n c = search needs
 
 returns : tie.Need-returns
 unfolding wholeIs most
-returns c = ap wholeIs (sym (ap inBounds (value-digits _ (sym (c .before .before .before .before .short-digits .ensures) ∙ c .before .before .n .given .1)) ∙ bounds-out _ (c .if1 .taken)))
+returns c = ap wholeIs (sym (ap inBounds (value-digits _ (sym (c .before .before .before .before .short-digits .ensures) ∙ c .before .before .n .given .1)) ∙ bounds-out (c .before .before .n .given .0 .0) (omega arith)))
 
 returns-2 : tie.Need-returns-2
 unfolding wholeIs inBounds
@@ -28,7 +29,7 @@ returns-2 c = ap wholeIs (sym (ap inBounds (no-digits _ (sym (c .before .before 
 
 returns-3 : tie.Need-returns-3
 unfolding wholeIs most
-returns-3 c = ap wholeIs (sym (ap inBounds (value-digits _ (sym (c .before .before .before .before .short-digits .ensures) ∙ c .before .before .n .given .1)) ∙ bounds-in _ (c .if1 .left)))
+returns-3 c = ap wholeIs (sym (ap inBounds (value-digits _ (sym (c .before .before .before .before .short-digits .ensures) ∙ c .before .before .n .given .1)) ∙ bounds-in (c .before .before .n .given .0 .0) (omega arith)))
 
 pub whole-digits-spec : {M : Type 1} → statement M
 whole-digits-spec =

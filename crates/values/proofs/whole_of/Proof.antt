@@ -1,8 +1,7 @@
 -- `whole_of`: each answer by the length and the first digit.
-use mathlib.Core.Path.{_≡_, sym, ap, _∙_}
+use mathlib.Core.Path.{sym, ap, _∙_}
 use Rattle.values.specs.Answers.{wholeIs}
 use Rattle.values.proofs.Wholes.{whole-long, whole-short, whole-zero, whole-first}
-use native.Mathlib.Omega.{arith}
 use borrow.Author.Needs.{needs}
 use Rattle.values.proofs.whole_of.Statement.{statement}
 use Rattle.values.proofs.whole_of.Tie as tie

@@ -1,3 +1,4 @@
+-- `code_point` meets its contract. A code unit by its range: high, low or no surrogate.
 use Prim.Native.Nat.{_≤_}
 use borrow.Author.Needs.{needs}
 use mathlib.Core.Path.{subst}

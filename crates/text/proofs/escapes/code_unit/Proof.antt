@@ -1,3 +1,4 @@
+-- `code_unit` meets its contract. The digits from `at` up to i stand for u, and k are left.
 use borrow.Author.Needs.{needs}
 use mathlib.Core.Option.{some}
 use mathlib.Core.Path.{sym, ap, subst, _∙_}

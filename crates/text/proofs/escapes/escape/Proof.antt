@@ -1,3 +1,4 @@
+-- `escape` meets its contract. A u and its digits, or a short escape.
 use Prim.Native.Nat.{_≤_}
 use borrow.Author.Needs.{needs}
 use borrow.Author.Tests.{ne-eqb}

@@ -1,3 +1,4 @@
+-- `hex_digit` meets its contract. The three ranges of digits by comparisons.
 use borrow.Author.Needs.{needs}
 use native.Mathlib.Omega.{arith}
 use Rattle.rules.specs.Bytes.{first}

@@ -1,3 +1,4 @@
+-- `low_half` meets its contract. The escape, its code unit, and that this is a low surrogate; the numbers stay below 0x110000.
 use borrow.Author.Needs.{needs}
 use mathlib.Core.Path.{subst}
 use native.Mathlib.Nat.{le-trans}
@@ -54,7 +55,7 @@ unfolding paired ascii
 returns-4 c =
     let e = subst (Answer _ _ _) (c .before .before .before .before .before .before .before .i .given .1) (c .before .before .before .before .before .before .before .before .before .skip-word .ensures) in
     let f = subst (Taken _ _ _ _) (c .before .before .before .low .given .1) (c .before .before .before .before .before .code-unit .ensures) in
-    rw (e .0, f .0, among-above 0xDC00 0xDFFF _ (c .before .if1 .left) (c .if2 .taken))
+    rw (e .0, f .0, among-above 0xDC00 0xDFFF (c .before .before .before .low .given .0 .0) (c .before .if1 .left) (omega arith))
 
 sub-t13 : tie.Need-sub-t13
 sub-t13 c = search needs

@@ -1,3 +1,4 @@
+-- `short_escape` meets its contract. The eight short escapes, byte by byte.
 use borrow.Author.Tests.{ne-eqb}
 use native.Mathlib.Omega.{arith}
 use Rattle.rules.specs.Bytes.{first}

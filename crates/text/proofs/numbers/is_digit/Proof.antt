@@ -1,3 +1,4 @@
+-- `is_digit` meets its contract. A digit by two comparisons.
 use borrow.Author.Tests.{le-leb, lt-leb}
 use Rattle.rules.specs.Bytes.{among}
 use Rattle.rules.specs.Numbers.{isDigit}

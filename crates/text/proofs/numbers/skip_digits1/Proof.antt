@@ -1,3 +1,4 @@
+-- `skip_digits1` meets its contract. The first digit, and the run behind it.
 use borrow.Author.Needs.{needs}
 use mathlib.Core.Option.{some}
 use mathlib.Core.Path.{sym, ap, _∙_}

@@ -1,3 +1,4 @@
+-- `skip_exp` meets its contract. By the byte there, if any; the digits stand behind a sign.
 use Prim.Native.Nat.{_≤_}
 use borrow.Author.Needs.{needs}
 use borrow.Author.Tests.{ne-eqb}

@@ -1,3 +1,4 @@
+-- `skip_int` meets its contract. By the byte there, if any: a zero, or the first of more digits.
 use borrow.Author.Needs.{needs}
 use borrow.Author.Tests.{ne-eqb}
 use native.Mathlib.Omega.{arith}

@@ -1,3 +1,4 @@
+-- `skip_number` meets its contract. One part after the other.
 use Prim.Native.Nat.{_≤_, _+_}
 use borrow.Author.Needs.{needs}
 use mathlib.Core.Path.{subst}

@@ -1,3 +1,4 @@
+-- `skip_sign` meets its contract. By the byte there, if any.
 use borrow.Author.Needs.{needs}
 use borrow.Author.Tests.{ne-eqb}
 use native.Mathlib.Omega.{arith}

@@ -1,3 +1,4 @@
+-- `skip_char` meets its contract. An escape, or a character that stands for itself.
 use borrow.Author.Needs.{needs}
 use borrow.Author.Tests.{ne-eqb}
 use mathlib.Core.Path.{subst}

@@ -1,3 +1,4 @@
+-- `skip_string` meets its contract. The characters from `at` on go on at i.
 use Prim.Native.Nat.{_≤_, _+_, _-_}
 use borrow.Author.Needs.{needs}
 use lib.ListN.{length}

@@ -1,3 +1,4 @@
+-- `is_plain` meets its contract. The ranges of plain bytes by comparisons.
 use mathlib.Core.Path.{sym}
 use native.Mathlib.Omega.{arith}
 use Rattle.rules.specs.Bytes.{first, among}
@@ -27,7 +28,7 @@ unfolding isPlain first among
 returns-4 c = rw (c .if4 .taken)
 
 returns-5 : tie.Need-returns-5
-returns-5 c = sym (plain-of (c .before .before .before .before .args .b) (c .before .before .before .if1 .left) (omega arith) (c .before .if3 .left) (c .if4 .left))
+returns-5 c = sym (plain-of (c .before .before .before .before .args .b) (omega arith) (omega arith) (c .before .if3 .left) (c .if4 .left))
 
 pub is-plain-spec : {M : Type 1} → statement M
 is-plain-spec = tie.close (tie.spec returns returns-2 returns-3 returns-4 returns-5)

@@ -1,3 +1,4 @@
+-- `lead_of` meets its contract. Each kind of first byte by its range.
 use borrow.Author.Tests.{ne-eqb}
 use native.Mathlib.Omega.{arith}
 use Rattle.rules.specs.Bytes.{first, among}

@@ -1,3 +1,4 @@
+-- `skip_in` meets its contract. A range by two comparisons.
 use borrow.Author.Needs.{needs}
 use native.Mathlib.Omega.{arith}
 use Rattle.rules.specs.Json.Text.{byteIn}

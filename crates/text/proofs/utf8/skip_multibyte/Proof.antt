@@ -1,3 +1,4 @@
+-- `skip_multibyte` meets its contract. The first byte, the second and the tails, one after the other.
 use borrow.Author.Needs.{needs}
 use mathlib.Core.Path.{subst}
 use native.Mathlib.Nat.{le-trans}

@@ -1,3 +1,4 @@
+-- `skip_tails` meets its contract. Of the n tails from `at` on, k are left at i.
 use borrow.Author.Needs.{needs}
 use mathlib.Core.Path.{subst}
 use native.Mathlib.Omega.{arith}

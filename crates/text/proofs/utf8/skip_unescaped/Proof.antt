@@ -1,3 +1,4 @@
+-- `skip_unescaped` meets its contract. A plain byte, or a longer character.
 use borrow.Author.Needs.{needs}
 use mathlib.Core.Path.{sym, _∙_}
 use native.Mathlib.Omega.{arith}

@@ -1,0 +1,5 @@
+-- What the functions over the decoded bytes of JSON strings promise, in the rules' terms.
+pub mod Decoded
+pub mod Flat
+pub mod Ahead
+pub mod Scanned
