@@ -69,7 +69,7 @@ unfolding Lines.onto Lines.lines Lines.anyObject
 inLines = tt
 
 unfoldable pub inActions : Unit {0}
-unfolding Actions.inLine Actions.inAction Actions.inField Actions.pathAt Actions.pairs Actions.partitionValuesAt Actions.addOf Actions.unstated Actions.protocolNumberAt Actions.orEmpty Actions.featuresAt Actions.protocolOf Actions.mostColumns Actions.metaDataOf Actions.keyOf Actions.actionBy Actions.onlyOne Actions.lineMember Actions.action Actions.orNothing Actions.pathWritten Actions.pathIn Actions.pathShown Actions.recordsOf Actions.recordsIn Actions.recordsShown
+unfolding Actions.inLine Actions.inAction Actions.inField Actions.pathAt Actions.pairs Actions.partitionValuesAt Actions.addOf Actions.unstated Actions.protocolNumberAt Actions.orEmpty Actions.featuresAt Actions.protocolOf Actions.mostColumns Actions.metaDataOf Actions.keyOf Actions.actionBy Actions.onlyOne Actions.lineMember Actions.action Actions.isLine Actions.orNothing Actions.pathWritten Actions.pathIn Actions.pathShown Actions.recordsOf Actions.recordsIn Actions.recordsShown
 inActions = tt
 
 unfoldable pub inLive : Unit {0}

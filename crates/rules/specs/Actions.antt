@@ -1,9 +1,10 @@
 -- What a line says: one JSON object with exactly one member, an action by its key.
+use mathlib.Core.Bool.{Bool, true, false}
 use mathlib.Core.Option.{Option, none, some}
 use mathlib.Core.List.{List, [], _∷_}
 use Prim.Native.Nat.{ℕ}
 use Prim.Native.String.{String}
-use lib.Dec.{leb}
+use lib.Dec.{eqb, leb}
 use lib.ListN.{length}
 use Rattle.rules.specs.Bytes.{Bytes, ascii, _>>=_, guard, first, among, same, distinct, firsts}
 use Rattle.rules.specs.Json.Text.{Text}
@@ -191,6 +192,11 @@ action line = do
 
 -- ---- what is shown of one line
 
+-- bytes that hold 0x0A are no line
+unfoldable pub isLine : Bytes → Bool
+isLine [] = true
+isLine (b ∷ bs) = elim (eqb b 0x0A) [ true ↦ false | false ↦ isLine bs ]
+
 unfoldable pub orNothing : Option Text → Text
 orNothing none = []
 orNothing (some t) = t
@@ -214,7 +220,7 @@ pathIn (some other) line = []
 
 -- the raw path between its quotes; empty if the line is no well-formed add
 unfoldable pub pathShown : Text → Text
-pathShown line = pathIn (action line) line
+pathShown line = elim (isLine line) [ true ↦ pathIn (action line) line | false ↦ [] ]
 
 pub data Records : Type 0 where
   records : ℕ → Records
@@ -236,4 +242,4 @@ recordsIn (some other) = noAdd
 
 -- an add's number of records
 unfoldable pub recordsShown : Text → Records
-recordsShown line = recordsIn (action line)
+recordsShown line = elim (isLine line) [ true ↦ recordsIn (action line) | false ↦ noAdd ]

@@ -1,0 +1,99 @@
+-- A name and the zeros behind it, byte by byte.
+use mathlib.Core.Path.{_≡_, refl}
+use mathlib.Core.Bool.{Bool, true, false}
+use mathlib.Core.Option.{Option, none, some}
+use mathlib.Core.List.{[], _∷_}
+use Prim.Native.Nat.{ℕ, suc, _+_, _≤_, _<_}
+use native.Mathlib.Nat.{not-suc-le-zero}
+use native.Mathlib.Omega.{arith}
+use lib.Dec.{leb}
+use lib.ListN.{length, drop, getD, drop-of-length-le}
+use borrow.Author.Tests.{eq-eqb, ne-eqb, le-leb}
+use Rattle.facts.proofs.Lists.{drop-here}
+use Rattle.rules.specs.Bytes.{Bytes, among, _>>=_, guard}
+use Rattle.rules.specs.Bundle.{zeros, unpadded, nameIn}
+use Rattle.rules.proofs.Order.{le-among, among-true}
+use Rattle.rules.proofs.Tests.{false-of}
+use Rattle.bundle.specs.Files.{isSome, nameSize}
+
+-- ---- a byte of a name
+
+pub visible-between : (b : ℕ) → 0x21 ≤ b → b ≤ 0x7E → among 0x21 0x7E b ≡ true
+visible-between b l h = le-among 0x21 0x7E b l h
+
+pub visible-below : (b : ℕ) → b < 0x21 → among 0x21 0x7E b ≡ false
+visible-below b h = false-of (among 0x21 0x7E b) (λ e. let r = among-true 0x21 0x7E b e in absurd (omega arith))
+
+pub visible-above : (b : ℕ) → 0x7E < b → among 0x21 0x7E b ≡ false
+visible-above b h = false-of (among 0x21 0x7E b) (λ e. let r = among-true 0x21 0x7E b e in absurd (omega arith))
+
+-- ---- at place i of p
+
+module _ (p : Bytes) (i : ℕ) (h : i < length p) where
+  pub zeros-more : getD p i 0 ≡ 0 → zeros (drop i p) ≡ zeros (drop (i + 1) p)
+  unfolding zeros
+  zeros-more e = rw (drop-here p i 0 h, zeros, eq-eqb _ _ e)
+
+  pub zeros-other : (getD p i 0 ≡ 0 → ⊥) → zeros (drop i p) ≡ false
+  unfolding zeros
+  zeros-other e = rw (drop-here p i 0 h, zeros, ne-eqb _ _ e)
+
+  pub nameSize-here : getD p i 0 ≡ 0 → nameSize (drop i p) ≡ 0
+  unfolding nameSize
+  nameSize-here e = rw (drop-here p i 0 h, nameSize, eq-eqb _ _ e)
+
+  pub nameSize-more : (getD p i 0 ≡ 0 → ⊥) → nameSize (drop i p) ≡ suc (nameSize (drop (i + 1) p))
+  unfolding nameSize
+  nameSize-more e = rw (drop-here p i 0 h, nameSize, ne-eqb _ _ e)
+
+  pub name-more : among 0x21 0x7E (getD p i 0) ≡ true → isSome (unpadded (drop i p)) ≡ isSome (unpadded (drop (i + 1) p))
+  unfolding unpadded isSome
+  name-more e = rw (drop-here p i 0 h, unpadded, e) (go (unpadded (drop (i + 1) p)))
+    where
+      go : (o : Option Bytes) → isSome (o >>= λ name. some (getD p i 0 ∷ name)) ≡ isSome o
+      go none = refl
+      go (some name) = refl
+
+  pub name-other : among 0x21 0x7E (getD p i 0) ≡ false → isSome (unpadded (drop i p)) ≡ zeros (drop i p)
+  unfolding unpadded isSome
+  name-other e = rw (drop-here p i 0 h, unpadded, e) (go (zeros (getD p i 0 ∷ drop (i + 1) p)))
+    where
+      go : (z : Bool) → isSome {A = Bytes} (elim z [ true ↦ some [] | false ↦ none ]) ≡ z
+      go true = refl
+      go false = refl
+
+-- ---- at its end
+
+module _ (p : Bytes) (i : ℕ) (h : length p ≤ i) where
+  pub zeros-end : zeros (drop i p) ≡ true
+  unfolding zeros
+  zeros-end = rw (drop-of-length-le p h)
+
+  pub nameSize-end : nameSize (drop i p) ≡ 0
+  unfolding nameSize
+  nameSize-end = rw (drop-of-length-le p h)
+
+  pub name-end : isSome (unpadded (drop i p)) ≡ true
+  unfolding unpadded isSome
+  name-end = rw (drop-of-length-le p h)
+
+-- ---- the whole of it
+
+-- a name that does not begin with a byte of a name is empty
+pub name-none : (p : Bytes) → 1 ≤ length p → among 0x21 0x7E (getD p 0 0) ≡ false → isSome (nameIn p) ≡ false
+unfolding nameIn unpadded isSome
+name-none [] h e = absurd (not-suc-le-zero h)
+name-none (b ∷ bs) h e = rw (nameIn, unpadded, e) (go (zeros (b ∷ bs)))
+  where
+    go : (z : Bool) → isSome {A = Bytes} (elim z [ true ↦ some [] | false ↦ none ] >>= λ name. guard (leb 1 (length name)) >>= λ _. some name) ≡ false
+    go true = refl
+    go false = refl
+
+pub name-some : (p : Bytes) → 1 ≤ length p → among 0x21 0x7E (getD p 0 0) ≡ true → isSome (nameIn p) ≡ isSome (unpadded (drop 1 p))
+unfolding nameIn unpadded isSome
+name-some [] h e = absurd (not-suc-le-zero h)
+name-some (b ∷ bs) h e = rw (nameIn, unpadded, e) (go (unpadded bs))
+  where
+    go : (o : Option Bytes) → isSome (o >>= (λ name. some (b ∷ name)) >>= λ name. guard (leb 1 (length name)) >>= λ _. some name) ≡ isSome o
+    go none = refl
+    go (some name) = rw (le-leb 1 (suc (length name)) (omega arith))

@@ -1,0 +1,66 @@
+-- The invariant: no line feed has been passed. The measure is what is left before `to`.
+use native.Mathlib.Omega.{arith}
+use Prim.Native.Nat.{_≤_, _-_}
+use Rattle.lines.proofs.Laws.{Free, free-none, free-more}
+use Rattle.lines.proofs.line_end.Statement.{statement}
+use Rattle.lines.proofs.line_end.Tie as tie
+
+abbrev Inv-loop : tie.InvT-loop
+Inv-loop s from to i₀ i = (from ≤ i) × (i ≤ to) × Free s from i
+
+abbrev μ-loop : tie.MeasureT-loop
+μ-loop s from to i₀ i = to - i
+
+loop-holds : tie.Need-loop-holds Inv-loop μ-loop
+loop-holds c = (omega arith, omega arith, free-none (c .args .s .now) (c .args .from))
+
+shared-slice-read-if1 : tie.Need-shared-slice-read-if1 Inv-loop μ-loop
+shared-slice-read-if1 c = omega arith
+
+returns : tie.Need-returns Inv-loop μ-loop
+returns c = record {
+  behind = c .before .before .before .loop .inv .0;
+  within = c .before .before .before .loop .inv .1;
+  before = c .before .before .before .loop .inv .2;
+  feed = λ _. c .if1 .taken;
+}
+
+add-i : tie.Need-add-i Inv-loop μ-loop
+add-i c = omega arith
+
+loop-less : tie.Need-loop-less Inv-loop μ-loop
+loop-less c = omega arith
+
+loop-again : tie.Need-loop-again Inv-loop μ-loop
+loop-again c = (
+  omega arith,
+  omega arith,
+  free-more
+      (c .before .before .before .before .args .s .now)
+      (c .before .before .before .before .args .from)
+      (c .before .before .before .loop .i)
+      (c .before .before .before .loop .inv .2)
+      (c .if1 .left),
+)
+
+returns-2 : tie.Need-returns-2 Inv-loop μ-loop
+returns-2 c = record {
+  behind = c .before .loop .inv .0;
+  within = c .before .loop .inv .1;
+  before = c .before .loop .inv .2;
+  feed = λ m. absurd (omega arith);
+}
+
+pub line-end-spec : {M : Type 1} → statement M
+line-end-spec =
+    tie.close
+    (tie.spec
+    Inv-loop
+    μ-loop
+    loop-holds
+    shared-slice-read-if1
+    returns
+    add-i
+    loop-less
+    loop-again
+    returns-2)

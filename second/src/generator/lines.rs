@@ -1,0 +1,216 @@
+//! Well-formed lines of every action, and the facts they carry.
+
+use super::dice::Dice;
+use super::writing::{any_value, member, object, quoted, shuffled_object, strings, Members};
+
+/// The facts of one add.
+#[derive(Clone, Debug)]
+pub struct FileFacts {
+    pub path: String,
+    pub size: u64,
+    pub time: u64,
+    pub records: Option<u64>,
+    pub values: Vec<(String, Option<String>)>,
+}
+
+#[derive(Clone, Debug)]
+pub struct ProtocolFacts {
+    pub reader: u64,
+    pub writer: u64,
+    pub reader_features: Vec<String>,
+    pub writer_features: Vec<String>,
+}
+
+pub const PATHS: [&str; 12] =
+    ["a", "b", "c", "a/b", "a.split", "b.split", "\u{E9}", "\u{1F600}x", "a\"b", "a\\b", "\n", "\u{0}"];
+
+const VALUES: [&str; 28] = [
+    "",
+    "a",
+    "ab",
+    "b",
+    "\u{E9}",
+    "\u{1F600}",
+    "\u{FFFF}",
+    "2024-01-01",
+    "2024-01-31",
+    "2024-01-311",
+    "0",
+    "-0",
+    "9",
+    "09",
+    "10",
+    "-1",
+    "9223372036854775807",
+    "9223372036854775808",
+    "-9223372036854775808",
+    "-9223372036854775809",
+    "00000000000000000010",
+    "000000000000000000010",
+    "-00000000000000000001",
+    "+1",
+    "1.0",
+    " 1",
+    "-",
+    "0x10",
+];
+
+const COLUMNS: [&str; 7] = ["year", "class", "n\u{E4}me", "", "a\"b", "month", "\u{1F600}"];
+
+pub const KNOWN_FEATURES: [&str; 6] =
+    ["skippedFiles", "extendedMetadata", "footerOffsets", "schemaDeduplication", "checkpoint", "optimizeWrite"];
+
+pub const UNKNOWN_FEATURES: [&str; 5] = ["avroState", "multiPartCheckpoint", "", "skippedfiles", "checkpoint "];
+
+const NUMBERS: [u64; 8] = [0, 1, 7, 50, 60, 100, 1_696_000_000_000, i64::MAX as u64];
+
+/// A partition value; half of them of a few only, so that values and bounds meet.
+pub fn value(dice: &mut Dice) -> String {
+    if dice.one_in(2) {
+        dice.pick(&["9", "10", "2024-01-01", "2024-01-31"]).to_string()
+    } else {
+        dice.pick(&VALUES).to_string()
+    }
+}
+
+/// Up to three distinct column names.
+pub fn columns(dice: &mut Dice) -> Vec<String> {
+    let mut names = COLUMNS.map(str::to_string).to_vec();
+    dice.shuffle(&mut names);
+    names.truncate(dice.below(4));
+    names
+}
+
+/// Facts of a file at this path: a value, null or nothing for each column.
+pub fn facts(dice: &mut Dice, path: &str, columns: &[String]) -> FileFacts {
+    let mut values = Vec::new();
+    for column in columns {
+        match dice.below(8) {
+            0 => (),
+            1 => values.push((column.clone(), None)),
+            _ => values.push((column.clone(), Some(value(dice)))),
+        }
+    }
+    FileFacts {
+        path: path.to_string(),
+        size: dice.pick_number(&NUMBERS),
+        time: dice.pick_number(&NUMBERS),
+        records: if dice.one_in(2) { Some(dice.pick_number(&NUMBERS)) } else { None },
+        values,
+    }
+}
+
+fn partition_values(dice: &mut Dice, values: &[(String, Option<String>)]) -> String {
+    let mut members = Members::new();
+    for (column, value) in values {
+        let written = match value {
+            Some(text) => quoted(dice, text),
+            None => "null".to_string(),
+        };
+        members.push((column.clone(), written));
+    }
+    shuffled_object(dice, members)
+}
+
+/// The fields of an add, in the order in which 01 lists them.
+pub fn add_fields(dice: &mut Dice, facts: &FileFacts) -> Members {
+    let mut fields = vec![
+        ("path".to_string(), quoted(dice, &facts.path)),
+        member("size", facts.size),
+        member("modificationTime", facts.time),
+        member("dataChange", dice.one_in(2)),
+        ("partitionValues".to_string(), partition_values(dice, &facts.values)),
+    ];
+    match facts.records {
+        Some(records) => fields.push(member("numRecords", records)),
+        None if dice.one_in(4) => fields.push(member("numRecords", "null")),
+        None => (),
+    }
+    fields
+}
+
+/// A line with this action; now and then with unknown fields, some of them twice.
+pub fn action(dice: &mut Dice, key: &str, mut fields: Members) -> String {
+    if dice.one_in(6) {
+        let unknown = dice.pick(&["stats", "tags", "", "Path", "sizes", "deletionTimestamp"]);
+        for _ in 0..1 + dice.below(2) {
+            let value = any_value(dice);
+            fields.push(member(unknown, value));
+        }
+    }
+    if dice.one_in(3) {
+        dice.shuffle(&mut fields);
+    }
+    let fields = object(dice, &fields);
+    object(dice, &[member(key, fields)])
+}
+
+pub fn add(dice: &mut Dice, facts: &FileFacts) -> String {
+    let fields = add_fields(dice, facts);
+    action(dice, "add", fields)
+}
+
+pub fn remove(dice: &mut Dice, path: &str) -> String {
+    let mut fields = vec![("path".to_string(), quoted(dice, path))];
+    if dice.one_in(8) {
+        fields.extend([member("size", "null"), member("size", "\"twice\"")]);
+    }
+    action(dice, "remove", fields)
+}
+
+pub fn protocol_fields(dice: &mut Dice, facts: &ProtocolFacts) -> Members {
+    let mut fields = vec![member("minReaderVersion", facts.reader), member("minWriterVersion", facts.writer)];
+    for (name, features) in [("readerFeatures", &facts.reader_features), ("writerFeatures", &facts.writer_features)] {
+        let mut features = features.clone();
+        dice.shuffle(&mut features);
+        if let (Some(first), true) = (features.first().cloned(), dice.one_in(6)) {
+            features.push(first);
+        }
+        match (features.is_empty(), dice.below(3)) {
+            (true, 0) => (),
+            (true, 1) => fields.push(member(name, "null")),
+            _ => fields.push((name.to_string(), strings(dice, &features))),
+        }
+    }
+    fields
+}
+
+pub fn protocol(dice: &mut Dice, facts: &ProtocolFacts) -> String {
+    let fields = protocol_fields(dice, facts);
+    action(dice, "protocol", fields)
+}
+
+/// A protocol that the gate lets pass, or with `edges` one near or beyond its limits.
+pub fn protocol_facts(dice: &mut Dice, edges: bool) -> ProtocolFacts {
+    let mut known = KNOWN_FEATURES.map(str::to_string).to_vec();
+    dice.shuffle(&mut known);
+    known.truncate(dice.below(3));
+    let mut facts = ProtocolFacts {
+        reader: 1 + dice.below(3) as u64,
+        writer: 1 + dice.below(3) as u64,
+        reader_features: known.iter().filter(|name| !KNOWN_FEATURES[4..].contains(&&name[..])).cloned().collect(),
+        writer_features: known,
+    };
+    if edges {
+        match dice.below(5) {
+            0 => facts.reader = dice.pick_number(&[3, 4, 2_147_483_647]),
+            1 => facts.writer = dice.pick_number(&[3, 4, 2_147_483_647]),
+            2 => facts.reader_features.push(dice.pick(&UNKNOWN_FEATURES).to_string()),
+            3 => facts.reader_features.push(dice.pick(&KNOWN_FEATURES).to_string()),
+            _ => facts.writer_features.push(dice.pick(&UNKNOWN_FEATURES).to_string()),
+        }
+    }
+    facts
+}
+
+pub fn meta_data(dice: &mut Dice, columns: &[impl AsRef<str>]) -> String {
+    let fields = vec![("id".to_string(), quoted(dice, "t")), ("partitionColumns".to_string(), strings(dice, columns))];
+    action(dice, "metaData", fields)
+}
+
+/// A line without effect.
+pub fn other(dice: &mut Dice) -> String {
+    let key = dice.pick(&["mergeskip", "skip", "txn", "", "Add", "commitInfo"]);
+    let value = any_value(dice);
+    object(dice, &[member(key, value)])
+}

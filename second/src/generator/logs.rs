@@ -1,0 +1,153 @@
+//! Whole logs: version files, checkpoints and a marker, with the state after each version.
+
+use super::dice::Dice;
+use super::lines;
+use super::models::Model;
+use crate::bundle::{self, File};
+
+pub struct Log {
+    pub files: Vec<File>,
+    pub columns: Vec<String>,
+    /// The state after each version from 0.
+    pub states: Vec<Model>,
+}
+
+pub fn version_name(version: u64) -> Vec<u8> {
+    format!("{version:020}.json").into_bytes()
+}
+
+pub fn checkpoint_name(version: u64) -> Vec<u8> {
+    format!("{version:020}.checkpoint.json").into_bytes()
+}
+
+pub const MARKER: &[u8] = b"_last_checkpoint";
+
+/// Times of the generated files: few, so that ages meet.
+const TIMES: [u64; 6] = [0, 999, 1_000, 1_001, 2_000, u64::MAX];
+
+fn join(dice: &mut Dice, lines: &[String]) -> Vec<u8> {
+    let mut body = lines.join("\n");
+    if !dice.one_in(6) {
+        body.push('\n');
+    }
+    body.into_bytes()
+}
+
+impl Log {
+    /// A well-formed log of version 0 and up to `most` versions more.
+    pub fn grow(dice: &mut Dice, most: usize) -> Log {
+        let mut log = Log { files: Vec::new(), columns: lines::columns(dice), states: Vec::new() };
+        log.grow_version_zero(dice);
+        for _ in 0..dice.below(most + 1) {
+            log.grow_version(dice);
+        }
+        log
+    }
+
+    /// As `grow`, with checkpoints here and there, most of them true, and a marker on one of them.
+    pub fn grow_with_checkpoints(dice: &mut Dice, most: usize) -> Log {
+        let mut log = Log::grow(dice, most);
+        let mut kept = Vec::new();
+        for version in 0..=log.last() {
+            if dice.one_in(3) {
+                let mut state = log.states[version as usize].clone();
+                if dice.one_in(5) {
+                    state.falsify(dice);
+                }
+                log.put_checkpoint(dice, version, &state);
+                kept.push(version);
+            }
+        }
+        if !kept.is_empty() && dice.one_in(2) {
+            log.put_marker(kept[dice.below(kept.len())]);
+        }
+        log
+    }
+
+    pub fn last(&self) -> u64 {
+        self.states.len() as u64 - 1
+    }
+
+    fn grow_version_zero(&mut self, dice: &mut Dice) {
+        let mut state = Model::empty();
+        let mut lines = vec![lines::meta_data(dice, &self.columns)];
+        if dice.one_in(2) {
+            state.protocol = lines::protocol_facts(dice, false);
+            lines.push(lines::protocol(dice, &state.protocol));
+        }
+        if dice.one_in(6) {
+            lines.push("{\"skip\":{}}".to_string());
+        }
+        dice.shuffle(&mut lines);
+        let body = join(dice, &lines);
+        self.put(dice, version_name(0), body);
+        self.states.push(state);
+    }
+
+    fn grow_version(&mut self, dice: &mut Dice) {
+        let mut state = self.states[self.states.len() - 1].clone();
+        let mut lines = Vec::new();
+        for _ in 0..1 + dice.below(3) {
+            let path = dice.pick(&lines::PATHS[..]);
+            lines.push(match dice.below(20) {
+                0..=11 => {
+                    let facts = lines::facts(dice, path, &self.columns);
+                    let line = lines::add(dice, &facts);
+                    state.live.insert(path.to_string(), facts);
+                    line
+                }
+                12..=16 => {
+                    state.live.remove(path);
+                    lines::remove(dice, path)
+                }
+                17 => {
+                    state.protocol = lines::protocol_facts(dice, false);
+                    lines::protocol(dice, &state.protocol)
+                }
+                18 => lines::meta_data(dice, &["later"]),
+                _ => lines::other(dice),
+            });
+        }
+        let body = join(dice, &lines);
+        self.put(dice, version_name(self.states.len() as u64), body);
+        self.states.push(state);
+    }
+
+    /// Puts a file, or replaces the one with this name.
+    pub fn put(&mut self, dice: &mut Dice, name: Vec<u8>, body: Vec<u8>) {
+        let modified = dice.pick_number(&TIMES);
+        self.files.retain(|file| file.name != name);
+        self.files.push(File { name, modified, body });
+    }
+
+    pub fn put_checkpoint(&mut self, dice: &mut Dice, version: u64, state: &Model) {
+        let lines = state.checkpoint_lines(dice);
+        let body = join(dice, &lines);
+        self.put(dice, checkpoint_name(version), body);
+    }
+
+    pub fn put_marker(&mut self, version: u64) {
+        self.put_marker_body(format!("{{\"version\":{version}}}").into_bytes());
+    }
+
+    pub fn put_marker_body(&mut self, body: Vec<u8>) {
+        self.files.retain(|file| file.name != MARKER);
+        self.files.push(File { name: MARKER.to_vec(), modified: 0, body });
+    }
+
+    pub fn take_out(&mut self, name: &[u8]) {
+        self.files.retain(|file| file.name != name);
+    }
+
+    /// The files whose lines are read: version files and checkpoints.
+    pub fn files_with_lines(&mut self) -> Vec<&mut File> {
+        self.files.iter_mut().filter(|file| file.name.ends_with(b".json")).collect()
+    }
+
+    pub fn bundle(&self) -> Vec<u8> {
+        let mut files = self.files.clone();
+        files.sort_by(|one, two| one.name.cmp(&two.name));
+        files.dedup_by(|one, two| one.name == two.name);
+        bundle::write(&files)
+    }
+}

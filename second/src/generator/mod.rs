@@ -1,0 +1,78 @@
+//! The generator: requests that together reach every rule and every refusal, on both sides
+//! of each edge. Request `number` of a seed is always the same.
+
+mod bundles;
+mod cleanings;
+mod dice;
+mod lines;
+mod logs;
+mod markers;
+mod models;
+mod odd_lines;
+mod odd_texts;
+mod queries;
+mod readings;
+mod showings;
+mod states;
+mod twists;
+mod writing;
+
+use crate::request::Request;
+use dice::Dice;
+
+type Kind = fn(&mut Dice) -> Request;
+
+/// The kinds of requests, and how often each is made among the others.
+const KINDS: [(usize, Kind); 34] = [
+    (1000, readings::plain),
+    (2000, readings::twisted),
+    (1600, readings::odd_line),
+    (300, readings::gate),
+    (300, readings::marker),
+    (150, readings::names),
+    (900, readings::queried),
+    (300, readings::damaged_bundle),
+    (150, readings::odd_rooms),
+    (2, readings::most_entries),
+    (2, readings::one_entry_too_many),
+    (1, readings::most_bytes),
+    (1, readings::one_byte_too_many),
+    (4, readings::all_live),
+    (3, readings::too_many_live_at_version),
+    (3, readings::too_many_live_at_latest),
+    (900, states::bounded),
+    (60, states::many),
+    (600, states::odd),
+    (60, states::odd_rooms),
+    (400, cleanings::plain),
+    (500, cleanings::disagreeing),
+    (700, cleanings::twisted),
+    (300, cleanings::gate),
+    (250, cleanings::nothing_to_name),
+    (200, cleanings::marker),
+    (300, cleanings::ages),
+    (100, cleanings::damaged_bundle),
+    (80, cleanings::odd_rooms),
+    (3, cleanings::full),
+    (3, cleanings::too_many_live),
+    (200, showings::directory),
+    (500, showings::path),
+    (500, showings::records),
+];
+
+/// The first requests go once through all kinds; the others are drawn by weight.
+pub fn make(seed: u64, number: u64) -> Request {
+    let mut dice = Dice::new(seed, number);
+    if let Some((_, kind)) = KINDS.get(number as usize) {
+        return kind(&mut dice);
+    }
+    let all: usize = KINDS.iter().map(|(weight, _)| weight).sum();
+    let mut drawn = dice.below(all);
+    for (weight, kind) in KINDS {
+        if drawn < weight {
+            return kind(&mut dice);
+        }
+        drawn -= weight;
+    }
+    unreachable!("the weights sum up to what was drawn below")
+}

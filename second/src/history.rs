@@ -1,0 +1,128 @@
+//! History: lines applied in order to a live set and a protocol.
+
+use std::collections::BTreeMap;
+
+use crate::actions::{self, Action, MetaData, PartitionValues, Protocol};
+use crate::lines;
+use crate::log::{Log, Start};
+use crate::refusal::{malformed, too_many_live, Refusal};
+
+const MOST_LIVE: usize = 1_024;
+
+/// A live file: where its add's line stands in the bundle, and its facts.
+#[derive(Clone, Debug)]
+pub struct LiveFile {
+    pub position: u64,
+    pub length: u64,
+    pub size: u64,
+    pub modification_time: u64,
+    pub records: Option<u64>,
+    pub values: PartitionValues,
+}
+
+impl LiveFile {
+    fn has_facts_of(&self, other: &LiveFile) -> bool {
+        self.size == other.size
+            && self.modification_time == other.modification_time
+            && self.records == other.records
+            && self.values == other.values
+    }
+}
+
+/// The live files by decoded path, and the protocol in force.
+#[derive(Clone, Debug)]
+pub struct State {
+    pub live: BTreeMap<Vec<u8>, LiveFile>,
+    pub protocol: Protocol,
+}
+
+impl State {
+    fn empty() -> State {
+        State { live: BTreeMap::new(), protocol: Protocol::unsaid() }
+    }
+
+    /// Equal states: the same protocol and the same files with the same facts, wherever they stand.
+    pub fn agrees_with(&self, other: &State) -> bool {
+        self.protocol == other.protocol
+            && self.live.len() == other.live.len()
+            && self
+                .live
+                .iter()
+                .zip(&other.live)
+                .all(|((path, file), (other_path, other_file))| path == other_path && file.has_facts_of(other_file))
+    }
+
+    /// Applies the lines of one file; refusal 6 or 7 by the first line met.
+    fn apply_file(&mut self, log: &Log, entry: usize) -> Result<(), Refusal> {
+        let file = &log.entries[entry];
+        let lines = lines::of(file.body);
+        for line in &lines {
+            match actions::read(line.bytes).ok_or(malformed(entry, line.number))? {
+                Action::Protocol(protocol) => self.protocol = protocol,
+                Action::Add(add) => {
+                    let live_file = LiveFile {
+                        position: (file.start + line.position) as u64,
+                        length: line.bytes.len() as u64,
+                        size: add.size,
+                        modification_time: add.modification_time,
+                        records: add.records,
+                        values: add.values,
+                    };
+                    self.live.insert(add.path, live_file);
+                }
+                Action::Remove(path) => {
+                    self.live.remove(&path);
+                }
+                Action::MetaData(_) | Action::MergeSkip | Action::Other => (),
+            }
+            if self.live.len() > MOST_LIVE {
+                return Err(too_many_live(entry, line.number));
+            }
+        }
+        if lines.is_empty() {
+            return Err(malformed(entry, 0));
+        }
+        Ok(())
+    }
+}
+
+/// Version 0: exactly one metaData, at most one protocol, and no add, remove or mergeskip.
+pub fn read_version_zero(log: &Log) -> Result<(MetaData, State), Refusal> {
+    let entry = log.versions[&0];
+    let mut state = State::empty();
+    let mut meta_data = None;
+    let mut protocols = 0;
+    for line in lines::of(log.entries[entry].body) {
+        let refused = malformed(entry, line.number);
+        match actions::read(line.bytes).ok_or(refused)? {
+            Action::MetaData(first) if meta_data.is_none() => meta_data = Some(first),
+            Action::Protocol(first) if protocols == 0 => {
+                state.protocol = first;
+                protocols = 1;
+            }
+            Action::Other => (),
+            _ => return Err(refused),
+        }
+    }
+    let meta_data = meta_data.ok_or(malformed(entry, 0))?;
+    Ok((meta_data, state))
+}
+
+/// A checkpoint's state: its own lines applied to an empty set.
+pub fn read_checkpoint(log: &Log, version: u64) -> Result<State, Refusal> {
+    let mut state = State::empty();
+    state.apply_file(log, log.checkpoints[&version])?;
+    Ok(state)
+}
+
+/// The state at `version`, read from a start that reaches it.
+pub fn read_way(log: &Log, version_zero: &State, start: Start, version: u64) -> Result<State, Refusal> {
+    let mut state = match start {
+        Start::VersionZero => version_zero.clone(),
+        Start::Checkpoint(checkpoint) => read_checkpoint(log, checkpoint)?,
+    };
+    for next in start.version() + 1..=version {
+        state.apply_file(log, log.versions[&next])?;
+    }
+    Ok(state)
+}
