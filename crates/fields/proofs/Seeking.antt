@@ -9,8 +9,8 @@ use lib.Dec.{eqb}
 use lib.ListN.{length, getD}
 use Rattle.rules.specs.Bytes.{Bytes, same, holds, distinct}
 use Rattle.rules.proofs.Tests.{by, tests-equal, false-of}
-use Rattle.rules.proofs.Order.{same-true, eq-same, ne-same}
-use Rattle.rules.proofs.Holding.{holds-false, distinct-head, distinct-tail}
+use Rattle.rules.proofs.Order.{same-true, same-false, eq-same, ne-same}
+use Rattle.rules.proofs.Holding.{holds-head, holds-past, holds-false, distinct-head, distinct-tail}
 use Rattle.fields.specs.Kinds.{seek}
 
 module _ (name k : Bytes) (ks : List Bytes) where
@@ -21,6 +21,14 @@ module _ (name k : Bytes) (ks : List Bytes) where
   pub seek-past : same name k ≡ false → seek name (k ∷ ks) ≡ suc (seek name ks)
   unfolding seek
   seek-past e = rw (seek, e)
+
+-- the same by the tests made so far
+pub seek-none : (name : Bytes) → seek name [] ≡ 0
+unfolding seek
+seek-none name = refl
+
+pub seek-then : (name k : Bytes) (ks : List Bytes) {n : ℕ} → same name k ≡ false → seek name ks ≡ n → seek name (k ∷ ks) ≡ suc n
+seek-then name k ks e f = seek-past name k ks e ∙ ap suc f
 
 -- a name found at k is the k-th
 pub seek-found : (name : Bytes) (ks : List Bytes) (k : ℕ) → k < length ks → seek name ks ≡ k → name ≡ getD ks k []
@@ -46,3 +54,15 @@ pub seek-is : (name : Bytes) (ks : List Bytes) (k : ℕ) → distinct ks ≡ tru
 seek-is name ks k d h = tests-equal (eqb (seek name ks) k) (same name (getD ks k []))
     (λ p. eq-same (seek-found name ks k h (eqb-true (seek name ks) k p)))
     (λ p. eq-eqb (seek name ks) k (ap (λ (x : Bytes). seek x ks) (same-true name (getD ks k []) p) ∙ seek-place ks k d h))
+
+-- ---- the same of a name that is held
+
+pub holds-none : (name : Bytes) → holds name [] ≡ false
+unfolding holds
+holds-none name = refl
+
+pub holds-here : (name k : Bytes) (ks : List Bytes) → same name k ≡ true → holds name (k ∷ ks) ≡ true
+holds-here name k ks e = holds-head name k ks (same-true name k e)
+
+pub holds-then : (name k : Bytes) (ks : List Bytes) {b : Bool} → same name k ≡ false → holds name ks ≡ b → holds name (k ∷ ks) ≡ b
+holds-then name k ks e f = holds-past name k ks (same-false name k e) ∙ f
