@@ -1,0 +1,11 @@
+pub mod Seeking
+pub mod Slots
+pub mod Naming
+pub mod Members
+pub mod Passing
+pub mod Scanning
+pub mod Elements
+pub mod Collecting
+pub mod Walking
+pub mod Asking
+pub mod Meeting

@@ -1,0 +1,77 @@
+-- The scan of an object: the members that went by are in the slots, and each way out of the loop answers for the whole object.
+use mathlib.Core.Path.{_≡_, sym, _∙_}
+use mathlib.Core.Option.{none, some}
+use mathlib.Core.List.{List, [], _∷_, _++_}
+use Prim.Native.Nat.{ℕ, _+_, _-_, _≤_}
+use lib.ListN.{length, take, drop, replicate}
+use Rattle.rules.specs.Bytes.{Bytes}
+use Rattle.rules.specs.Json.Text.{Text, Reader}
+use Rattle.rules.specs.Json.Values.{Member, opening, closing, member, contents}
+use Rattle.rules.proofs.Json.Suffix.{EachReads}
+use Rattle.rules.proofs.Json.ValueReads.{member-reads}
+use Rattle.rules.proofs.Json.Steps.{contents-list, list-closed, list-neither}
+use Rattle.json.specs.Follows.{Follows}
+use Rattle.json.specs.declared.Tail.the-variants.{Closed, More, Neither}
+use Rattle.fields.specs.Kinds.{namesOf, seek}
+use Rattle.fields.specs.Slots.{missing, Noted, Each, Filled}
+use Rattle.fields.specs.Spelled.{nameIn, Stands}
+use Rattle.fields.specs.declared.Kind.{Kind}
+use Rattle.fields.specs.declared.Slot.{Slot}
+use Rattle.fields.specs.declared.Spell.{Spell}
+use Rattle.fields.proofs.Naming.{names-few, names-distinct}
+use Rattle.fields.proofs.Slots.{each-start, each-more}
+use Rattle.fields.proofs.Passing.{Passed, passed-start, passed-none, passed-neither, passed-closed, passed-more, list-further}
+
+pub record Going (read : Reader) (s : Text) (at : ℕ) (kind : Kind) (slots : List Slot) (i : ℕ) : Type 0 where
+  pub gone : List Member
+  pub passed : Passed (member read) 0x7D s at i gone
+  pub each : Each s (namesOf kind) gone slots
+
+module _ (read : Reader) (s : Text) (at : ℕ) (kind : Kind) where
+  -- ---- behind the opening brace
+
+  pub opened-neither : Follows (opening 0x7D (drop at s)) s at Neither → contents read (drop at s) ≡ none
+  opened-neither f = contents-list read (drop at s) ∙ list-neither (member read) 0x7D (drop at s) f
+
+  pub opened-closed : EachReads 1 read → at ≤ length s → (end : ℕ) → Follows (opening 0x7D (drop at s)) s at (Closed end)
+      → Filled (contents read (drop at s)) s at (namesOf kind) end (replicate 8 missing)
+  opened-closed each h end f = record {
+    ms = [];
+    all = contents-list read (drop at s) ∙ list-closed (member read) 0x7D (drop at s) (f .0);
+    from = list-further (member-reads each) 0x7D s at end h (f .2) (list-closed (member read) 0x7D (drop at s) (f .0));
+    within = f .2;
+    each = each-start s (namesOf kind) (names-few kind);
+  }
+
+  pub going-start : (i : ℕ) → Follows (opening 0x7D (drop at s)) s at (More i) → Going read s at kind (replicate 8 missing) i
+  going-start i f = record { gone = []; passed = passed-start (member read) 0x7D s at f; each = each-start s (namesOf kind) (names-few kind) }
+
+  -- ---- a turn
+
+  module _ (slots : List Slot) (i : ℕ) (g : Going read s at kind slots i) where
+    pub going-none : member read (drop i s) ≡ none → contents read (drop at s) ≡ none
+    going-none e = contents-list read (drop at s) ∙ passed-none (g .passed) e
+
+    module _ (n : Spell) (v e : ℕ) (m : Stands (member read (drop i s)) s i n v e) where
+      pub going-neither : Follows (closing 0x7D (drop e s)) s (e + 1) Neither → contents read (drop at s) ≡ none
+      going-neither f = contents-list read (drop at s) ∙ passed-neither (g .passed) e (m .read) f
+
+      module _ (next : List Slot) (r : ℕ) (place : r ≡ seek (nameIn s n) (namesOf kind)) (noted : Noted slots r v e next) (reads : EachReads 1 read) where
+        more : Each s (namesOf kind) (g .gone ++ ((nameIn s n, take (e - v) (drop v s)) ∷ [])) next
+        more = each-more s (namesOf kind) (g .gone) slots next (nameIn s n) r v e (names-few kind) (names-distinct kind) (m .ordered) (m .within) place noted (g .each)
+
+        pub going-closed : at ≤ length s → (k : ℕ) → Follows (closing 0x7D (drop e s)) s (e + 1) (Closed k) → Filled (contents read (drop at s)) s at (namesOf kind) k next
+        going-closed h k f = record {
+          ms = g .gone ++ ((nameIn s n, take (e - v) (drop v s)) ∷ []);
+          all = contents-list read (drop at s) ∙ passed-closed (g .passed) e (m .read) f;
+          from = list-further (member-reads reads) 0x7D s at k h (f .2) (passed-closed (g .passed) e (m .read) f);
+          within = f .2;
+          each = more;
+        }
+
+        pub going-more : (k : ℕ) → Follows (closing 0x7D (drop e s)) s (e + 1) (More k) → Going read s at kind next k
+        going-more k f = record {
+          gone = g .gone ++ ((nameIn s n, take (e - v) (drop v s)) ∷ []);
+          passed = passed-more (g .passed) e (m .read) (member-reads reads) f;
+          each = more;
+        }

@@ -1,0 +1,63 @@
+use mathlib.Core.Path.{sym, _∙_}
+use Rattle.rules.specs.Bytes.{ascii}
+use Rattle.fields.specs.Kinds.{namesOf}
+use Rattle.fields.specs.Spelled.{nameIn}
+use Rattle.fields.proofs.Seeking.{seek-none, seek-here, seek-then}
+use borrow.Author.Needs.{needs}
+use Rattle.fields.proofs.which_bounds.Statement.{statement}
+use Rattle.fields.proofs.which_bounds.Tie as tie
+use Rattle.fields.proofs.which_bounds.Reads as reads
+use Rattle.fields.proofs.which_bounds.Lts as lts
+use Rattle.fields.proofs.name_is.Reads as name-is-reads
+
+-- src/lib.rt:202:22
+slice-aggregate-name-is : tie.Need-slice-aggregate-name-is
+slice-aggregate-name-is c = search needs
+
+-- src/lib.rt:202:8
+name-is-requires : tie.Need-name-is-requires
+name-is-requires c κs = search needs
+
+-- src/lib.rt:203:9
+returns : tie.Need-returns
+unfolding namesOf ascii
+returns c =
+    let a = c .before .before .before .before .args in
+    let x = nameIn (a .s .now) (a .n) in
+    sym (seek-here x _ _ (sym (c .before .name-is .ensures) ∙ c .if1 .taken))
+
+-- src/lib.rt:205:22
+slice-aggregate-name-is-2 : tie.Need-slice-aggregate-name-is-2
+slice-aggregate-name-is-2 c = search needs
+
+-- src/lib.rt:205:8
+name-is-requires-2 : tie.Need-name-is-requires-2
+name-is-requires-2 c κs = search needs
+
+-- src/lib.rt:198:1
+returns-2 : tie.Need-returns-2
+unfolding namesOf ascii
+returns-2 c =
+    let a = c .before .before .before .before .before .before .before .args in
+    let x = nameIn (a .s .now) (a .n) in
+    sym (seek-then x _ _ (sym (c .before .before .before .before .name-is .ensures) ∙ c .before .before .before .if1 .left) (seek-here x _ _ (sym (c .before .name-is2 .ensures) ∙ c .if2 .taken)))
+
+-- src/lib.rt:198:1
+returns-3 : tie.Need-returns-3
+unfolding namesOf ascii
+returns-3 c =
+    let a = c .before .before .before .before .before .before .before .args in
+    let x = nameIn (a .s .now) (a .n) in
+    sym (seek-then x _ _ (sym (c .before .before .before .before .name-is .ensures) ∙ c .before .before .before .if1 .left) (seek-then x _ _ (sym (c .before .name-is2 .ensures) ∙ c .if2 .left) (seek-none x)))
+
+pub which-bounds-spec : {M : Type 1} → statement M
+which-bounds-spec =
+    tie.close
+    (tie.spec
+    slice-aggregate-name-is
+    name-is-requires
+    returns
+    slice-aggregate-name-is-2
+    name-is-requires-2
+    returns-2
+    returns-3)
