@@ -10,7 +10,8 @@ use lib.ListN.{length}
 use Rattle.rules.specs.Bytes.{Bytes}
 use Rattle.rules.specs.Json.Text.{Text}
 use Rattle.rules.specs.Json.Strings.{utf8, escaped}
-use Rattle.rules.proofs.Json.Suffix.{reads-fewer, by}
+use Rattle.rules.proofs.Json.Suffix.{reads-fewer}
+use Rattle.rules.proofs.Tests.{by}
 use Rattle.rules.proofs.Json.StringReads.{escaped-reads}
 use Rattle.strings.specs.Flat.{meant, flatIn, flat}
 

@@ -12,7 +12,7 @@ use lib.ListN.{length, take, set, length-set, length-append}
 use lib.Seq.{take-suc-set, length-take-le}
 use Rattle.rules.specs.Bytes.{Bytes}
 use Rattle.rules.specs.Query.{mostDigits, positive, negative, notNumber, digitsIn, numberOf}
-use Rattle.rules.proofs.Json.Suffix.{by}
+use Rattle.rules.proofs.Tests.{by}
 
 digitsIn-long : (x : Bytes) → 20 < length x → digitsIn x ≡ none
 unfolding digitsIn mostDigits

@@ -14,7 +14,8 @@ use Rattle.rules.specs.Bytes.{Bytes, _>>=_, first, among}
 use Rattle.rules.specs.Json.Text.{Text, behind, spelled, byteIn}
 use Rattle.rules.specs.Json.Strings.{tails, leads, isPlain, multibyte, unescaped, escaped, utf8, char, chars, string}
 use Rattle.rules.proofs.Order.{among-true}
-use Rattle.rules.proofs.Json.Suffix.{some-same, value-same, left-same, never, by, bound, answered-none}
+use Rattle.rules.proofs.Json.Suffix.{some-same, value-same, left-same, bound, answered-none}
+use Rattle.rules.proofs.Tests.{apart, by}
 use Rattle.rules.proofs.Json.TextReads.{before, spelled-left, spelled-text}
 use Rattle.rules.proofs.Json.Steps.{char-escape, char-plain, string-end}
 use Rattle.rules.proofs.Json.StringReads.{chars-quote, chars-char, chars-none}
@@ -45,7 +46,7 @@ passes-above l h = passes-byte (λ e. omega arith) (λ e. omega arith) h
 
 byteIn-passes : (lo hi : ℕ) (t : Text) {u r : Text} → 0x5C < lo → byteIn lo hi t ≡ some u → Passes u r → Passes t r
 unfolding byteIn
-byteIn-passes lo hi [] l e h = never e
+byteIn-passes lo hi [] l e h = apart (cc e)
 byteIn-passes lo hi (b ∷ t) {u} {r} l e h = by (among lo hi b)
     (λ p. passes-above (omega (arith, among-true lo hi b p .0)) (subst (λ (x : Text). Passes x r) (sym (some-same (rw (byteIn, p) at e))) h))
     (λ p. answered-none e (rw (byteIn, p)))
@@ -98,7 +99,7 @@ leads-above b e = first-answers (Above b) _ (
 
 multibyte-passes : (t : Text) {r : Text} → multibyte t ≡ some r → Passes t r
 unfolding multibyte
-multibyte-passes [] e = never e
+multibyte-passes [] e = apart (cc e)
 multibyte-passes (b ∷ t) e = bound (leads b) _ e (λ p h k.
     let a : Above b p = leads-above b h in
     bound (byteIn (p .0) (p .1) t) _ k (λ u i j. passes-above (a .0) (byteIn-passes (p .0) (p .1) t (a .1) i (tails-passes (p .2) u j))))
@@ -116,7 +117,7 @@ plain-backslash p = plain-other p refl
 
 unescaped-passes : (t : Text) {r : Text} → unescaped t ≡ some r → Passes t r
 unfolding unescaped
-unescaped-passes [] e = never e
+unescaped-passes [] e = apart (cc e)
 unescaped-passes (b ∷ t) {r} e = by (isPlain b)
     (λ p. passes-byte (plain-quote p) (plain-backslash p) (subst (Passes t) (some-same (sym (rw (unescaped, p)) ∙ e)) passes-none))
     (λ p. multibyte-passes (b ∷ t) (sym (rw (unescaped, p)) ∙ e))
@@ -141,8 +142,8 @@ char-flat b t {x} {r} e = by (eqb b 0x5C)
 
 chars-flat : (n : ℕ) (t : Text) {d : Bytes} {r : Text} → chars n t ≡ some (d, r) → flat t ≡ d
 unfolding chars
-chars-flat zero t e = never e
-chars-flat (suc n) [] e = never e
+chars-flat zero t e = apart (cc e)
+chars-flat (suc n) [] e = apart (cc e)
 chars-flat (suc n) (b ∷ t) {d} {r} e = by (eqb b 0x22)
     (λ p. ap (λ (k : ℕ). flat (k ∷ t)) (eqb-true b 0x22 p) ∙ flat-quote t ∙ value-same (sym (chars-quote n b t p) ∙ e))
     (λ p. go (λ u x v h. chars-flat n u h) p (char (b ∷ t)) refl)
@@ -160,7 +161,7 @@ string-flat t e = chars-flat (suc (length t)) t e
 
 closed-flat : (t : Text) {r : Text} (o : Option (Bytes × Text)) → string t ≡ o → behind o ≡ some r → flat t ≡ bytesOf o
 unfolding bytesOf
-closed-flat t none e h = never h
+closed-flat t none e h = apart (cc h)
 closed-flat t (some p) e h = string-flat t e
 
 module _ {s : Text} {at : ℕ} (w : WellSpelled s at) where

@@ -12,7 +12,7 @@ use Rattle.facts.proofs.Parts.{part-none, part-split}
 use Rattle.rules.specs.Bytes.{Bytes, _>>=_}
 use Rattle.rules.specs.Json.Text.{Text, behind, spelled}
 use Rattle.rules.specs.Json.Strings.{isPlain, unescaped, char, string}
-use Rattle.rules.proofs.Json.Suffix.{never}
+use Rattle.rules.proofs.Tests.{apart}
 use Rattle.rules.proofs.Json.Places.{spelled-place}
 use Rattle.rules.proofs.Json.TextReads.{spelled-none}
 use Rattle.rules.proofs.Json.Steps.{char-plain, string-end, string-quote, string-none, string-char}
@@ -63,7 +63,7 @@ module _ {s : Text} {at i : ℕ} (c : Scanning s at i) where
     where
       behind-none : (o : Option (Bytes × Text)) → behind o ≡ none → o ≡ none
       behind-none none f = refl
-      behind-none (some p) f = never (sym f)
+      behind-none (some p) f = apart (cc f)
 
   pub scanning-ended : length s ≤ i → string (drop at s) ≡ none
   scanning-ended h = scanning-none (ap string (drop-of-length-le s h) ∙ string-end)

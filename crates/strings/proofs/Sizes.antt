@@ -11,7 +11,8 @@ use Rattle.facts.specs.Lists.{All}
 use Rattle.rules.specs.Bytes.{Bytes, _>>=_, first}
 use Rattle.rules.specs.Json.Text.{Text}
 use Rattle.rules.specs.Json.Strings.{utf8, codePoint, shortEscape, escaped}
-use Rattle.rules.proofs.Json.Suffix.{reads-fewer, some-same, value-same, left-same, never, by, bound}
+use Rattle.rules.proofs.Json.Suffix.{reads-fewer, some-same, value-same, left-same, bound}
+use Rattle.rules.proofs.Tests.{apart, by}
 use Rattle.rules.proofs.Json.StringReads.{codePoint-reads}
 use Rattle.strings.specs.Flat.{flat}
 use Rattle.strings.proofs.Ahead.{flat-ended, flat-at-quote, flat-at-itself, flat-at-none, flat-at-escape}
@@ -31,7 +32,7 @@ shortEscape-small b e = first-answers Small _ (at 0x22 (omega arith), (at 0x5C (
 -- behind a backslash: with it, an escape is no shorter than what it stands for
 pub escaped-size : (t : Text) {x : ℕ} {r : Text} → escaped t ≡ some (x, r) → length (utf8 x) + length r ≤ length t + 1
 unfolding escaped Small
-escaped-size [] e = never e
+escaped-size [] e = apart (cc e)
 escaped-size (b ∷ t) {x} {r} e = by (eqb b 0x75)
     (λ p. omega (arith, reads-fewer (codePoint-reads x t r (sym (rw (escaped, p)) ∙ e)), size-bounds x .most))
     (λ p. bound (shortEscape b) (λ c. some (c, t)) (sym (rw (escaped, p)) ∙ e) (λ c h k.

@@ -8,7 +8,7 @@ use lib.Dec.{ltb}
 use lib.ListN.{length, drop, drop-of-length-le}
 use Rattle.rules.specs.Bytes.{Bytes, first}
 use Rattle.rules.specs.Json.Strings.{utf8}
-use Rattle.rules.proofs.Json.Suffix.{by}
+use Rattle.rules.proofs.Tests.{by}
 use Rattle.strings.specs.Flat.{lastOf}
 
 pub record Sizes (c : ℕ) : Type 0 where
