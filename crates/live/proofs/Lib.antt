@@ -1,0 +1,4 @@
+-- The laws that the functions of this crate cite.
+pub mod Baring
+pub mod Halving
+pub mod Becoming

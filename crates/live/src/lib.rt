@@ -1,0 +1,97 @@
+// The live table: the live files as rows in a lent slice, in the order of the bytes that their paths stand for, found by halving.
+use table::Cells;
+ghost use Prim.Native.Nat.{_+_, _<_};
+ghost use mathlib.Core.List.{map};
+ghost use lib.ListN.{drop};
+ghost use Rattle.rules.specs.Live.{put, takeOut};
+ghost use Rattle.strings.specs.Decoded.{decoded, WellSpelled};
+ghost use Rattle.table.specs.Table.{Room, rows, Changed};
+ghost use Rattle.live.specs.Live.{places, pathAt, key, Packed, Table, Finds, Became, bared};
+
+// Positions in a bundle are below this.
+pub const PLACES: u64 = 2_097_152;
+
+// Where a path's row stands in the table; or that it has none, and where it would stand.
+pub enum Found {
+    Held(usize),
+    Place(usize),
+}
+
+// The head of a row while a log is read: where its line stands in the bundle, and where its path is spelled.
+pub fn pack(place: usize, path: usize) -> u64
+    requires { ⌜ (place < places) × (path < places) ⌝ }
+    ensures { λ r. ⌜ Packed place path r ⌝ }
+{
+    (place as u64) + (path as u64) * PLACES
+}
+
+// Where among the n rows the path stands that is spelled in src behind `path`, or would stand. Each look halves what is left.
+pub fn find(src: &[u8], t: &[u64], n: usize, path: usize) -> Found
+    requires { ⌜ Table (now src) n (now t) × WellSpelled (now src) path ⌝ }
+    ensures { λ r. ⌜ Finds (now (src .entry)) (decoded (drop path (now (src .entry)))) n (now (t .entry)) r ⌝ }
+{
+    let mut lo = 0;
+    let mut hi = n;
+    while lo < hi {
+        let mid = lo + (hi - lo) / 2;
+        let c = table::row_at(t, mid);
+        let at = (c.head / PLACES) as usize;
+        match strings::order_strings(src, at, src, path) {
+            values::Order::Less => {
+                lo = mid + 1;
+            }
+            values::Order::Equal => {
+                return Found::Held(mid);
+            }
+            values::Order::More => {
+                hi = mid;
+            }
+        }
+    }
+    Found::Place(lo)
+}
+
+// Puts the row c into the table, in place of the row with the same path if there is one. Answers how many rows there are.
+pub fn store(src: &[u8], t: &mut [u64], n: usize, c: Cells) -> usize
+    requires { ⌜ Table (now src) n (now t) × WellSpelled (now src) (pathAt c) × Room (n + 1) (now t) ⌝ }
+    ensures { λ m. ⌜ Became (now (src .entry)) (put (key (now (src .entry))) c (rows n (now (t .entry)))) n (now (t .entry)) m (now (t .exit)) ⌝ }
+{
+    let path = (c.head / PLACES) as usize;
+    match find(src, t, n, path) {
+        Found::Held(k) => {
+            table::set_row(t, k, c);
+            n
+        }
+        Found::Place(k) => {
+            table::insert_row(t, n, k, c);
+            n + 1
+        }
+    }
+}
+
+// Takes the row out whose path is spelled in src behind `path`, if there is one. Answers how many rows there are.
+pub fn take_out(src: &[u8], t: &mut [u64], n: usize, path: usize) -> usize
+    requires { ⌜ Table (now src) n (now t) × WellSpelled (now src) path ⌝ }
+    ensures { λ m. ⌜ Became (now (src .entry)) (takeOut (key (now (src .entry))) (decoded (drop path (now (src .entry)))) (rows n (now (t .entry)))) n (now (t .entry)) m (now (t .exit)) ⌝ }
+{
+    match find(src, t, n, path) {
+        Found::Held(k) => {
+            table::remove_row(t, n, k);
+            n - 1
+        }
+        Found::Place(_) => n,
+    }
+}
+
+// The last pass: the head of each of the n rows becomes the position of its line alone.
+pub fn bare(t: &mut [u64], n: usize)
+    requires { ⌜ Room n (now t) ⌝ }
+    ensures { λ _. ⌜ Changed n (map bared (rows n (now (t .entry)))) n (now (t .entry)) (now (t .exit)) ⌝ }
+{
+    let mut k = 0;
+    while k < n {
+        let at = k * table::ROW;
+        t[at] = t[at] % PLACES;
+        k += 1;
+    }
+}
