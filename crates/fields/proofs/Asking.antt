@@ -1,6 +1,6 @@
 -- What is asked of all names of a list, as a loop meets them: whether one is held, whether no two are the same, whether all are known.
 -- On i names: the names from i on, of an array of strings or of an object.
-use mathlib.Core.Path.{_≡_, refl, sym, ap, _∙_}
+use mathlib.Core.Path.{_≡_, sym, ap, _∙_}
 use mathlib.Core.Bool.{Bool, true, false}
 use mathlib.Core.List.{List, [], _∷_}
 use Prim.Native.Nat.{ℕ}

@@ -18,7 +18,7 @@ use Rattle.json.specs.Follows.{Follows}
 use Rattle.json.specs.declared.Tail.the-variants.{Closed, More, Neither}
 use Rattle.fields.specs.Spelled.{nameIn, Quoted}
 use Rattle.fields.specs.Strung.{Strung}
-use Rattle.fields.specs.declared.Spell.{Spell}
+use Rattle.fields.specs.declared.names.Spell.{Spell}
 use Rattle.fields.proofs.Passing.{Passed, passed-start, passed-neither, passed-closed, passed-more, list-further}
 use Rattle.fields.proofs.Elements.{read-strings, element-string, element-bytes, no-strings}
 

@@ -1,13 +1,12 @@
 -- An element of an array that is a string, and one that is none, at a position of a text.
 use mathlib.Core.Path.{_≡_, refl, sym, ap, _∙_}
-use mathlib.Core.Bool.{true, false}
 use mathlib.Core.Option.{Option, none, some}
 use mathlib.Core.List.{List, [], _∷_}
 use Prim.Native.Nat.{ℕ, _+_, _-_, _≤_}
 use native.Mathlib.Omega.{arith}
 use borrow.Author.Tests.{eqb-true, eqb-false}
 use lib.Dec.{eqb}
-use lib.ListN.{length, take, drop}
+use lib.ListN.{take, drop}
 use Rattle.rules.specs.Bytes.{Bytes, _>>=_}
 use Rattle.rules.specs.Json.Text.{Text, behind, spelled, byte}
 use Rattle.rules.specs.Json.Strings.{string}
@@ -23,7 +22,7 @@ use Rattle.rules.proofs.Json.InPlace.{value-text, string-text, stringOf-other}
 use Rattle.rules.proofs.Json.Fields.{strings-none}
 use Rattle.rules.proofs.Json.Places.{spelled-place}
 use Rattle.fields.specs.Spelled.{nameIn, Quoted}
-use Rattle.fields.specs.declared.Spell.{Spell}
+use Rattle.fields.specs.declared.names.Spell.{Spell}
 use Rattle.fields.proofs.Members.{named-string}
 
 byte-first : (c : ℕ) (t : Text) {r : Text} → byte c t ≡ some r → t ≡ c ∷ r

@@ -6,7 +6,7 @@ use Prim.Native.Nat.{ℕ, _+_}
 use lib.ListN.{drop}
 use Rattle.rules.specs.Bytes.{Bytes, firsts}
 use Rattle.rules.specs.Json.Text.{Text}
-use Rattle.rules.specs.Json.Values.{Member, opening, closing, list, member, value}
+use Rattle.rules.specs.Json.Values.{opening, closing, list, member, value}
 use Rattle.rules.proofs.Json.Suffix.{value-same, answered-none}
 use Rattle.rules.proofs.Json.ValueReads.{value-reads, member-reads}
 use Rattle.rules.proofs.Json.Steps.{contents-list, list-closed, list-onward, list-neither, rest, rest-none, rest-closed, rest-neither, rest-onward}
@@ -14,7 +14,7 @@ use Rattle.json.specs.Follows.{Follows}
 use Rattle.json.specs.declared.Tail.the-variants.{Closed, More, Neither}
 use Rattle.fields.specs.Spelled.{nameIn, Stands}
 use Rattle.fields.specs.Namings.{Object, Members}
-use Rattle.fields.specs.declared.Spell.{Spell}
+use Rattle.fields.specs.declared.names.Spell.{Spell}
 use Rattle.fields.proofs.Walking.{andThen-some, items-first}
 
 -- ---- behind the opening brace

@@ -14,7 +14,7 @@ use Rattle.rules.proofs.Json.Shadows.{behind-some}
 use Rattle.rules.proofs.Json.Places.{member-place}
 use Rattle.strings.specs.Decoded.{bytesOf, decoded}
 use Rattle.fields.specs.Spelled.{nameIn, Named, Quoted, Stands}
-use Rattle.fields.specs.declared.Spell.{Spell}
+use Rattle.fields.specs.declared.names.Spell.{Spell}
 
 decoded-some : (t : Text) {x : Bytes} {r : Text} → string t ≡ some (x, r) → decoded t ≡ x
 unfolding decoded bytesOf

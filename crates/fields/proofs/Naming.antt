@@ -6,8 +6,8 @@ use native.Mathlib.Omega.{arith}
 use lib.ListN.{length}
 use Rattle.rules.specs.Bytes.{ascii, same, holds, distinct}
 use Rattle.fields.specs.Kinds.{namesOf}
-use Rattle.fields.specs.declared.Kind.{Kind}
-use Rattle.fields.specs.declared.Kind.the-variants.{Line, Add, Remove, Protocol, MetaData, Marker, State, Manifest, Bounds}
+use Rattle.fields.specs.declared.names.Kind.{Kind}
+use Rattle.fields.specs.declared.names.Kind.the-variants.{Line, Add, Remove, Protocol, MetaData, Marker, State, Manifest, Bounds}
 
 pub names-few : (k : Kind) → length (namesOf k) ≤ 8
 unfolding namesOf

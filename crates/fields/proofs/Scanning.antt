@@ -1,10 +1,9 @@
 -- The scan of an object: the members that went by are in the slots, and each way out of the loop answers for the whole object.
-use mathlib.Core.Path.{_≡_, sym, _∙_}
-use mathlib.Core.Option.{none, some}
+use mathlib.Core.Path.{_≡_, _∙_}
+use mathlib.Core.Option.{none}
 use mathlib.Core.List.{List, [], _∷_, _++_}
 use Prim.Native.Nat.{ℕ, _+_, _-_, _≤_}
 use lib.ListN.{length, take, drop, replicate}
-use Rattle.rules.specs.Bytes.{Bytes}
 use Rattle.rules.specs.Json.Text.{Text, Reader}
 use Rattle.rules.specs.Json.Values.{Member, opening, closing, member, contents}
 use Rattle.rules.proofs.Json.Suffix.{EachReads}
@@ -15,9 +14,9 @@ use Rattle.json.specs.declared.Tail.the-variants.{Closed, More, Neither}
 use Rattle.fields.specs.Kinds.{namesOf, seek}
 use Rattle.fields.specs.Slots.{missing, Noted, Each, Filled}
 use Rattle.fields.specs.Spelled.{nameIn, Stands}
-use Rattle.fields.specs.declared.Kind.{Kind}
-use Rattle.fields.specs.declared.Slot.{Slot}
-use Rattle.fields.specs.declared.Spell.{Spell}
+use Rattle.fields.specs.declared.names.Kind.{Kind}
+use Rattle.fields.specs.declared.notes.Slot.{Slot}
+use Rattle.fields.specs.declared.names.Spell.{Spell}
 use Rattle.fields.proofs.Naming.{names-few, names-distinct}
 use Rattle.fields.proofs.Slots.{each-start, each-more}
 use Rattle.fields.proofs.Passing.{Passed, passed-start, passed-none, passed-neither, passed-closed, passed-more, list-further}

@@ -1,14 +1,14 @@
 -- The place of a name among distinct ones: it is found at the place of the name that it is.
-use mathlib.Core.Path.{_≡_, refl, sym, ap, _∙_, subst}
+use mathlib.Core.Path.{_≡_, refl, ap, _∙_}
 use mathlib.Core.Bool.{Bool, true, false}
 use mathlib.Core.List.{List, [], _∷_}
 use Prim.Native.Nat.{ℕ, zero, suc, _<_}
 use native.Mathlib.Omega.{arith}
-use borrow.Author.Tests.{eq-eqb, ne-eqb, eqb-true, eqb-false}
+use borrow.Author.Tests.{eq-eqb, eqb-true}
 use lib.Dec.{eqb}
 use lib.ListN.{length, getD}
 use Rattle.rules.specs.Bytes.{Bytes, same, holds, distinct}
-use Rattle.rules.proofs.Tests.{by, tests-equal, false-of}
+use Rattle.rules.proofs.Tests.{tests-equal}
 use Rattle.rules.proofs.Order.{same-true, same-false, eq-same, ne-same}
 use Rattle.rules.proofs.Holding.{holds-head, holds-past, holds-false, distinct-head, distinct-tail}
 use Rattle.fields.specs.Kinds.{seek}

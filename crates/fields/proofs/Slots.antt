@@ -1,7 +1,6 @@
 -- The slots of a scan: one value more, and what a slot says of a field by the rules.
 use mathlib.Core.Path.{_≡_, refl, sym, ap, _∙_, subst}
 use mathlib.Core.Bool.{Bool, true, false}
-use mathlib.Core.Option.{Option, none, some}
 use mathlib.Core.List.{List, [], _∷_, _++_}
 use Prim.Native.Nat.{ℕ, zero, suc, _-_, _≤_, _<_}
 use Prim.Native.String.{String}
@@ -18,7 +17,7 @@ use Rattle.rules.proofs.Tests.{by}
 use Rattle.rules.proofs.Json.Fields.{under-last-hit, under-last-miss, once-missing, once-there, once-twice, optional-missing, optional-twice, absent-missing, absent-there}
 use Rattle.fields.specs.Kinds.{seek}
 use Rattle.fields.specs.Slots.{missing, Times, Holds, oneMore, slotBy, Noted, Each, textIn, optionalIn}
-use Rattle.fields.specs.declared.Slot.{Slot}
+use Rattle.fields.specs.declared.notes.Slot.{Slot}
 use Rattle.fields.proofs.Seeking.{seek-is}
 
 -- ---- one value more

@@ -19,7 +19,7 @@ use Rattle.json.specs.Follows.{Follows}
 use Rattle.json.specs.declared.Tail.the-variants.{Closed, More, Neither}
 use Rattle.fields.specs.Spelled.{nameIn, Quoted}
 use Rattle.fields.specs.Strung.{Listed, Onward}
-use Rattle.fields.specs.declared.Spell.{Spell}
+use Rattle.fields.specs.declared.names.Spell.{Spell}
 use Rattle.fields.proofs.Elements.{read-strings, element-string, element-bytes, no-strings, strings-first}
 
 pub andThen-some : {A : Type 0} (x : A) (o : Option (List A × Text)) {xs : List A} {u : Text} → andThen x o ≡ some (xs, u)

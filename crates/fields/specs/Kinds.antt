@@ -3,8 +3,8 @@ use mathlib.Core.Bool.{true, false}
 use mathlib.Core.List.{List, [], _∷_}
 use Prim.Native.Nat.{ℕ, suc}
 use Rattle.rules.specs.Bytes.{Bytes, ascii, same}
-use Rattle.fields.specs.declared.Kind.{Kind}
-use Rattle.fields.specs.declared.Kind.the-variants.{Line, Add, Remove, Protocol, MetaData, Marker, State, Manifest, Bounds}
+use Rattle.fields.specs.declared.names.Kind.{Kind}
+use Rattle.fields.specs.declared.names.Kind.the-variants.{Line, Add, Remove, Protocol, MetaData, Marker, State, Manifest, Bounds}
 
 unfoldable pub namesOf : Kind → List Bytes
 namesOf Line = ascii "add" ∷ ascii "remove" ∷ ascii "protocol" ∷ ascii "metaData" ∷ ascii "mergeskip" ∷ []

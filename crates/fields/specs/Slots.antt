@@ -10,8 +10,8 @@ use Rattle.rules.specs.Bytes.{Bytes}
 use Rattle.rules.specs.Json.Text.{Text}
 use Rattle.rules.specs.Json.Values.{Member}
 use Rattle.rules.specs.Json.Fields.{under, soleOrNone}
-use Rattle.fields.specs.declared.Slot.{Slot}
-use Rattle.fields.specs.declared.Fields.{Fields}
+use Rattle.fields.specs.declared.notes.Slot.{Slot}
+use Rattle.fields.specs.declared.notes.Fields.{Fields}
 
 abbrev pub missing : Slot
 missing = record { seen = 0; start = 0; end = 0 }

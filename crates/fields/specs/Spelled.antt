@@ -9,11 +9,11 @@ use Rattle.rules.specs.Json.Text.{Text, behind, byte}
 use Rattle.rules.specs.Json.Strings.{string}
 use Rattle.rules.specs.Json.Values.{Member as Pair}
 use Rattle.strings.specs.Decoded.{decoded}
-use Rattle.fields.specs.declared.Spell.{Spell}
-use Rattle.fields.specs.declared.Name.{Name}
-use Rattle.fields.specs.declared.Name.the-variants.{Of, NoName}
-use Rattle.fields.specs.declared.Met.{Met}
-use Rattle.fields.specs.declared.Met.the-variants.{Member, NoMember}
+use Rattle.fields.specs.declared.names.Spell.{Spell}
+use Rattle.fields.specs.declared.objects.Name.{Name}
+use Rattle.fields.specs.declared.objects.Name.the-variants.{Of, NoName}
+use Rattle.fields.specs.declared.objects.Met.{Met}
+use Rattle.fields.specs.declared.objects.Met.the-variants.{Member, NoMember}
 
 -- the bytes that it stands for
 abbrev pub nameIn : Text → Spell → Bytes

@@ -10,8 +10,8 @@ use Rattle.rules.specs.Gate.{readerNames, writerNames}
 use Rattle.rules.specs.Json.Text.{Text, spelled}
 use Rattle.rules.specs.Json.Values.{items, elements, value}
 use Rattle.rules.specs.Json.Fields.{strings}
-use Rattle.fields.specs.declared.Strings.{Strings}
-use Rattle.fields.specs.declared.Strings.the-variants.{Good, NotStrings}
+use Rattle.fields.specs.declared.arrays.Strings.{Strings}
+use Rattle.fields.specs.declared.arrays.Strings.the-variants.{Good, NotStrings}
 
 -- o is what the rules say of the array behind whose bracket `at` is: n strings
 pub record Strung (o : Option (List Text × Text)) (s : Text) (at n end : ℕ) : Type 0 where

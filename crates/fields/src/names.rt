@@ -1,0 +1,183 @@
+// Names of members as they stand, and their places among the names of a kind.
+ghost use mathlib.Core.Path.{_≡_};
+ghost use Rattle.rules.specs.Bytes.{same};
+ghost use Rattle.fields.specs.Kinds.{namesOf, seek};
+ghost use Rattle.fields.specs.Spelled.{nameIn, Named};
+
+// The objects whose members have names of their own.
+pub enum Kind {
+    Line,
+    Add,
+    Remove,
+    Protocol,
+    MetaData,
+    Marker,
+    State,
+    Manifest,
+    Bounds,
+}
+
+// A name as it stands: behind its opening quote, behind its closing quote, and whether it is spelled as the bytes that it stands for.
+pub struct Spell {
+    pub at: usize,
+    pub end: usize,
+    pub plain: bool,
+}
+
+// Whether the name is the key.
+pub fn name_is(s: &[u8], n: Spell, key: &[u8]) -> bool
+    requires { ⌜ Named (now s) n ⌝ }
+    ensures { λ r. ⌜ r ≡ same (nameIn (now (s .entry)) n) (now (key .entry)) ⌝ }
+{
+    let at = n.at;
+    let end = n.end;
+    if n.plain {
+        let last = end - 1;
+        return values::same_bytes(&s[at..last], key);
+    }
+    strings::string_is(s, at, key)
+}
+
+fn which_line(s: &[u8], n: Spell) -> usize
+    requires { ⌜ Named (now s) n ⌝ }
+    ensures { λ r. ⌜ r ≡ seek (nameIn (now (s .entry)) n) (namesOf Kind.Line) ⌝ }
+{
+    if name_is(s, n, b"add") {
+        return 0;
+    }
+    if name_is(s, n, b"remove") {
+        return 1;
+    }
+    if name_is(s, n, b"protocol") {
+        return 2;
+    }
+    if name_is(s, n, b"metaData") {
+        return 3;
+    }
+    if name_is(s, n, b"mergeskip") { 4 } else { 5 }
+}
+
+fn which_add(s: &[u8], n: Spell) -> usize
+    requires { ⌜ Named (now s) n ⌝ }
+    ensures { λ r. ⌜ r ≡ seek (nameIn (now (s .entry)) n) (namesOf Kind.Add) ⌝ }
+{
+    if name_is(s, n, b"path") {
+        return 0;
+    }
+    if name_is(s, n, b"size") {
+        return 1;
+    }
+    if name_is(s, n, b"modificationTime") {
+        return 2;
+    }
+    if name_is(s, n, b"dataChange") {
+        return 3;
+    }
+    if name_is(s, n, b"partitionValues") {
+        return 4;
+    }
+    if name_is(s, n, b"numRecords") { 5 } else { 6 }
+}
+
+fn which_remove(s: &[u8], n: Spell) -> usize
+    requires { ⌜ Named (now s) n ⌝ }
+    ensures { λ r. ⌜ r ≡ seek (nameIn (now (s .entry)) n) (namesOf Kind.Remove) ⌝ }
+{
+    if name_is(s, n, b"path") { 0 } else { 1 }
+}
+
+fn which_protocol(s: &[u8], n: Spell) -> usize
+    requires { ⌜ Named (now s) n ⌝ }
+    ensures { λ r. ⌜ r ≡ seek (nameIn (now (s .entry)) n) (namesOf Kind.Protocol) ⌝ }
+{
+    if name_is(s, n, b"minReaderVersion") {
+        return 0;
+    }
+    if name_is(s, n, b"minWriterVersion") {
+        return 1;
+    }
+    if name_is(s, n, b"readerFeatures") {
+        return 2;
+    }
+    if name_is(s, n, b"writerFeatures") {
+        3
+    } else {
+        4
+    }
+}
+
+fn which_meta_data(s: &[u8], n: Spell) -> usize
+    requires { ⌜ Named (now s) n ⌝ }
+    ensures { λ r. ⌜ r ≡ seek (nameIn (now (s .entry)) n) (namesOf Kind.MetaData) ⌝ }
+{
+    if name_is(s, n, b"id") {
+        return 0;
+    }
+    if name_is(s, n, b"partitionColumns") {
+        1
+    } else {
+        2
+    }
+}
+
+fn which_marker(s: &[u8], n: Spell) -> usize
+    requires { ⌜ Named (now s) n ⌝ }
+    ensures { λ r. ⌜ r ≡ seek (nameIn (now (s .entry)) n) (namesOf Kind.Marker) ⌝ }
+{
+    if name_is(s, n, b"version") {
+        return 0;
+    }
+    if name_is(s, n, b"parts") {
+        return 1;
+    }
+    if name_is(s, n, b"format") { 2 } else { 3 }
+}
+
+fn which_state(s: &[u8], n: Spell) -> usize
+    requires { ⌜ Named (now s) n ⌝ }
+    ensures { λ r. ⌜ r ≡ seek (nameIn (now (s .entry)) n) (namesOf Kind.State) ⌝ }
+{
+    if name_is(s, n, b"manifests") { 0 } else { 1 }
+}
+
+fn which_manifest(s: &[u8], n: Spell) -> usize
+    requires { ⌜ Named (now s) n ⌝ }
+    ensures { λ r. ⌜ r ≡ seek (nameIn (now (s .entry)) n) (namesOf Kind.Manifest) ⌝ }
+{
+    if name_is(s, n, b"path") {
+        return 0;
+    }
+    if name_is(s, n, b"partitionBounds") {
+        1
+    } else {
+        2
+    }
+}
+
+fn which_bounds(s: &[u8], n: Spell) -> usize
+    requires { ⌜ Named (now s) n ⌝ }
+    ensures { λ r. ⌜ r ≡ seek (nameIn (now (s .entry)) n) (namesOf Kind.Bounds) ⌝ }
+{
+    if name_is(s, n, b"min") {
+        return 0;
+    }
+    if name_is(s, n, b"max") { 1 } else { 2 }
+}
+
+// The place of the name among those of the kind; their number where it is none of them.
+pub fn which(s: &[u8], n: Spell, kind: Kind) -> usize
+    requires { ⌜ Named (now s) n ⌝ }
+    ensures { λ r. ⌜ r ≡ seek (nameIn (now (s .entry)) n) (namesOf kind) ⌝ }
+{
+    match kind {
+        Kind::Line => which_line(s, n),
+        Kind::Add => which_add(s, n),
+        Kind::Remove => which_remove(s, n),
+        Kind::Protocol => which_protocol(s, n),
+        Kind::MetaData => which_meta_data(s, n),
+        Kind::Marker => which_marker(s, n),
+        Kind::State => which_state(s, n),
+        Kind::Manifest => which_manifest(s, n),
+        Kind::Bounds => which_bounds(s, n),
+    }
+}

@@ -1,0 +1,51 @@
+// Slots: how often each field of an object was seen, and where its value stands.
+ghost use mathlib.Core.Path.{_≡_};
+ghost use Rattle.fields.specs.Slots.{oneMore, Noted};
+
+// So many names has an object at most.
+const MOST_NAMES: usize = 8;
+
+// How often a field stands in an object (2 for more), and where its value is if once.
+pub struct Slot {
+    pub seen: usize,
+    pub start: usize,
+    pub end: usize,
+}
+
+// What an object holds: whether it is one, the position behind it, and a slot for each name of its kind.
+pub struct Fields {
+    pub good: bool,
+    pub end: usize,
+    pub slots: [Slot; 8],
+}
+
+// The slot of a field that was seen so often, with one value more.
+fn one_more(seen: usize, start: usize, end: usize) -> Slot
+    ensures { λ r. ⌜ r ≡ oneMore seen start end ⌝ }
+{
+    if seen == 0 {
+        Slot {
+            seen: 1,
+            start,
+            end,
+        }
+    } else {
+        Slot {
+            seen: 2,
+            start: 0,
+            end: 0,
+        }
+    }
+}
+
+// The slots with one value more of name k; no name of the kind, no slot.
+pub fn noted(slots: [Slot; 8], k: usize, start: usize, end: usize) -> [Slot; 8]
+    ensures { λ r. ⌜ Noted slots k start end r ⌝ }
+{
+    let mut t = slots;
+    if k < MOST_NAMES {
+        let old = t[k];
+        t[k] = one_more(old.seen, start, end);
+    }
+    t
+}

@@ -1,0 +1,199 @@
+// Objects: the members that a kind names, in one pass, and whether all names are distinct.
+use crate::CLOSE_BRACE;
+use crate::QUOTE;
+use crate::names::Kind;
+use crate::names::Spell;
+use crate::names::name_is;
+use crate::names::which;
+use crate::notes::Fields;
+use crate::notes::Slot;
+use crate::notes::noted;
+use json::Tail;
+use strings::Spelling;
+use text::Next;
+ghost use mathlib.Core.Path.{_≡_};
+ghost use mathlib.Core.List.{List};
+ghost use Prim.Native.Nat.{_≤_};
+ghost use lib.ListN.{length, drop};
+ghost use Rattle.rules.specs.Bytes.{Bytes, same, holds, distinct};
+ghost use Rattle.rules.specs.Json.Values.{member, contents, value as rValue};
+ghost use Rattle.fields.specs.Kinds.{namesOf};
+ghost use Rattle.fields.specs.Spelled.{nameIn, Named, NameIs, MetIs};
+ghost use Rattle.fields.specs.Slots.{Scanned};
+ghost use Rattle.fields.specs.Namings.{Object, Members};
+
+// A name in its quotes, or none.
+pub enum Name {
+    Of(Spell),
+    NoName,
+}
+
+// The name whose opening quote is at `at`.
+pub fn read_name(s: &[u8], at: usize) -> Name
+    requires { ⌜ at ≤ length (now s) ⌝ }
+    ensures { λ r. ⌜ NameIs (now (s .entry)) at r ⌝ }
+{
+    let Next::At(i) = text::skip_byte(s, at, QUOTE) else {
+        return Name::NoName;
+    };
+    match strings::scan_string(s, i) {
+        Spelling::Plain(end) => Name::Of(Spell {
+            at: i,
+            end,
+            plain: true,
+        }),
+        Spelling::Escaped(end) => Name::Of(Spell {
+            at: i,
+            end,
+            plain: false,
+        }),
+        Spelling::Bad => Name::NoName,
+    }
+}
+
+// A member: its name, and from where to where its value stands; or none.
+pub enum Met {
+    Member(Spell, usize, usize),
+    NoMember,
+}
+
+// The member at `at`, whose value nests at most `depth` deep.
+fn read_member(s: &[u8], at: usize, depth: usize) -> Met
+    requires { ⌜ at ≤ length (now s) ⌝ }
+    ensures { λ r. ⌜ MetIs (member (rValue depth) (drop at (now (s .entry)))) (now (s .entry)) at r ⌝ }
+{
+    let Name::Of(n) = read_name(s, at) else {
+        return Met::NoMember;
+    };
+    let end = n.end;
+    let Next::At(v) = json::skip_colon(s, end) else {
+        return Met::NoMember;
+    };
+    let Next::At(e) = json::value(s, v, depth) else {
+        return Met::NoMember;
+    };
+    Met::Member(n, v, e)
+}
+
+// The object behind whose brace `at` is: checked whole, in one pass, with the places of the members that its kind names.
+pub fn scan(s: &[u8], at: usize, kind: Kind, depth: usize) -> Fields
+    requires { ⌜ at ≤ length (now s) ⌝ }
+    ensures { λ r. ⌜ Scanned (contents (rValue depth) (drop at (now (s .entry)))) (now (s .entry)) at (namesOf kind) r ⌝ }
+{
+    let mut slots = [Slot {
+        seen: 0,
+        start: 0,
+        end: 0,
+    }; 8];
+    match json::opening(s, at, CLOSE_BRACE) {
+        Tail::Neither => Fields {
+            good: false,
+            end: 0,
+            slots,
+        },
+        Tail::Closed(end) => Fields {
+            good: true,
+            end,
+            slots,
+        },
+        Tail::More(first) => {
+            let mut i = first;
+            loop {
+                let Met::Member(n, v, e) = read_member(s, i, depth) else {
+                    return Fields {
+                        good: false,
+                        end: 0,
+                        slots,
+                    };
+                };
+                let k = which(s, n, kind);
+                let next = noted(slots, k, v, e);
+                slots = next;
+                match json::closing(s, e, CLOSE_BRACE) {
+                    Tail::Neither => {
+                        return Fields {
+                            good: false,
+                            end: 0,
+                            slots,
+                        };
+                    }
+                    Tail::Closed(end) => {
+                        return Fields {
+                            good: true,
+                            end,
+                            slots,
+                        };
+                    }
+                    Tail::More(j) => i = j,
+                }
+            }
+        }
+    }
+}
+
+// ---- objects with any names
+
+// Whether two names are the same.
+fn same_names(s: &[u8], a: Spell, b: Spell) -> bool
+    requires { ⌜ Named (now s) a × Named (now s) b ⌝ }
+    ensures { λ r. ⌜ r ≡ same (nameIn (now (s .entry)) a) (nameIn (now (s .entry)) b) ⌝ }
+{
+    let from = b.at;
+    let end = b.end;
+    if b.plain {
+        let last = end - 1;
+        return name_is(s, a, &s[from..last]);
+    }
+    let at = a.at;
+    strings::same_strings(s, at, s, from)
+}
+
+// Whether a member of an object, from the one at `at` on, has the name n.
+fn named_from(s: &[u8], at: usize, depth: usize, n: Spell) -> bool
+    requires { ⌜ (at ≤ length (now s)) × Named (now s) n ⌝ }
+    ensures { λ r. ⌜ ((names : List Bytes) → Members depth (now (s .entry)) at names → r ≡ holds (nameIn (now (s .entry)) n) names) ⌝ }
+{
+    let mut i = at;
+    loop {
+        let Met::Member(m, _, e) = read_member(s, i, depth) else {
+            return false;
+        };
+        if same_names(s, n, m) {
+            return true;
+        }
+        match json::closing(s, e, CLOSE_BRACE) {
+            Tail::Neither => return false,
+            Tail::Closed(_) => return false,
+            Tail::More(k) => i = k,
+        }
+    }
+}
+
+// Whether no two members of the object behind whose brace `at` is have the same name.
+pub fn distinct_names(s: &[u8], at: usize, depth: usize) -> bool
+    requires { ⌜ at ≤ length (now s) ⌝ }
+    ensures { λ r. ⌜ ((names : List Bytes) → Object depth (now (s .entry)) at names → r ≡ distinct names) ⌝ }
+{
+    match json::opening(s, at, CLOSE_BRACE) {
+        Tail::Neither => true,
+        Tail::Closed(_) => true,
+        Tail::More(first) => {
+            let mut i = first;
+            loop {
+                let Met::Member(n, _, e) = read_member(s, i, depth) else {
+                    return true;
+                };
+                match json::closing(s, e, CLOSE_BRACE) {
+                    Tail::Neither => return true,
+                    Tail::Closed(_) => return true,
+                    Tail::More(k) => {
+                        if named_from(s, k, depth, n) {
+                            return false;
+                        }
+                        i = k;
+                    }
+                }
+            }
+        }
+    }
+}
