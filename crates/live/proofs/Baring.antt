@@ -1,16 +1,15 @@
 -- The last pass over a live table: what holds before each turn, and what it ends with.
 use Prim.Native.Nat.{ℕ, _+_, _*_, _%_, _≤_, _<_}
-use mathlib.Core.Path.{_≡_, refl, sym, ap, _∙_}
+use mathlib.Core.Path.{_≡_, refl, ap, _∙_}
 use native.Mathlib.Nat.{add-zero}
 use native.Mathlib.Omega.{arith}
 use mathlib.Core.List.{List, [], _∷_, map}
-use lib.ListN.{length, take, drop, getD, set, length-set, length-drop}
+use lib.ListN.{length, drop, getD, set, length-set, length-drop}
 use lib.Seq.{take-set-le, drop-set-lt, drop-set-add, getD-drop}
 use Rattle.facts.specs.Rows.{rowsOf}
 use Rattle.facts.proofs.Lists.{drop-later}
 use Rattle.facts.proofs.Tables.{rowsOf-pass}
 use Rattle.table.specs.Table.{wide, row, rows, layout, Room, Changed}
-use Rattle.table.specs.declared.Cells.{Cells}
 use Rattle.live.specs.Live.{places, bared}
 
 -- of the n rows of t₀, those before k are bared in t

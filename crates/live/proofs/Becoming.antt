@@ -1,5 +1,5 @@
 -- What a row written, put in or taken out at the place that a search found makes of a live table.
-use Prim.Native.Nat.{ℕ, _+_, _-_, _*_, _≤_, _<_}
+use Prim.Native.Nat.{ℕ, _+_, _-_, _*_, _≤_}
 use mathlib.Core.Path.{_≡_, refl, sym, ap, _∙_}
 use native.Mathlib.Omega.{arith}
 use mathlib.Core.List.{List, []}
@@ -13,7 +13,7 @@ use Rattle.rules.specs.Live.{put, takeOut}
 use Rattle.rules.specs.Json.Text.{Text}
 use Rattle.rules.proofs.Ascending.{Ascends}
 use Rattle.rules.proofs.Live.{All-put, All-takeOut, ascends-put, ascends-takeOut}
-use Rattle.rules.proofs.Searching.{Bracket, put-found, takeOut-found, bracket-put, bracket-takeOut}
+use Rattle.rules.proofs.Searching.{put-found, takeOut-found, bracket-put, bracket-takeOut}
 use Rattle.strings.specs.Decoded.{WellSpelled}
 use Rattle.table.specs.Table.{wide, row, rows, Room, Changed}
 use Rattle.table.specs.declared.Cells.{Cells}

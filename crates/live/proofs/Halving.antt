@@ -1,9 +1,8 @@
 -- A search of a live table by halves: what the comparison with the row in the middle tells.
 use Prim.Native.Nat.{ℕ, _+_, _≤_, _<_}
-use mathlib.Core.Path.{_≡_, refl, sym, ap, _∙_, subst}
+use mathlib.Core.Path.{_≡_, sym, ap, _∙_, subst}
 use native.Mathlib.Omega.{arith}
 use mathlib.Core.List.{List, []}
-use lib.ListN.{length}
 use Rattle.facts.proofs.Lists.{All-at}
 use Rattle.facts.proofs.Rows.{length-rowsOf}
 use Rattle.rules.specs.Bytes.{Bytes, Order as rOrder, less, equal, more, order}

@@ -1,5 +1,4 @@
 -- `bare` leaves the places alone in the heads: each turn bares one row, as `Baring` says.
-use denote.Ref.{now}
 use Prim.Native.Nat.{_-_}
 use Rattle.live.proofs.Baring.{Baring, baring-start, baring-turn, baring-end}
 use borrow.Author.Needs.{needs}

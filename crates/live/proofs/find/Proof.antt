@@ -1,10 +1,9 @@
 -- `find` halves what is left to look at, as `Halving` says.
 use denote.Ref.{now}
 use mathlib.Core.Path.{_≡_, sym, _∙_}
-use Prim.Native.Nat.{ℕ, _+_, _-_, _/_, _≤_, _<_}
+use Prim.Native.Nat.{ℕ, _+_, _-_, _/_}
 use lib.ListN.{drop}
 use Rattle.strings.specs.Decoded.{decoded}
-use Rattle.values.specs.declared.Order.the-variants.{Less, Equal, More}
 use Rattle.table.specs.Table.{rows, rowAt}
 use Rattle.live.proofs.Halving.{Halving, halving-start, halving-end, halving-spelled, halving-up, halving-down, halving-hit}
 use borrow.Author.Needs.{needs}
