@@ -1,8 +1,8 @@
 -- A cursor's steps: within a code point, over a byte that stands for itself, into an escape; and where it ends.
-use mathlib.Core.Path.{_≡_, refl, sym, ap, _∙_, subst}
+use mathlib.Core.Path.{_≡_, refl, sym, ap, _∙_}
 use mathlib.Core.Option.{none, some}
 use mathlib.Core.List.{[], _∷_, _++_}
-use Prim.Native.Nat.{ℕ, _+_, _-_, _*_, _≤_, _<_}
+use Prim.Native.Nat.{ℕ, _+_, _-_, _≤_, _<_}
 use native.Mathlib.Omega.{arith}
 use lib.ListN.{length, drop, getD, drop-of-length-le}
 use Rattle.facts.proofs.Lists.{drop-here, drop-is}
@@ -10,10 +10,10 @@ use Rattle.rules.specs.Bytes.{Bytes}
 use Rattle.rules.specs.Json.Text.{Text}
 use Rattle.rules.specs.Json.Strings.{utf8, escaped}
 use Rattle.strings.specs.Flat.{flat, lastOf}
-use Rattle.strings.specs.Ahead.{fresh, ahead, Sound, distance, Went, Stepped}
-use Rattle.strings.specs.declared.Cursor.{Cursor}
-use Rattle.strings.specs.declared.Step.{Step}
-use Rattle.strings.specs.declared.Step.the-variants.{Byte, End}
+use Rattle.strings.specs.Ahead.{fresh, ahead, Sound, Went, Stepped}
+use Rattle.strings.specs.declared.steps.Cursor.{Cursor}
+use Rattle.strings.specs.declared.steps.Step.{Step}
+use Rattle.strings.specs.declared.steps.Step.the-variants.{Byte, End}
 use Rattle.strings.proofs.Flat.{flat-end, flat-quote, flat-itself, flat-none, flat-escape}
 use Rattle.strings.proofs.Widths.{Last, size-bounds, lastOf-all, lastOf-none}
 

@@ -1,6 +1,6 @@
 -- What holds of the answer of a list of tests: it is enough to look at what stands beside each test.
-use mathlib.Core.Path.{_≡_, refl}
-use mathlib.Core.Bool.{Bool, true, false}
+use mathlib.Core.Path.{_≡_}
+use mathlib.Core.Bool.{Bool, true}
 use mathlib.Core.Option.{Option, none, some}
 use mathlib.Core.List.{List, [], _∷_}
 use Rattle.facts.specs.Lists.{All}

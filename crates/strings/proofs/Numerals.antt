@@ -1,14 +1,13 @@
 -- Bytes gathered in front of those to come, as far as they can be a number.
-use mathlib.Core.Path.{_≡_, refl, sym, ap, _∙_}
-use mathlib.Core.Bool.{true, false}
+use mathlib.Core.Path.{_≡_, sym, ap, _∙_}
 use mathlib.Core.Option.{none}
 use mathlib.Core.List.{[], _∷_, _++_, append-nil, append-assoc}
-use Prim.Native.Nat.{ℕ, suc, _+_, _≤_, _<_}
+use Prim.Native.Nat.{ℕ, _+_, _≤_, _<_}
 use native.Mathlib.Numerals.{add-one}
 use native.Mathlib.Omega.{arith}
 use borrow.Author.Tests.{lt-leb}
-use lib.Dec.{eqb, leb}
-use lib.ListN.{length, take, set, length-set, length-append}
+use lib.Dec.{eqb}
+use lib.ListN.{length, take, set, length-append}
 use lib.Seq.{take-suc-set, length-take-le}
 use Rattle.rules.specs.Bytes.{Bytes}
 use Rattle.rules.specs.Query.{mostDigits, positive, negative, notNumber, digitsIn, numberOf}

@@ -2,21 +2,21 @@
 use mathlib.Core.Path.{_≡_, refl, sym, ap, _∙_, subst}
 use mathlib.Core.Bool.{true, false, false≢true}
 use mathlib.Core.Option.{Option, none, some}
-use mathlib.Core.List.{[], _∷_, _++_, append-assoc}
-use Prim.Native.Nat.{ℕ, zero, suc, _+_, _-_, _≤_, _<_}
+use mathlib.Core.List.{[], _∷_, _++_}
+use Prim.Native.Nat.{ℕ, zero, suc, _+_, _-_, _<_}
 use native.Mathlib.Omega.{arith}
 use borrow.Author.Tests.{eqb-true, eqb-false, ltb-true, ltb-false}
 use lib.Dec.{eqb, ltb}
-use lib.ListN.{length, take, drop, length-append, length-drop, drop-of-length-le}
+use lib.ListN.{length, take, drop, length-append, drop-of-length-le}
 use lib.Seq.{take-at}
 use Rattle.facts.specs.Lists.{All}
-use Rattle.rules.specs.Bytes.{Bytes, _>>=_, first, among}
+use Rattle.rules.specs.Bytes.{Bytes, first, among}
 use Rattle.rules.specs.Json.Text.{Text, behind, spelled, byteIn}
-use Rattle.rules.specs.Json.Strings.{tails, leads, isPlain, multibyte, unescaped, escaped, utf8, char, chars, string}
+use Rattle.rules.specs.Json.Strings.{tails, leads, isPlain, multibyte, unescaped, escaped, char, chars, string}
 use Rattle.rules.proofs.Order.{among-true}
-use Rattle.rules.proofs.Json.Suffix.{some-same, value-same, left-same, bound, answered-none}
+use Rattle.rules.proofs.Json.Suffix.{some-same, value-same, bound, answered-none}
 use Rattle.rules.proofs.Tests.{apart, by}
-use Rattle.rules.proofs.Json.TextReads.{before, spelled-left, spelled-text}
+use Rattle.rules.proofs.Json.TextReads.{spelled-left, spelled-text}
 use Rattle.rules.proofs.Json.Steps.{char-escape, char-plain, string-end}
 use Rattle.rules.proofs.Json.StringReads.{chars-quote, chars-char, chars-none}
 use Rattle.strings.specs.Decoded.{bytesOf, decoded, WellSpelled}

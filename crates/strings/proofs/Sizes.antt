@@ -1,16 +1,14 @@
 -- How many bytes a string stands for: never more than it is spelled with, so that counting them does not overflow.
-use mathlib.Core.Path.{_≡_, refl, sym, ap, _∙_}
-use mathlib.Core.Bool.{true, false}
+use mathlib.Core.Path.{_≡_, sym, ap, _∙_}
 use mathlib.Core.Option.{none, some}
-use mathlib.Core.List.{[], _∷_, _++_}
+use mathlib.Core.List.{[], _∷_}
 use Prim.Native.Nat.{ℕ, _+_, _-_, _≤_, _<_}
 use native.Mathlib.Omega.{arith}
 use lib.Dec.{eqb}
 use lib.ListN.{length, drop, getD, length-append, length-drop}
 use Rattle.facts.specs.Lists.{All}
-use Rattle.rules.specs.Bytes.{Bytes, _>>=_, first}
 use Rattle.rules.specs.Json.Text.{Text}
-use Rattle.rules.specs.Json.Strings.{utf8, codePoint, shortEscape, escaped}
+use Rattle.rules.specs.Json.Strings.{utf8, shortEscape, escaped}
 use Rattle.rules.proofs.Json.Suffix.{reads-fewer, some-same, value-same, left-same, bound}
 use Rattle.rules.proofs.Tests.{apart, by}
 use Rattle.rules.proofs.Json.StringReads.{codePoint-reads}

@@ -7,9 +7,9 @@ use Rattle.rules.specs.Bytes.{Bytes}
 use Rattle.rules.specs.Json.Text.{Text}
 use Rattle.rules.specs.Json.Strings.{utf8}
 use Rattle.strings.specs.Flat.{flat, lastOf}
-use Rattle.strings.specs.declared.Cursor.{Cursor}
-use Rattle.strings.specs.declared.Step.{Step}
-use Rattle.strings.specs.declared.Step.the-variants.{Byte, End}
+use Rattle.strings.specs.declared.steps.Cursor.{Cursor}
+use Rattle.strings.specs.declared.steps.Step.{Step}
+use Rattle.strings.specs.declared.steps.Step.the-variants.{Byte, End}
 
 -- at a byte of the text, in no escape
 abbrev pub fresh : ℕ → Cursor

@@ -7,8 +7,8 @@ use Rattle.rules.specs.Bytes.{order}
 use Rattle.rules.specs.Json.Text.{Text, behind}
 use Rattle.rules.specs.Json.Strings.{string}
 use Rattle.strings.specs.Flat.{flat}
-use Rattle.strings.specs.declared.Spelling.{Spelling}
-use Rattle.strings.specs.declared.Spelling.the-variants.{Plain, Escaped, Bad}
+use Rattle.strings.specs.declared.scan.Spelling.{Spelling}
+use Rattle.strings.specs.declared.scan.Spelling.the-variants.{Plain, Escaped, Bad}
 
 -- behind `at` stands a string that is spelled as the bytes that it stands for, or one with escapes, up to i; or none
 abbrev pub Scanned : (s : Text) → (at : ℕ) → Spelling → Type 0
