@@ -38,22 +38,22 @@ became {src} {rs} {n} {m} {t} {t′} k fits room p spelled ascends = record {
 -- ---- a row put in
 
 module _ {src : Text} {n : ℕ} {t t′ : List ℕ} (h : Table src n t) (c : Cells) (w : Spelled src c) where
-  became-put : (m : ℕ) → n ≤ m → Room m t → Changed m (put (key src) c (rows n t)) m t t′ → Became src (put (key src) c (rows n t)) n t m t′
-  became-put m l room p =
+  became-put : (m : ℕ) → Room m t → Changed m (put (key src) c (rows n t)) m t t′ → Became src (put (key src) c (rows n t)) n t m t′
+  became-put m room p =
       became m (λ j a b. b) room p (All-put (key src) (Spelled src) c (rows n t) (h .spelled) w) (ascends-put (key src) c (rows n t) (h .ascends))
 
   -- over the row with the same path
   pub became-over : (i : ℕ) → Finds src (key src c) n t (Held i) → Changed n (set (rows n t) i c) n t t′ → Became src (put (key src) c (rows n t)) n t n t′
   became-over i f p =
       let e : put (key src) c (rows n t) ≡ set (rows n t) i c = put-found (key src) c (rows n t) i (row []) (h .ascends) (rw length-rowsOf (f .0)) (f .1) in
-      became-put n (omega arith) (h .room) (changed-as (sym e) p)
+      became-put n (h .room) (changed-as (sym e) p)
 
   -- beside the others
   pub became-more : (i : ℕ) → Room (n + 1) t → Finds src (key src c) n t (Place i) → Changed (n + 1) (insertAt i c (rows n t)) (n + 1) t t′
       → Became src (put (key src) c (rows n t)) n t (n + 1) t′
   became-more i room f p =
       let e : put (key src) c (rows n t) ≡ insertAt i c (rows n t) = bracket-put (key src) (key src c) (rows n t) (row []) i i f (omega arith) c refl in
-      became-put (n + 1) (omega arith) room (changed-as (sym e) p)
+      became-put (n + 1) room (changed-as (sym e) p)
 
 -- ---- a row taken out
 

@@ -21,7 +21,7 @@ enum-known-k : tie.Need-enum-known-k
 enum-known-k c = search needs
 
 remove-row-requires : tie.Need-remove-row-requires
-remove-row-requires c κs = (held (c .before .before) .0, c .before .before .before .before .before .before .before .before .pre .0 .room)
+remove-row-requires c κs = (omega (arith, held (c .before .before) .0), c .before .before .before .before .before .before .before .before .pre .0 .room)
 
 sub-result : tie.Need-sub-result
 sub-result c = omega (arith, held (c .before .before .before .before .before) .0)
