@@ -1,3 +1,4 @@
+-- Laws of names, slots, members and strings at positions of a text; the proofs of the functions cite them.
 pub mod Seeking
 pub mod Slots
 pub mod Naming
