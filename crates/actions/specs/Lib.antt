@@ -1,0 +1,3 @@
+-- What the functions over the fields of actions promise, in the rules' terms.
+pub mod Inside
+pub mod Counts
