@@ -1,1 +1,3 @@
 pub mod Single
+pub mod Strings
+pub mod Paths
