@@ -1,3 +1,4 @@
 pub mod Single
 pub mod Strings
 pub mod Paths
+pub mod Stated

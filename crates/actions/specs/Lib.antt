@@ -2,3 +2,4 @@
 pub mod Inside
 pub mod Counts
 pub mod Texts
+pub mod Found

@@ -1,13 +1,19 @@
 // What a line of a log says: its action, with the facts that the fields of the action state.
+use fields::Fields;
+use fields::Kind;
 use fields::Slot;
 use strings::Spelling;
 use text::Next;
 use values::Truth;
 use values::Whole;
 ghost use mathlib.Core.Path.{_≡_};
+ghost use mathlib.Core.List.{List};
 ghost use Prim.Native.Nat.{_≤_, _-_};
 ghost use lib.ListN.{length, take, drop};
+ghost use Rattle.rules.specs.Actions.{pathAt};
+ghost use Rattle.rules.specs.Json.Values.{Member};
 ghost use Rattle.rules.specs.Json.Fields.{stringOf};
+ghost use Rattle.actions.specs.Found.{Found, Holding};
 ghost use Rattle.values.specs.Answers.{wholeIs, truthIs};
 ghost use Rattle.actions.specs.Inside.{Inside, wholeIn, boolIn, stringIn, optionalWholeIn};
 ghost use Rattle.actions.specs.Texts.{StringIs, PathIs, pathOf};
@@ -134,4 +140,15 @@ pub fn records_in(s: &[u8], slot: Slot) -> Records
         Whole::Number(n) => Records::Number(n),
         Whole::NotWhole => Records::Bad,
     }
+}
+
+// ---- actions by the fields of their objects
+
+// The path of the file that is removed.
+pub fn remove_in(s: &[u8], f: Fields) -> Path
+    requires { ⌜ Found (now s) Kind.Remove f ⌝ }
+    ensures { λ r. ⌜ ((ms : List Member) → Holding (now (s .entry)) Kind.Remove ms f → PathIs (pathAt ms) (now (s .entry)) r) ⌝ }
+{
+    let slot = f.slots[0];
+    path_in(s, slot)
 }
