@@ -2,3 +2,4 @@ pub mod Single
 pub mod Strings
 pub mod Paths
 pub mod Stated
+pub mod Versioned

@@ -6,7 +6,7 @@ use Prim.Native.Nat.{ℕ, _<_}
 use Prim.Native.String.{String}
 use lib.ListN.{length, getD}
 use Rattle.rules.specs.Bytes.{Bytes, ascii, _>>=_}
-use Rattle.rules.specs.Actions.{pathAt}
+use Rattle.rules.specs.Actions.{pathAt, protocolNumberAt}
 use Rattle.rules.specs.Json.Text.{Text}
 use Rattle.rules.specs.Json.Numbers.{whole}
 use Rattle.rules.specs.Json.Values.{Member}
@@ -16,6 +16,7 @@ use Rattle.fields.specs.declared.Slot.{Slot}
 use Rattle.fields.proofs.Slots.{slot-once, slot-optional}
 use Rattle.actions.specs.Inside.{Inside, wholeIn, boolIn, stringIn, optionalWholeIn}
 use Rattle.actions.specs.Texts.{pathOf}
+use Rattle.actions.specs.Versions.{versionOf}
 use Rattle.actions.proofs.Single.{times-inside}
 
 module _ (s : Text) (x : Slot) (name : String) (ms : List Member) (h : Holds s x (under (ascii name) ms)) where
@@ -32,6 +33,10 @@ module _ (s : Text) (x : Slot) (name : String) (ms : List Member) (h : Holds s x
 
   pub field-optional : (optional name ms >>= ifThere whole) ≡ optionalWholeIn s x
   field-optional = ap (λ (o : Option (Option Text)). o >>= ifThere whole) (slot-optional s name ms (x .seen) (x .start) (x .end) h)
+
+pub field-version : (s : Text) (x : Slot) (name : String) (ms : List Member) → Holds s x (under (ascii name) ms) → protocolNumberAt name ms ≡ versionOf (wholeIn s x)
+unfolding protocolNumberAt
+field-version s x name ms h = ap versionOf (field-whole s x name ms h)
 
 pub field-path : (s : Text) (x : Slot) (ms : List Member) → Holds s x (under (ascii "path") ms) → pathAt ms ≡ pathOf (stringIn s x)
 unfolding pathAt

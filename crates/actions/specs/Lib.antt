@@ -3,3 +3,4 @@ pub mod Inside
 pub mod Counts
 pub mod Texts
 pub mod Found
+pub mod Versions

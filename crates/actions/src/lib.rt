@@ -13,6 +13,7 @@ ghost use lib.ListN.{length, take, drop};
 ghost use Rattle.rules.specs.Actions.{pathAt};
 ghost use Rattle.rules.specs.Json.Values.{Member};
 ghost use Rattle.rules.specs.Json.Fields.{stringOf};
+ghost use Rattle.actions.specs.Versions.{versionOf};
 ghost use Rattle.actions.specs.Found.{Found, Holding};
 ghost use Rattle.values.specs.Answers.{wholeIs, truthIs};
 ghost use Rattle.actions.specs.Inside.{Inside, wholeIn, boolIn, stringIn, optionalWholeIn};
@@ -23,6 +24,9 @@ const QUOTE: u8 = 0x22;
 
 // A path has so many decoded bytes at most.
 const LONGEST_PATH: usize = 512;
+
+// The greatest number of a protocol.
+const MOST_VERSION: u64 = 2_147_483_647;
 
 // ---- strings
 
@@ -140,6 +144,23 @@ pub fn records_in(s: &[u8], slot: Slot) -> Records
         Whole::Number(n) => Records::Number(n),
         Whole::NotWhole => Records::Bad,
     }
+}
+
+// The number of a protocol, of a field that stands once.
+pub fn version_in(s: &[u8], slot: Slot) -> Whole
+    requires { ⌜ Inside (now s) slot ⌝ }
+    ensures { λ r. ⌜ r ≡ wholeIs (versionOf (wholeIn (now (s .entry)) slot)) ⌝ }
+{
+    let Whole::Number(n) = whole_in(s, slot) else {
+        return Whole::NotWhole;
+    };
+    if n < 1 {
+        return Whole::NotWhole;
+    }
+    if MOST_VERSION < n {
+        return Whole::NotWhole;
+    }
+    Whole::Number(n)
 }
 
 // ---- actions by the fields of their objects
