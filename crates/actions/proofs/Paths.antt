@@ -1,0 +1,25 @@
+-- A path is a string of 1 to 512 decoded bytes.
+use mathlib.Core.Path.{_≡_, sym, ap, _∙_}
+use mathlib.Core.Bool.{Bool}
+use mathlib.Core.Option.{Option, none, some}
+use Prim.Native.Nat.{ℕ, _≤_, _<_}
+use native.Mathlib.Omega.{arith}
+use lib.ListN.{length, drop}
+use Rattle.rules.specs.Bytes.{Bytes, _>>=_, guard, among}
+use Rattle.rules.specs.Json.Text.{Text}
+use Rattle.text.proofs.Ranges.{among-within, among-below, among-above}
+use Rattle.strings.specs.Decoded.{decoded}
+use Rattle.actions.specs.Texts.{Read, pathOf}
+
+module _ {o : Option Bytes} {s : Text} {p n : ℕ} (r : Read o s p) (size : n ≡ length (decoded (drop p s))) where
+  sized : {test : Bool} → among 1 512 n ≡ test → pathOf o ≡ (guard test >>= (λ _. some (decoded (drop p s))))
+  sized {test} e = ap pathOf (r .says) ∙ ap (λ (b : Bool). guard b >>= (λ _. some (decoded (drop p s)))) (ap (among 1 512) (sym size) ∙ e)
+
+  pub path-empty : n ≡ 0 → pathOf o ≡ none
+  path-empty z = sized (among-below 1 512 n (omega arith))
+
+  pub path-long : 512 < n → pathOf o ≡ none
+  path-long l = sized (among-above 1 512 n (omega arith) l)
+
+  pub path-good : (n ≡ 0 → ⊥) → n ≤ 512 → Read (pathOf o) s p
+  path-good z l = record { spelled = r .spelled; says = sized (among-within 1 512 n (omega arith) l) }

@@ -1,0 +1,33 @@
+-- A field by its slot: its value, if there is one, stands within the text, and the text of the value is what the rules read.
+use mathlib.Core.Bool.{Bool}
+use mathlib.Core.Option.{Option}
+use Prim.Native.Nat.{ℕ, zero, suc, _≤_}
+use lib.ListN.{length}
+use Rattle.rules.specs.Bytes.{Bytes, _>>=_}
+use Rattle.rules.specs.Json.Text.{Text}
+use Rattle.rules.specs.Json.Numbers.{whole}
+use Rattle.rules.specs.Json.Fields.{boolOf, ifThere, stringOf}
+use Rattle.fields.specs.Slots.{textIn, optionalIn}
+use Rattle.fields.specs.declared.notes.Slot.{Slot}
+
+abbrev pub InsideBy : Text → (seen v e : ℕ) → Type 0
+InsideBy s zero v e = Unit {0}
+InsideBy s (suc zero) v e = (v ≤ e) × (e ≤ length s)
+InsideBy s (suc (suc n)) v e = Unit {0}
+
+abbrev pub Inside : Text → Slot → Type 0
+Inside s x = InsideBy s (x .seen) (x .start) (x .end)
+
+-- a field that stands once
+abbrev pub wholeIn : Text → Slot → Option ℕ
+wholeIn s x = textIn s (x .seen) (x .start) (x .end) >>= whole
+
+abbrev pub boolIn : Text → Slot → Option Bool
+boolIn s x = textIn s (x .seen) (x .start) (x .end) >>= boolOf
+
+abbrev pub stringIn : Text → Slot → Option Bytes
+stringIn s x = textIn s (x .seen) (x .start) (x .end) >>= stringOf
+
+-- a field that may be missing or null
+abbrev pub optionalWholeIn : Text → Slot → Option (Option ℕ)
+optionalWholeIn s x = optionalIn s (x .seen) (x .start) (x .end) >>= ifThere whole
