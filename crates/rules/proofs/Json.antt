@@ -11,4 +11,5 @@ pub mod Joined
 pub mod Local
 pub mod InPlace
 pub mod Places
+pub mod Extends
 pub mod Fields

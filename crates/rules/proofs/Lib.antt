@@ -6,10 +6,12 @@ pub mod Order
 pub mod Holding
 pub mod Ascending
 pub mod Live
+pub mod Mapping
 pub mod Searching
 pub mod Json
 pub mod Lines
 pub mod Replaying
+pub mod Applying
 pub mod Sameness
 pub mod Agreement
 pub mod TotalOrders

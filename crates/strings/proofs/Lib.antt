@@ -9,3 +9,4 @@ pub mod Sizes
 pub mod Scanning
 pub mod Orders
 pub mod Numerals
+pub mod Placing
