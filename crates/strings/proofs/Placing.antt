@@ -1,7 +1,7 @@
 -- A string that is spelled in a part of a text is spelled at its place in the text, and stands for the same bytes.
-use mathlib.Core.Path.{_≡_, refl, sym, ap, _∙_}
-use mathlib.Core.Option.{Option, none, some}
-use mathlib.Core.List.{[], _∷_, _++_}
+use mathlib.Core.Path.{_≡_, sym, ap, _∙_}
+use mathlib.Core.Option.{some}
+use mathlib.Core.List.{_++_}
 use Prim.Native.Nat.{ℕ, _+_, _≤_, _<_}
 use native.Mathlib.Omega.{arith}
 use lib.Dec.{leb}
