@@ -2,10 +2,11 @@
 use mathlib.Core.Path.{_≡_, refl, sym, ap, _∙_}
 use mathlib.Core.Bool.{true}
 use mathlib.Core.Option.{Option, none, some}
-use mathlib.Core.List.{[], _++_, append-assoc, append-nil}
+use mathlib.Core.List.{[], _∷_, _++_, append-assoc, append-nil}
 use Prim.Native.Nat.{ℕ, _+_, _-_, _≤_, _<_}
 use native.Mathlib.Omega.{arith}
-use lib.ListN.{length, take, drop, getD, drop-of-length-le}
+use lib.ListN.{length, take, drop, getD, length-append, length-drop, drop-of-length-le}
+use lib.Seq.{length-take-le}
 use Rattle.facts.specs.Parts.{part}
 use Rattle.facts.proofs.Lists.{drop-here, drop-is}
 use Rattle.facts.proofs.Parts.{part-none, part-split}
@@ -13,10 +14,14 @@ use Rattle.rules.specs.Bytes.{Bytes, _>>=_}
 use Rattle.rules.specs.Json.Text.{Text, behind, spelled}
 use Rattle.rules.specs.Json.Strings.{isPlain, unescaped, char, string}
 use Rattle.rules.proofs.Tests.{apart}
+use Rattle.rules.proofs.Json.Shadows.{behind-some}
 use Rattle.rules.proofs.Json.Places.{spelled-place}
 use Rattle.rules.proofs.Json.TextReads.{spelled-none}
 use Rattle.rules.proofs.Json.Steps.{char-plain, string-end, string-quote, string-none, string-char}
+use Rattle.strings.specs.Decoded.{decoded}
+use Rattle.strings.proofs.Decoding.{decoded-some}
 use Rattle.strings.proofs.Raw.{plain-quote, plain-backslash}
+use Rattle.strings.proofs.Shorter.{string-longer}
 
 -- the bytes x in front of a string's
 pub after : Bytes → Option (Bytes × Text) → Option (Bytes × Text)
@@ -75,6 +80,18 @@ module _ {s : Text} {at i : ℕ} (c : Scanning s at i) where
         let n : i - at ≡ i + 1 - 1 - at = omega arith in
         c .rest ∙ ap (after (part s at i)) (ap string (drop-is s i 0 0x22 h e) ∙ string-quote (drop (i + 1) s))
         ∙ ap (λ (x : Bytes). some (x, drop (i + 1) s)) (append-nil (part s at i) ∙ ap (λ (k : ℕ). take k (drop at s)) n)
+
+    -- up to the backslash the string is as long as what it stands for, and longer behind it
+    pub scanning-fewer : (j : ℕ) → j ≤ length s → getD s i 0 ≡ 0x5C → behind (string (drop i s)) ≡ some (drop j s) → length (decoded (drop at s)) < j - 1 - at
+    unfolding after part
+    scanning-fewer j w e f =
+        let (x, g) = behind-some (string (drop i s)) f in
+        let here : drop i s ≡ 0x5C ∷ drop (i + 1) s = drop-is s i 0 0x5C h e in
+        let rest-long : length x + length (drop j s) + 1 ≤ length (drop (i + 1) s) = string-longer (drop (i + 1) s) (sym (ap string here) ∙ g) in
+        let all : string (drop at s) ≡ some (part s at i ++ x, drop j s) = c .rest ∙ ap (after (part s at i)) g in
+        let low : at ≤ i = c .from in
+        let fits : i - at ≤ length (drop at s) = omega (arith, length-drop at s) in
+        omega (arith, ap length (decoded-some (drop at s) all), length-append (part s at i) x, length-take-le (i - at) (drop at s) fits, length-drop j s, length-drop (i + 1) s)
 
     module _ (q : getD s i 0 ≡ 0x22 → ⊥) (e : getD s i 0 ≡ 0x5C → ⊥) where
       char-here : char (drop i s) ≡ spelled unescaped (drop i s)
