@@ -82,8 +82,7 @@ module _ {s : Text} {at i : ℕ} (c : Scanning s at i) where
     unfolding after part
     scanning-quote e =
         let n : i - at ≡ i + 1 - 1 - at = omega arith in
-        let low : at ≤ i = c .from in
-        (
+        let low : at ≤ i = c .from in (
           c .rest ∙ ap (after (part s at i)) (ap string (drop-is s i 0 0x22 h e) ∙ string-quote (drop (i + 1) s))
               ∙ ap (λ (x : Bytes). some (x, drop (i + 1) s)) (append-nil (part s at i) ∙ ap (λ (k : ℕ). take k (drop at s)) n),
           omega arith,
