@@ -12,13 +12,10 @@ use Rattle.rules.specs.Json.Values.{colon, member}
 use Rattle.rules.proofs.Tests.{apart}
 use Rattle.rules.proofs.Json.Shadows.{behind-some}
 use Rattle.rules.proofs.Json.Places.{member-place}
-use Rattle.strings.specs.Decoded.{bytesOf, decoded}
+use Rattle.strings.proofs.Decoding.{decoded-some}
+use Rattle.fields.specs.Places.{valueIn}
 use Rattle.fields.specs.Spelled.{nameIn, Named, Quoted, Stands}
 use Rattle.fields.specs.declared.names.Spell.{Spell}
-
-decoded-some : (t : Text) {x : Bytes} {r : Text} → string t ≡ some (x, r) → decoded t ≡ x
-unfolding decoded bytesOf
-decoded-some t e = ap bytesOf e
 
 pub named-plain : (s : Text) (i e : ℕ) → string (drop i s) ≡ some (take (e - 1 - i) (drop i s), drop e s) → i + 1 ≤ e → e ≤ length s
     → Named s (record { at = i; end = e; plain = true })
@@ -56,12 +53,14 @@ module _ (read : Reader) (t : Text) where
 pub member-stands : (read : Reader) (s : Text) (i : ℕ) (n : Spell) (v e : ℕ) → Quoted s i n → n .end + 1 ≤ v → v + 1 ≤ e → e ≤ length s
     → colon (drop (n .end) s) ≡ some (drop v s) → read (drop v s) ≡ some (drop e s)
     → Stands (member read (drop i s)) s i n v e
+unfolding valueIn
 member-stands read s i n v e q h k w c d =
     let low : n .at + 1 ≤ n .end = q .named .from in
     let lower : i + 1 ≤ n .at = q .from in
     record {
       named = q .named;
       read = member-place read s i v e (omega arith) w (q .quote) (named-string s n (q .named)) c d;
+      value = rw (valueIn, q .quote, named-string s n (q .named)) c;
       from = omega arith;
       ordered = omega arith;
       within = w;

@@ -9,6 +9,7 @@ use Rattle.rules.specs.Json.Text.{Text, behind, byte}
 use Rattle.rules.specs.Json.Strings.{string}
 use Rattle.rules.specs.Json.Values.{Member as Pair}
 use Rattle.strings.specs.Decoded.{decoded}
+use Rattle.fields.specs.Places.{valueIn}
 use Rattle.fields.specs.declared.names.Spell.{Spell}
 use Rattle.fields.specs.declared.objects.Name.{Name}
 use Rattle.fields.specs.declared.objects.Name.the-variants.{Of, NoName}
@@ -39,6 +40,7 @@ NameIs s at NoName = (byte 0x22 (drop at s) >>= string) ≡ none
 pub record Stands (o : Option (Pair × Text)) (s : Text) (at : ℕ) (n : Spell) (v e : ℕ) : Type 0 where
   pub named : Named s n
   pub read : o ≡ some ((nameIn s n, take (e - v) (drop v s)), drop e s)
+  pub value : valueIn (drop at s) ≡ some (drop v s)
   pub from : at + 1 ≤ v
   pub ordered : v ≤ e
   pub within : e ≤ length s
