@@ -1,0 +1,4 @@
+pub mod Starts
+pub mod Removal
+pub mod Readable
+pub mod FirstSentence

@@ -1,0 +1,5 @@
+-- The customer's demands, as far as they speak of the rules: what is proved of paper 01 as defined in crate rules.
+pub mod Reaching
+pub mod Removed
+pub mod FullHistory
+pub mod FirstSentence
