@@ -25,7 +25,7 @@ use Rattle.rules.proofs.Tests.{apart}
 use Rattle.rules.proofs.Replaying.{bind-accepted}
 use Rattle.rules.proofs.Sameness.{same-state-sym, same-answer-trans}
 use Rattle.rules.proofs.Answers.{same-bind, refused-number}
-use Rattle.rules.proofs.Moving.{SameHeld, same-held-refl, same-held-trans, readFile-same, readZero-same, follow-table, listing-same}
+use Rattle.rules.proofs.Moving.{SameHeld, same-held-refl, same-held-trans, readFile-same, readZero-same, follow-table, listing-same, nothingLive-same}
 use Rattle.rules.proofs.Readings.{reading-is}
 use Rattle.rules.proofs.Bundles.{bundle-sound}
 use Rattle.demands.specs.Reaching.{There, NoStart, SomeStart}
@@ -79,9 +79,6 @@ from-zero zf w z st e h =
     let q : accepted (p .0) ≡ accepted z = sym (p .1) ∙ e in
     let r : p .0 ≡ z = cc in
     subst (λ (x : State). follow mostLive x w ≡ accepted st) r (p .2)
-
-nothingLive-same : (m m′ : MetaData) → m ≡ m′ → SameHeld (nothingLive m) (nothingLive m′)
-nothingLive-same m m′ e = subst (λ x. SameHeld (nothingLive m) (nothingLive x)) e (same-held-refl (nothingLive m))
 
 module _ (fs gs : List File) (n : ℕ) (full : FullHistory fs n)
     (versions : (w : ℕ) → Left (logOf fs .versionFile w) (logOf gs .versionFile w)) (checkpoints : (c : ℕ) → Left (logOf fs .checkpointFile c) (logOf gs .checkpointFile c))

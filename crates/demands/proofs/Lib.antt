@@ -2,3 +2,5 @@ pub mod Starts
 pub mod Removal
 pub mod Readable
 pub mod FirstSentence
+pub mod Upward
+pub mod LastSentence

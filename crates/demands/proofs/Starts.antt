@@ -143,6 +143,10 @@ climb-climbs (suc n) log s = go (log .versionFile (suc s)) refl (climb n log (su
         last (inl e) = inl e
         last (inr e) = inr (omega arith)
 
+pub latest-above : (log : Log) → orZero (marked log) ≤ latest log
+unfolding latest
+latest-above log = climb-climbs most log (orZero (marked log)) .above
+
 -- where the bound is met, the next version is too large to be there
 pub latest-stops : LatestStopsAtAGap
 unfolding latest

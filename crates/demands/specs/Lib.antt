@@ -3,3 +3,4 @@ pub mod Reaching
 pub mod Removed
 pub mod FullHistory
 pub mod FirstSentence
+pub mod LastSentence

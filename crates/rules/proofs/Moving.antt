@@ -71,6 +71,9 @@ same-held-refl s = record { table = refl; state = same-state-refl s }
 pub same-held-trans : {s t u : State} → SameHeld s t → SameHeld t u → SameHeld s u
 same-held-trans h k = record { table = h .table ∙ k .table; state = same-state-trans (h .state) (k .state) }
 
+pub nothingLive-same : (m m′ : MetaData) → m ≡ m′ → SameHeld (nothingLive m) (nothingLive m′)
+nothingLive-same m m′ e = subst (λ x. SameHeld (nothingLive m) (nothingLive x)) e (same-held-refl (nothingLive m))
+
 effect-same : (at at′ n n′ : ℕ) (a : Action) (s t : State) → SameHeld s t → SameHeld (effect at n a s) (effect at′ n′ a t)
 unfolding effect
 effect-same at at′ n n′ (add f) s t h = record {
