@@ -1,34 +1,32 @@
 -- The first sentences of demand 3: each step of the way of the log that is left gives what the full history gives.
-use mathlib.Core.Path.{_≡_, refl, sym, _∙_, ap, subst}
+use mathlib.Core.Path.{_≡_, refl, sym, _∙_, subst}
 use mathlib.Core.Logic.{_⊎_, inl, inr}
-use mathlib.Core.Bool.{Bool, true, false, not}
+use mathlib.Core.Bool.{Bool, true, false}
 use mathlib.Core.Option.{Option, none, some}
 use mathlib.Core.List.{List, [], _∷_, map}
 use Prim.Native.Nat.{ℕ, zero, suc, _≤_}
 use native.Mathlib.Omega.{arith}
 use lib.Dec.{leb}
-use Rattle.rules.specs.Bytes.{Bytes, allAmong}
-use Rattle.rules.specs.Bundle.{File, bundle}
-use Rattle.rules.specs.Names.{Name, nameOf, versionIn, checkpointIn, is, anyTooLarge}
-use Rattle.rules.specs.Actions.{MetaData}
+use Rattle.rules.specs.Bytes.{allAmong}
+use Rattle.rules.specs.Bundle.{File}
+use Rattle.rules.specs.Names.{Name, versionIn, checkpointIn, is}
 use Rattle.rules.specs.Live.{mostLive}
 use Rattle.rules.specs.History.{State, readFile, readZero}
-use Rattle.rules.specs.Starts.{Log, logOf, startAt, Way, fromZero, fromCheckpoint, andThen, onwardBy, byFile, byStart, wayTo, historyTo, nothingLive, follow}
+use Rattle.rules.specs.Starts.{Log, logOf, startAt, Way, fromZero, fromCheckpoint, onwardBy, byFile, byStart, wayTo, historyTo, nothingLive, follow}
 use Rattle.rules.specs.Gate.{knownReader, readerNames, gate, writable}
-use Rattle.rules.specs.Query.{Condition, columnOf, query}
+use Rattle.rules.specs.Query.{Condition, columnOf}
 use Rattle.rules.specs.Picking.{picked}
-use Rattle.rules.specs.Rooms.{rowsRoom}
 use Rattle.rules.specs.Reading.{theVersion, versionAsked, Listing, stateBy, listing, listingBy, listingAt, historyListing, reading}
-use Rattle.rules.specs.Same.{SameState, SameListing, SameAnswer, both-accepted, both-refused, IsTrue}
-use Rattle.rules.specs.Refusals.{Refusal, Answer, accepted, refused, _>>=_, orRefuse, require, notKept, readerTooHigh, unknownFeature, noSuchColumn}
+use Rattle.rules.specs.Same.{SameListing, SameAnswer, both-accepted, both-refused}
+use Rattle.rules.specs.Refusals.{_>>=_, Answer, accepted, refused, require, notKept, readerTooHigh, unknownFeature, noSuchColumn}
 use Rattle.rules.proofs.Tests.{apart}
 use Rattle.rules.proofs.Replaying.{bind-accepted}
 use Rattle.rules.proofs.Sameness.{same-state-sym, same-answer-trans}
 use Rattle.rules.proofs.Answers.{same-bind, refused-number}
-use Rattle.rules.proofs.Moving.{SameHeld, same-held-refl, same-held-trans, readFile-same, readZero-same, follow-table, listing-same, nothingLive-same}
+use Rattle.rules.proofs.Moving.{SameHeld, same-held-trans, readFile-same, readZero-same, follow-table, listing-same, nothingLive-same}
 use Rattle.rules.proofs.Readings.{reading-is}
 use Rattle.rules.proofs.Bundles.{bundle-sound}
-use Rattle.demands.specs.Reaching.{There, NoStart, SomeStart}
+use Rattle.demands.specs.Reaching.{SomeStart}
 use Rattle.demands.specs.Removed.{SameFile, Without, end, keep, NotVersionZero}
 use Rattle.demands.specs.FullHistory.{FullHistory}
 use Rattle.demands.specs.FirstSentence.{KeptOrNot, FirstSentence, FullLogIsHistory}

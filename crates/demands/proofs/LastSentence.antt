@@ -1,12 +1,12 @@
 -- The last sentence of demand 3: what the cleaner names are version files below its checkpoint, and above it nothing is missed.
 use mathlib.Core.Path.{_≡_, refl, sym, _∙_, ap, subst}
-use mathlib.Core.Logic.{_⊎_, inl, inr}
-use mathlib.Core.Bool.{Bool, true, false, not, _&&_}
+use mathlib.Core.Logic.{inl, inr}
+use mathlib.Core.Bool.{Bool, true, false, not}
 use mathlib.Core.Option.{Option, none, some}
 use mathlib.Core.List.{List, [], _∷_}
 use Prim.Native.Nat.{ℕ, suc, _≤_, _<_}
 use native.Mathlib.Omega.{arith}
-use lib.Dec.{leb, ltb, eqb}
+use lib.Dec.{leb, ltb}
 use borrow.Author.Tests.{ltb-true, ne-eqb}
 use Rattle.rules.specs.Bytes.{Bytes, keepIf}
 use Rattle.rules.specs.Bundle.{File, bundle}
@@ -17,15 +17,15 @@ use Rattle.rules.specs.Query.{Condition, query}
 use Rattle.rules.specs.Rooms.{rowsRoom}
 use Rattle.rules.specs.Reading.{Asked, theLatest, theVersion, versionAsked, Listing, listingAt, reading}
 use Rattle.rules.specs.Cleaning.{isBetween, isOld, mayGo, named, compared, cleanedBy, cleanedAt, Lent, enough, cleaning}
-use Rattle.rules.specs.Same.{SameListing, SameAnswer, both-accepted, both-refused}
-use Rattle.rules.specs.Refusals.{Answer, accepted, refused, _>>=_, orRefuse, require, roomTooShort, bundleMalformed, versionTooLarge, noVersionZero, queryMalformed}
+use Rattle.rules.specs.Same.{SameListing, SameAnswer}
+use Rattle.rules.specs.Refusals.{_>>=_, Answer, accepted, orRefuse, require, roomTooShort, bundleMalformed, versionTooLarge, noVersionZero, queryMalformed}
 use Rattle.rules.proofs.Tests.{apart, and-left, and-right}
 use Rattle.rules.proofs.Replaying.{bind-accepted}
 use Rattle.rules.proofs.Sameness.{same-listing-refl, same-listing-trans, same-answer-refl, same-answer-trans}
 use Rattle.rules.proofs.Answers.{same-require, same-orRefuse}
 use Rattle.rules.proofs.Bundles.{Numbered, bundle-sound}
-use Rattle.demands.specs.Removed.{SameFile, Without, end, keep, remove, In, Named}
-use Rattle.demands.specs.LastSentence.{KeepsAnswers, checkpointOf, Run, LastSentence, Cleaned, not-run, once-more, StoppedHalfway}
+use Rattle.demands.specs.Removed.{Without, end, keep, remove, In, Named}
+use Rattle.demands.specs.LastSentence.{KeepsAnswers, checkpointOf, Run, LastSentence, not-run, once-more, StoppedHalfway}
 use Rattle.demands.proofs.Removal.{find-same, large-same}
 use Rattle.demands.proofs.Starts.{latest-above}
 use Rattle.demands.proofs.Upward.{SameFrom, marked-same, latest-same, listing-same-upward}
@@ -163,7 +163,7 @@ run-same : (s t : Bytes) (fs gs : List File) → Run s t fs gs → SameFrom (che
 run-same s t fs gs r =
     let c = checkpointOf fs in
     let w = without-weaken (mayGo-between c (r .now) (r .retention))
-          (named-may-go c (r .now) (r .retention) (r .es) 0 (bundle-sound s fs (r .before) .numbered) (λ n l h. cleaning-names (r .lent) s (r .now) (r .retention) fs (r .es) (r .before) (r .names) n h) (r .removed)) in
+    (named-may-go c (r .now) (r .retention) (r .es) 0 (bundle-sound s fs (r .before) .numbered) (λ n l h. cleaning-names (r .lent) s (r .now) (r .retention) fs (r .es) (r .before) (r .names) n h) (r .removed)) in
     (without-same c fs gs w, without-large c fs gs w)
 
 pub last-sentence : LastSentence
@@ -174,7 +174,7 @@ last-sentence s t fs gs r =
     record {
       by-number = λ room q v l. reading-same room s t q (theVersion v) fs gs (r .before) (r .after) (p .1) (λ cs. at cs v l);
       the-latest = λ room q. reading-same room s t q theLatest fs gs (r .before) (r .after) (p .1)
-        (λ cs. subst (λ (v : ℕ). SameAnswer SameListing (listingAt cs (logOf fs) (latest (logOf fs))) (listingAt cs (logOf gs) v)) (latest-same (logOf fs) (logOf gs) (p .0))
+          (λ cs. subst (λ (v : ℕ). SameAnswer SameListing (listingAt cs (logOf fs) (latest (logOf fs))) (listingAt cs (logOf gs) v)) (latest-same (logOf fs) (logOf gs) (p .0))
           (at cs (latest (logOf fs)) (latest-above (logOf fs))));
     }
 

@@ -4,3 +4,4 @@ pub mod Readable
 pub mod FirstSentence
 pub mod Upward
 pub mod LastSentence
+pub mod Example

@@ -13,9 +13,9 @@ use Rattle.rules.specs.Lines.{lines, anyObject}
 use Rattle.rules.specs.Actions.{Action, action}
 use Rattle.rules.specs.Live.{mostLive}
 use Rattle.rules.specs.History.{State, effect, withinLimit, readLine, readLines, readFile, readZero}
-use Rattle.rules.specs.Starts.{Log, logOf, everyLine, wellFormed, Way, fromZero, fromCheckpoint, andThen, byFile, onwardBy, historyTo, follow}
+use Rattle.rules.specs.Starts.{Log, logOf, everyLine, wellFormed, Way, fromZero, andThen, byFile, onwardBy, historyTo, follow}
 use Rattle.rules.specs.Reading.{stateBy}
-use Rattle.rules.specs.Refusals.{Answer, accepted, refused, _>>=_, orRefuse, require, malformed, tooManyLive}
+use Rattle.rules.specs.Refusals.{_>>=_, Answer, accepted, refused, orRefuse, require, malformed, tooManyLive}
 use Rattle.rules.proofs.Tests.{apart}
 use Rattle.demands.specs.Reaching.{There}
 use Rattle.demands.specs.FullHistory.{FullHistory}

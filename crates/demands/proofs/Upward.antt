@@ -1,16 +1,14 @@
 -- Two logs with the same checkpoints, marker and version 0, and the same version files from c upward, answer alike from c upward,
 -- where c is 0 or a checkpoint that is a start.
-use mathlib.Core.Path.{_≡_, refl, sym, _∙_, ap, subst}
-use mathlib.Core.Logic.{_⊎_, inl, inr}
+use mathlib.Core.Path.{_≡_, refl, _∙_, ap, subst}
 use mathlib.Core.Option.{Option, none, some}
 use mathlib.Core.List.{List}
 use Prim.Native.Nat.{ℕ, zero, suc, _≤_}
 use native.Mathlib.Omega.{arith}
 use native.Mathlib.Decide.{decLe}
-use Rattle.rules.specs.Bytes.{Bytes, _>>=_}
+use Rattle.rules.specs.Bytes.{_>>=_}
 use Rattle.rules.specs.Numbers.{most}
 use Rattle.rules.specs.Bundle.{File}
-use Rattle.rules.specs.Actions.{MetaData}
 use Rattle.rules.specs.Live.{mostLive}
 use Rattle.rules.specs.History.{State, readFile, readZero}
 use Rattle.rules.specs.Starts.{Log, startAt, Way, fromZero, fromCheckpoint, andThen, onwardBy, byFile, byStart, wayTo, nothingLive, follow}
@@ -22,7 +20,7 @@ use Rattle.rules.specs.Same.{SameListing, SameAnswer, both-accepted, both-refus
 use Rattle.rules.proofs.Tests.{apart}
 use Rattle.rules.proofs.SoleNames.{bind-some}
 use Rattle.rules.proofs.Answers.{same-bind}
-use Rattle.rules.proofs.Moving.{SameHeld, same-held-refl, readFile-same, readZero-same, listing-same, nothingLive-same}
+use Rattle.rules.proofs.Moving.{SameHeld, readFile-same, readZero-same, listing-same, nothingLive-same}
 use Rattle.demands.specs.Reaching.{There}
 use Rattle.demands.specs.Removed.{SameFile}
 use Rattle.demands.proofs.Removal.{SameFound, neither, both, start-same}

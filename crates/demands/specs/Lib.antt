@@ -4,3 +4,4 @@ pub mod Removed
 pub mod FullHistory
 pub mod FirstSentence
 pub mod LastSentence
+pub mod Example

@@ -2,7 +2,7 @@
 use mathlib.Core.Path.{_≡_}
 use mathlib.Core.Logic.{_⊎_}
 use mathlib.Core.Option.{Option, none, some}
-use Prim.Native.Nat.{ℕ, suc, _+_, _≤_, _<_}
+use Prim.Native.Nat.{ℕ, suc, _≤_, _<_}
 use Rattle.rules.specs.Numbers.{most}
 use Rattle.rules.specs.Bundle.{File}
 use Rattle.rules.specs.Starts.{Log, startAt, Way, fromZero, fromCheckpoint, andThen, wayTo}

@@ -4,9 +4,8 @@ use mathlib.Core.Logic.{_⊎_, inl, inr}
 use mathlib.Core.Bool.{Bool, true, false}
 use mathlib.Core.Option.{Option, none, some}
 use Prim.Native.Nat.{ℕ}
-use Rattle.rules.specs.Refusals.{Refusal, Answer, accepted, refused, _>>=_, orRefuse, require}
+use Rattle.rules.specs.Refusals.{_>>=_, Refusal, Answer, accepted, refused, orRefuse, require}
 use Rattle.rules.specs.Same.{SameAnswer, both-accepted, both-refused}
-use Rattle.rules.proofs.Tests.{apart}
 
 -- ---- the same
 

@@ -11,7 +11,7 @@ use lib.ListN.{length, take, drop, length-take, length-drop}
 use borrow.Author.Tests.{leb-true}
 use Rattle.facts.specs.Lists.{All}
 use Rattle.facts.proofs.Lists.{All-weaken}
-use Rattle.rules.specs.Bytes.{Bytes, _>>=_, guard, among, isEmpty, Order, less, equal, more, order, isLess}
+use Rattle.rules.specs.Bytes.{_>>=_, Bytes, guard, among, isEmpty, Order, less, equal, more, order, isLess}
 use Rattle.rules.specs.Numbers.{little}
 use Rattle.rules.specs.Bundle.{Entry, File, mostBytes, mostEntries, entryBytes, field, entryOf, entries, unpadded, nameIn, ascending, filesFrom, filesOf, bundle}
 use Rattle.rules.specs.Names.{Name, nameOf, versionIn, checkpointIn, is}

@@ -1,8 +1,8 @@
 -- Where a file lies, and which number its entry has, does not matter: the same bodies read on the same facts give the same facts.
-use mathlib.Core.Path.{_≡_, refl, sym, _∙_, ap, ap₂, subst}
+use mathlib.Core.Path.{_≡_, refl, _∙_, ap, ap₂, subst}
 use mathlib.Core.Logic.{_⊎_, inl, inr}
 use mathlib.Core.Bool.{Bool, true, false, _&&_}
-use mathlib.Core.Option.{Option, none, some}
+use mathlib.Core.Option.{Option}
 use mathlib.Core.List.{List, [], _∷_, map}
 use Prim.Native.Nat.{ℕ, suc, _+_}
 use lib.Dec.{leb}
@@ -12,17 +12,17 @@ use Rattle.rules.specs.Bundle.{File}
 use Rattle.rules.specs.Lines.{lines, anyObject}
 use Rattle.rules.specs.Actions.{Facts, Protocol, MetaData, Action, add, remove, protocol, metaData, mergeskip, other, action}
 use Rattle.rules.specs.Live.{Row, pathOf, putBeside, takeIf, put, takeOut}
-use Rattle.rules.specs.Refusals.{Refusal, Answer, accepted, refused, _>>=_, orRefuse, require, malformed, tooManyLive, noSuchColumn, readerTooHigh, unknownFeature}
+use Rattle.rules.specs.Refusals.{_>>=_, Answer, accepted, orRefuse, require, malformed, tooManyLive, noSuchColumn, readerTooHigh, unknownFeature}
 use Rattle.rules.specs.History.{State, Said, effect, withinLimit, readLine, readLines, readFile, say, saidNothing, zeroLines, orUnstated, readZero}
 use Rattle.rules.specs.Starts.{Way, nothingLive, follow}
 use Rattle.rules.specs.Gate.{knownReader, knownWriter, readerNames, writerNames, gate, writable}
 use Rattle.rules.specs.Query.{Condition, columnOf}
-use Rattle.rules.specs.Picking.{valueAt, meetsValue, meetsAll, picked}
+use Rattle.rules.specs.Picking.{meetsValue, meetsAll, picked}
 use Rattle.rules.specs.Reading.{Listing, listing}
-use Rattle.rules.specs.Same.{SameFacts, SameRows, no-rows, row, SameProtocol, SameState, SameListing, SameAnswer, both-accepted, both-refused}
+use Rattle.rules.specs.Same.{SameFacts, SameRows, no-rows, row, SameProtocol, SameState, SameListing, SameAnswer, both-accepted}
 use Rattle.rules.proofs.Tests.{tests-equal}
 use Rattle.rules.proofs.Holding.{allAmong-holds, holds-allAmong}
-use Rattle.rules.proofs.Sameness.{same-facts-refl, same-rows-refl, same-protocol-refl, same-state-refl, same-state-trans, same-answer-refl}
+use Rattle.rules.proofs.Sameness.{same-facts-refl, same-protocol-refl, same-state-refl, same-state-trans, same-answer-refl}
 use Rattle.rules.proofs.Replaying.{Applied, readLine-accepted, Kept, follow-keeps}
 use Rattle.rules.proofs.Answers.{same-bind, same-orRefuse, same-require}
 

@@ -1,5 +1,5 @@
 -- What reading comes to, once the room, the query, the bundle and its names are passed.
-use mathlib.Core.Path.{_≡_, refl}
+use mathlib.Core.Path.{_≡_}
 use mathlib.Core.Bool.{false}
 use mathlib.Core.Option.{some}
 use mathlib.Core.List.{List}

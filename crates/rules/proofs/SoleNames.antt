@@ -3,13 +3,13 @@ use mathlib.Core.Path.{_≡_, refl, sym, _∙_, ap, ap₂, subst}
 use mathlib.Core.Logic.{_⊎_, inl, inr}
 use mathlib.Core.Bool.{Bool, true, false}
 use mathlib.Core.Option.{Option, none, some}
-use mathlib.Core.List.{[], _∷_, _++_}
+use mathlib.Core.List.{_++_, [], _∷_}
 use Prim.Native.Nat.{ℕ, _+_, _*_, _-_, _≤_}
 use native.Mathlib.Omega.{arith}
 use lib.Dec.{leb, eqb}
 use lib.ListN.{length, take, drop, length-take, length-drop, take-append-drop}
 use borrow.Author.Tests.{eqb-true}
-use Rattle.rules.specs.Bytes.{Bytes, _>>=_, guard, ascii, same, among}
+use Rattle.rules.specs.Bytes.{_>>=_, Bytes, guard, ascii, same, among}
 use Rattle.rules.specs.Numbers.{most, isDigit, decimalFrom, decimal}
 use Rattle.rules.specs.Bundle.{zeros, unpadded}
 use Rattle.rules.specs.Names.{Name, version, checkpoint, marker, other, tooLarge, numbered, withEnding, nameOf, versionIn, checkpointIn, is}
