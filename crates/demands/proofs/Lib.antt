@@ -5,3 +5,4 @@ pub mod FirstSentence
 pub mod Upward
 pub mod LastSentence
 pub mod Example
+pub mod Ending

@@ -5,3 +5,4 @@ pub mod FullHistory
 pub mod FirstSentence
 pub mod LastSentence
 pub mod Example
+pub mod Ending
