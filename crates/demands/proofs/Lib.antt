@@ -6,3 +6,4 @@ pub mod Upward
 pub mod LastSentence
 pub mod Example
 pub mod Ending
+pub mod LentRooms

@@ -29,7 +29,7 @@ module _ {B : Type 0} {Same : B → B → Type 0} where
 -- ---- what is refused
 
 -- 0 where accepted, and else the refusal's number
-pub numberOf : {A : Type 0} → Answer A → ℕ
+unfoldable pub numberOf : {A : Type 0} → Answer A → ℕ
 numberOf (accepted a) = 0
 numberOf (refused r) = r .number
 
