@@ -7,3 +7,5 @@ pub mod LastSentence
 pub mod Example
 pub mod Ending
 pub mod LentRooms
+pub mod FirstMet
+pub mod WayMet

@@ -6,3 +6,5 @@ pub mod FirstSentence
 pub mod LastSentence
 pub mod Example
 pub mod Ending
+pub mod Met
+pub mod Exactly

@@ -74,7 +74,7 @@ same-held-trans h k = record { table = h .table ∙ k .table; state = same-state
 pub nothingLive-same : (m m′ : MetaData) → m ≡ m′ → SameHeld (nothingLive m) (nothingLive m′)
 nothingLive-same m m′ e = subst (λ x. SameHeld (nothingLive m) (nothingLive x)) e (same-held-refl (nothingLive m))
 
-effect-same : (at at′ n n′ : ℕ) (a : Action) (s t : State) → SameHeld s t → SameHeld (effect at n a s) (effect at′ n′ a t)
+pub effect-same : (at at′ n n′ : ℕ) (a : Action) (s t : State) → SameHeld s t → SameHeld (effect at n a s) (effect at′ n′ a t)
 unfolding effect
 effect-same at at′ n n′ (add f) s t h = record {
   table = h .table;
