@@ -9,3 +9,5 @@ pub mod Ending
 pub mod LentRooms
 pub mod FirstMet
 pub mod WayMet
+pub mod Words
+pub mod Exactly
