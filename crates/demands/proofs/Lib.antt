@@ -11,3 +11,4 @@ pub mod FirstMet
 pub mod WayMet
 pub mod Words
 pub mod Exactly
+pub mod KeepingExactly

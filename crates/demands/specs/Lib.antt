@@ -8,3 +8,4 @@ pub mod Example
 pub mod Ending
 pub mod Met
 pub mod Exactly
+pub mod CleaningExactly
