@@ -1,11 +1,10 @@
 -- Demand 1: every step of an entry ends with an answer or with a refusal of its list.
-use mathlib.Core.Path.{_≡_, refl, sym, ap, subst}
+use mathlib.Core.Path.{_≡_, refl}
 use mathlib.Core.Logic.{_⊎_, inl, inr}
 use mathlib.Core.Bool.{Bool, true, false, not}
 use mathlib.Core.Option.{Option, none, some}
 use mathlib.Core.List.{List, [], _∷_, map}
-use Prim.Native.Nat.{ℕ, suc, _+_, _≤_}
-use native.Mathlib.Omega.{arith}
+use Prim.Native.Nat.{ℕ, suc, _+_}
 use lib.Dec.{eqb, leb}
 use lib.ListN.{length}
 use borrow.Author.Tests.{eqb-true}
@@ -20,14 +19,13 @@ use Rattle.rules.specs.Starts.{Log, logOf, startAt, Way, fromZero, fromCheckpoi
 use Rattle.rules.specs.Marker.{marked}
 use Rattle.rules.specs.Gate.{knownReader, readerNames, gate, writable}
 use Rattle.rules.specs.Query.{Condition, columnOf, query}
-use Rattle.rules.specs.Manifests.{manifests, mostManifests, keptFrom}
-use Rattle.rules.specs.Picking.{picked}
+use Rattle.rules.specs.Manifests.{manifests, mostManifests}
 use Rattle.rules.specs.Rooms.{rowsRoom, keptRoom}
-use Rattle.rules.specs.Reading.{Asked, versionAsked, Listing, stateBy, listing, listingBy, listingAt, reading}
+use Rattle.rules.specs.Reading.{versionAsked, stateBy, listing, listingBy, listingAt, reading}
 use Rattle.rules.specs.Keeping.{keeping}
 use Rattle.rules.specs.Agreement.{agree}
-use Rattle.rules.specs.Cleaning.{named, compared, cleanedBy, cleanedAt, Lent, enough, cleaning}
-use Rattle.rules.specs.Refusals.{Refusal, Answer, accepted, refused, _>>=_, orRefuse, require, plain, roomTooShort, bundleMalformed, versionTooLarge, noVersionZero, notKept, malformed, tooManyLive, readerTooHigh, unknownFeature, queryMalformed, noSuchColumn, notWritable, checkpointDisagrees, stateMalformed, tooManyManifests}
+use Rattle.rules.specs.Cleaning.{named, compared, cleanedBy, cleanedAt, enough, cleaning}
+use Rattle.rules.specs.Refusals.{Refusal, Answer, accepted, _>>=_, orRefuse, require, plain, roomTooShort, bundleMalformed, versionTooLarge, noVersionZero, notKept, malformed, tooManyLive, readerTooHigh, unknownFeature, queryMalformed, noSuchColumn, notWritable, checkpointDisagrees, stateMalformed, tooManyManifests}
 use Rattle.rules.proofs.Tests.{apart}
 use Rattle.demands.specs.Removed.{In}
 use Rattle.demands.specs.Ending.{OneOf, Ends, answered, refused-by, ReadingEnds, KeepingEnds, CleaningEnds}

@@ -1,58 +1,31 @@
 -- Demand 2 of reading and keeping: one condition holds for every input, each gives its refusal, and no two are the same refusal.
 use mathlib.Core.Path.{_≡_, refl, sym, _∙_, ap, subst}
-use mathlib.Core.Logic.{_⊎_, inl, inr, _↔_}
-use mathlib.Core.Bool.{Bool, true, false, not}
+use mathlib.Core.Logic.{inl, inr}
+use mathlib.Core.Bool.{Bool, true, false}
 use mathlib.Core.Option.{Option, none, some}
-use mathlib.Core.List.{List, [], _∷_, map}
+use mathlib.Core.List.{List}
 use Prim.Native.Nat.{ℕ, _≤_, _<_}
 use lib.Dec.{leb}
-use lib.ListN.{length}
 use borrow.Author.Tests.{leb-true, leb-false, le-leb, lt-leb}
 use Rattle.rules.specs.Bytes.{Bytes, allAmong}
 use Rattle.rules.specs.Bundle.{File, bundle}
 use Rattle.rules.specs.Names.{anyTooLarge}
 use Rattle.rules.specs.History.{State}
-use Rattle.rules.specs.Starts.{Log, logOf, Way, wayTo}
-use Rattle.rules.specs.Gate.{knownReader, readerNames, gate, writable}
-use Rattle.rules.specs.Query.{Condition, columnOf, query}
-use Rattle.rules.specs.Manifests.{Manifest, manifests, mostManifests, keptFrom}
-use Rattle.rules.specs.Rooms.{rowsRoom, keptRoom}
-use Rattle.rules.specs.Reading.{Asked, versionAsked, Listing, stateBy, listing, listingBy, listingAt, reading}
-use Rattle.rules.specs.Keeping.{keeping}
-use Rattle.rules.specs.Refusals.{Refusal, Answer, accepted, refused, roomTooShort, bundleMalformed, versionTooLarge, noVersionZero, notKept, malformed, tooManyLive, readerTooHigh, unknownFeature, queryMalformed, noSuchColumn, stateMalformed, tooManyManifests}
+use Rattle.rules.specs.Starts.{Way, wayTo}
+use Rattle.rules.specs.Gate.{knownReader, readerNames, gate}
+use Rattle.rules.specs.Query.{Condition, query}
+use Rattle.rules.specs.Rooms.{rowsRoom}
+use Rattle.rules.specs.Reading.{Asked, Listing, stateBy, listing, listingBy, listingAt, reading}
+use Rattle.rules.specs.Refusals.{Refusal, Answer, accepted, refused, roomTooShort, bundleMalformed, versionTooLarge, noVersionZero, notKept, malformed, tooManyLive, readerTooHigh, unknownFeature, queryMalformed, noSuchColumn}
 use Rattle.rules.proofs.Tests.{true-not-false}
 use Rattle.rules.proofs.Readings.{reading-is}
 use Rattle.demands.specs.Reaching.{There, NoStart}
-use Rattle.demands.specs.Met.{MetIn, malformed-line, too-many, no-object, MetInZero, out-of-place, no-metaData, MetOn, in-checkpoint, earlier, in-version, Met, in-zero, on-way}
-use Rattle.demands.specs.Exactly.{SomeTooLarge, Unknown, Readable, Opened, logIn, versionIn, Reached, Read, columnsAsked, answerOf, ReadingExactly, ReadingRefusesExactly, KeepingExactly, KeepingRefusesExactly}
+use Rattle.demands.specs.Met.{Met}
+use Rattle.demands.specs.Exactly.{SomeTooLarge, Unknown, Readable, Opened, logIn, versionIn, Reached, Read, columnsAsked, answerOf, ReadingRefusesExactly}
 use Rattle.demands.proofs.Starts.{no-way-no-start, way-some-start}
 use Rattle.demands.proofs.Readable.{stateBy-is}
-use Rattle.demands.proofs.WayMet.{fromZeroOn, way-met, met-way}
+use Rattle.demands.proofs.WayMet.{SixOrSeven, met-number, fromZeroOn, way-met, met-way}
 use Rattle.demands.proofs.Words.{anyTooLarge-some, some-anyTooLarge, none-anyTooLarge, allAmong-unknown, unknown-allAmong, known-allAmong, allAmong-known}
-
--- ---- what is met is refused by 6 or 7
-
-abbrev SixOrSeven : Refusal → Type 0
-SixOrSeven r = ((e l : ℕ) × (r ≡ malformed e l)) ⊎ ((e l : ℕ) × (r ≡ tooManyLive e l))
-
-metIn-number : (f : File) (st : State) (r : Refusal) → MetIn f st r → SixOrSeven r
-metIn-number f st _ (malformed-line l e) = inl (_, _, refl)
-metIn-number f st _ (too-many l a e m) = inr (_, _, refl)
-metIn-number f st _ (no-object e) = inl (_, _, refl)
-
-metOn-number : (z : State) (w : Way) (r : Refusal) → MetOn z w r → SixOrSeven r
-metOn-number z _ r (in-checkpoint {f = f} h) = metIn-number f _ r h
-metOn-number z _ r (earlier {w = w} h) = metOn-number z w r h
-metOn-number z _ r (in-version {g = g} st e h) = metIn-number g st r h
-
-met-number : (zf : File) (w : Way) (r : Refusal) → Met zf w r → SixOrSeven r
-met-number zf w r (in-zero h) = zero h
-  where
-    zero : {x : Refusal} → MetInZero zf x → SixOrSeven x
-    zero (malformed-line l e) = inl (_, _, refl)
-    zero (out-of-place l a e q) = inl (_, _, refl)
-    zero (no-metaData s e q) = inl (_, _, refl)
-met-number zf w r (on-way z e h) = metOn-number z w r h
 
 -- ---- the conditions of reading, each with its answer
 

@@ -1,10 +1,10 @@
 -- Reading is refused exactly at the first line met: forward by the steps of the reading, backward by the lines before it, which are accepted.
 use mathlib.Core.Path.{_≡_, refl, sym, _∙_, ap, subst}
-use mathlib.Core.Logic.{_⊎_, inl, inr, _↔_}
+use mathlib.Core.Logic.{_⊎_, inl, inr}
 use mathlib.Core.Bool.{Bool, true, false}
 use mathlib.Core.Option.{Option, none, some}
 use mathlib.Core.List.{List, [], _∷_, _++_}
-use Prim.Native.Nat.{ℕ, zero, suc, _+_, _≤_, _<_}
+use Prim.Native.Nat.{ℕ, suc, _+_, _<_}
 use native.Mathlib.Omega.{arith}
 use lib.Dec.{leb}
 use lib.ListN.{length}
@@ -12,16 +12,14 @@ use borrow.Author.Tests.{leb-false, lt-leb}
 use Rattle.rules.specs.Bytes.{Bytes}
 use Rattle.rules.specs.Bundle.{File}
 use Rattle.rules.specs.Lines.{lines, anyObject}
-use Rattle.rules.specs.Actions.{MetaData, Action, action}
+use Rattle.rules.specs.Actions.{Action, action}
 use Rattle.rules.specs.Live.{mostLive}
-use Rattle.rules.specs.History.{State, Said, effect, withinLimit, readLine, readLines, readFile, saidNothing, say, zeroLines, orUnstated, readZero}
-use Rattle.rules.specs.Starts.{Way, fromZero, fromCheckpoint, andThen, nothingLive, follow}
+use Rattle.rules.specs.History.{State, effect, withinLimit, readLine, readLines, readFile}
 use Rattle.rules.specs.Refusals.{Refusal, Answer, accepted, refused, _>>=_, orRefuse, require, malformed, tooManyLive}
 use Rattle.rules.proofs.Tests.{apart}
 use Rattle.rules.proofs.Answers.{bind-refused}
 use Rattle.rules.proofs.Moving.{effect-same, same-held-refl, same-rows-length}
-use Rattle.demands.specs.Met.{Line, MetIn, malformed-line, too-many, no-object, ZeroLine, MetInZero, out-of-place, no-metaData, MetOn, in-checkpoint, earlier, in-version, Met, in-zero, on-way}
-use Rattle.demands.specs.Met as Spec
+use Rattle.demands.specs.Met.{Line, MetIn, malformed-line, too-many, no-object}
 
 -- ---- steps that refuse
 
@@ -104,12 +102,16 @@ readLines-stop e k at (l ∷ ls) st r h = go (bind-refused (readLine mostLive e 
     go (inr (next, x, y)) ih =
         let p = ih next y in
         record {
-          before = l ∷ p .before; line = p .line; behind = p .behind;
+          before = l ∷ p .before;
+          line = p .line;
+          behind = p .behind;
           split = ap (λ (xs : List Bytes). l ∷ xs) (p .split);
           come-to = p .come-to;
           accepted-before = rw x (p .accepted-before);
-          number = p .number; numbered = omega (arith, p .numbered);
-          at-line = p .at-line; refuses = p .refuses;
+          number = p .number;
+          numbered = omega (arith, p .numbered);
+          at-line = p .at-line;
+          refuses = p .refuses;
         }
 
 -- past lines that are accepted, reading goes on with the next number
@@ -124,7 +126,7 @@ readLines-past e k at (l ∷ ls) rest st to h = go (readLine mostLive e k at l s
   where
     go : (a : Answer State) → (a >>= (λ next. readLines mostLive e (suc k) (at + length l + 1) ls next)) ≡ accepted to
         → ((next : State) → readLines mostLive e (suc k) (at + length l + 1) ls next ≡ accepted to
-            → (at′ : ℕ) × (readLines mostLive e (suc k) (at + length l + 1) (ls ++ rest) next ≡ readLines mostLive e (length ls + suc k) at′ rest to))
+        → (at′ : ℕ) × (readLines mostLive e (suc k) (at + length l + 1) (ls ++ rest) next ≡ readLines mostLive e (length ls + suc k) at′ rest to))
         → (at′ : ℕ) × ((a >>= (λ next. readLines mostLive e (suc k) (at + length l + 1) (ls ++ rest) next)) ≡ readLines mostLive e (suc (length ls) + k) at′ rest to)
     go (accepted next) h ih =
         let p = ih next h in
@@ -186,7 +188,7 @@ met-readFile f st r h = go h
         let p = readLines-past (f .entry) 1 (f .start) (l .before) (l .line ∷ l .behind) st (l .come-to) (l .accepted-before) in
         let n : length (l .before) + 1 ≡ suc (length (l .before)) = omega arith in
         let q : readLine mostLive (f .entry) (length (l .before) + 1) (p .0) (l .line) (l .come-to) ≡ refused x =
-              rw n (refused-readLine (f .entry) (suc (length (l .before))) (p .0) (l .line) (l .come-to) x (l .not-empty) h) in
+        rw n (refused-readLine (f .entry) (suc (length (l .before))) (p .0) (l .line) (l .come-to) x (l .not-empty) h) in
         rw (l .split, p .1, q)
 
     go : {x : Refusal} → MetIn f st x → (readLines mostLive (f .entry) 1 (f .start) (lines (f .body)) st >>= ended) ≡ refused x

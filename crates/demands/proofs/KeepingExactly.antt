@@ -14,7 +14,7 @@ use Rattle.rules.specs.Rooms.{keptRoom}
 use Rattle.rules.specs.Keeping.{keeping}
 use Rattle.rules.specs.Refusals.{Answer, accepted, refused, roomTooShort, queryMalformed, stateMalformed, tooManyManifests}
 use Rattle.demands.specs.Reaching.{There}
-use Rattle.demands.specs.Exactly.{KeepingExactly, KeepingRefusesExactly}
+use Rattle.demands.specs.Exactly.{KeepingRefusesExactly}
 
 module _ (room : ℕ) (state q : Bytes) where
   data Says : Answer (List ℕ) → Type 0 where
@@ -56,7 +56,7 @@ keeping-exactly room state q = record {
   no-15 = ((λ e. f15 (keeping-says room state q (refused tooManyManifests) e)), λ c. says-keeping room state q _ (many (c .0) (c .1) (c .2 .0) (c .2 .1) (c .2 .2)));
   no-0 = λ ks. (
     (λ e. f0 ks (keeping-says room state q (accepted ks) e)),
-    λ c. says-keeping room state q _ (answer (c .0) (c .1 .0) (c .1 .1) (c .1 .2 .0) (c .1 .2 .1) (c .1 .2 .2)) ∙ ap accepted (c .1 .2 .3)
+    λ c. says-keeping room state q _ (answer (c .0) (c .1 .0) (c .1 .1) (c .1 .2 .0) (c .1 .2 .1) (c .1 .2 .2)) ∙ ap accepted (c .1 .2 .3),
   );
 }
   where

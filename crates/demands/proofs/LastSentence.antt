@@ -68,7 +68,7 @@ module _ (c now retention : ℕ) where
 abbrev Between : ℕ → File → Type 0
 Between c f = (w : ℕ) × (nameOf (f .name) ≡ version w) × (0 < w) × (w < c)
 
-isBetween-version : (c : ℕ) (n : Name) → isBetween c (versionIn n) ≡ true → (w : ℕ) × (n ≡ version w) × (0 < w) × (w < c)
+pub isBetween-version : (c : ℕ) (n : Name) → isBetween c (versionIn n) ≡ true → (w : ℕ) × (n ≡ version w) × (0 < w) × (w < c)
 unfolding isBetween versionIn
 isBetween-version c (version w) e = (w, refl, ltb-true 0 w (and-left (ltb 0 w) (ltb w c) e), ltb-true w c (and-right (ltb 0 w) (ltb w c) e))
 isBetween-version c (checkpoint w) e = apart (cc)

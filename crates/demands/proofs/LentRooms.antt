@@ -25,13 +25,13 @@ use Rattle.rules.specs.Rooms.{Room, rowsRoom, keptRoom, namesRoom, filled, leav
 use Rattle.rules.specs.Reading.{Asked, versionAsked, Listing, stateBy, listing, listingBy, listingAt, reading, roomAfterReading}
 use Rattle.rules.specs.Keeping.{keeping, roomAfterKeeping}
 use Rattle.rules.specs.Cleaning.{mayGo, named, compared, cleanedBy, cleanedAt, Lent, enough, cleaning, namesAfterCleaning, tableAfterCleaning}
-use Rattle.rules.specs.Refusals.{Refusal, Answer, accepted, refused, _>>=_, orRefuse, require, roomTooShort, bundleMalformed, versionTooLarge, noVersionZero, queryMalformed, noSuchColumn, stateMalformed, tooManyManifests}
-use Rattle.rules.proofs.Tests.{apart, by, and-left, and-right}
+use Rattle.rules.specs.Refusals.{Answer, accepted, refused, _>>=_, orRefuse, require, roomTooShort, bundleMalformed, versionTooLarge, noVersionZero, queryMalformed, noSuchColumn, stateMalformed, tooManyManifests}
+use Rattle.rules.proofs.Tests.{apart, and-left, and-right}
 use Rattle.rules.proofs.Replaying.{bind-accepted, require-accepted, stateBy-live}
 use Rattle.rules.proofs.Rooms.{length-filled, leaves-accepted, leaves-untouched, leaves-zeros}
 use Rattle.rules.proofs.Answers.{numberOf, refused-number}
 use Rattle.rules.proofs.Bundles.{bundle-sound}
-use Rattle.demands.specs.Ending.{RoomEnds, ReadingRoomEnds, KeepingRoomEnds, lengths, CleaningRooms, CleaningRoomsEnd}
+use Rattle.demands.specs.Ending.{RoomEnds, ReadingRoomEnds, KeepingRoomEnds, lengths, CleaningRoomsEnd}
 
 -- ---- a room that is filled
 

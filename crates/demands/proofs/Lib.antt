@@ -12,3 +12,5 @@ pub mod WayMet
 pub mod Words
 pub mod Exactly
 pub mod KeepingExactly
+pub mod CleaningWords
+pub mod CleaningExactly

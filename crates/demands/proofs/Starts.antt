@@ -46,7 +46,7 @@ byStart-some (some f) k w e = inl (f, refl, cc)
 
 -- ---- no way, no start
 
-not-there : {A : Type 0} {o : Option A} → o ≡ none → There o → ⊥
+pub not-there : {A : Type 0} {o : Option A} → o ≡ none → There o → ⊥
 not-there e (x, h) = apart (cc)
 
 -- a start at suc v is a checkpoint
@@ -98,16 +98,17 @@ way-highest log (suc v) w e = go (byStart-some (startAt log (suc v)) (λ _. byFi
 
 -- ---- a way, some start
 
+pub reaches-next : (log : Log) (s v : ℕ) → Reaches log s v → There (log .versionFile (suc v)) → Reaches log s (suc v)
+reaches-next log s v r t = record { below = omega (arith, r .below); between = λ x a b. go x a b (decLe x v) }
+  where
+    go : (x : ℕ) → s < x → x ≤ suc v → Dec (x ≤ v) → There (log .versionFile x)
+    go x a b (yes l) = r .between x a l
+    go x a b (no n) = let q : suc v ≡ x = omega arith in subst (λ (y : ℕ). There (log .versionFile y)) q t
+
 from-reaches : (log : Log) (s v : ℕ) (w : Way) → From log s v w → Reaches log s v
 from-reaches log s v w (at-checkpoint e) = record { below = omega arith; between = λ x a b. absurd (omega arith) }
 from-reaches log s v w (at-zero e) = record { below = omega arith; between = λ x a b. absurd (omega arith) }
-from-reaches log s _ _ (and-then {v = v} {w = w} {g = g} h e) =
-    let r = from-reaches log s v w h in
-    record { below = omega (arith, r .below); between = λ x a b. go r x a b (decLe x v) }
-  where
-    go : Reaches log s v → (x : ℕ) → s < x → x ≤ suc v → Dec (x ≤ v) → There (log .versionFile x)
-    go r x a b (yes l) = r .between x a l
-    go r x a b (no n) = let q : suc v ≡ x = omega arith in subst (λ (y : ℕ). There (log .versionFile y)) q (g, e)
+from-reaches log s _ _ (and-then {v = v} {w = w} {g = g} h e) = reaches-next log s v (from-reaches log s v w h) (g, e)
 
 from-start : (log : Log) (s v : ℕ) (w : Way) → There (log .versionFile 0) → From log s v w → IsStart log s
 from-start log s v w z (at-checkpoint {f = f} e) = inr (f, e)

@@ -98,7 +98,7 @@ way-same c log log′ h a (suc v) l =
 
 -- ---- the marker, and the latest
 
-marked-start : (log : Log) (c : ℕ) → marked log ≡ some c → There (startAt log c)
+pub marked-start : (log : Log) (c : ℕ) → marked log ≡ some c → There (startAt log c)
 unfolding marked
 marked-start log c e =
     let a = bind-some (log .markerFile) (λ m. markerVersion (m .body) >>= (λ d. startAt log d >>= (λ _. some d))) e in

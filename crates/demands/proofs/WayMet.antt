@@ -13,11 +13,11 @@ use Rattle.rules.specs.Actions.{MetaData, Action, action}
 use Rattle.rules.specs.Live.{mostLive}
 use Rattle.rules.specs.History.{State, Said, readFile, saidNothing, say, zeroLines, orUnstated, readZero}
 use Rattle.rules.specs.Starts.{Way, fromZero, fromCheckpoint, andThen, nothingLive, follow}
-use Rattle.rules.specs.Refusals.{Refusal, Answer, accepted, refused, _>>=_, orRefuse, malformed}
+use Rattle.rules.specs.Refusals.{Refusal, Answer, accepted, refused, _>>=_, orRefuse, malformed, tooManyLive}
 use Rattle.rules.proofs.Tests.{apart}
 use Rattle.rules.proofs.Answers.{bind-refused}
-use Rattle.demands.specs.Met.{ZeroLine, MetInZero, malformed-line, out-of-place, no-metaData, MetOn, in-checkpoint, earlier, in-version, Met, in-zero, on-way}
-use Rattle.demands.proofs.FirstMet.{orRefuse-refused, orRefuse-accepted, readFile-met, met-readFile}
+use Rattle.demands.specs.Met.{MetIn, too-many, no-object, ZeroLine, MetInZero, malformed-line, out-of-place, no-metaData, MetOn, in-checkpoint, earlier, in-version, Met, in-zero, on-way}
+use Rattle.demands.proofs.FirstMet.{orRefuse-refused, readFile-met, met-readFile}
 
 -- ---- lines of version 0
 
@@ -43,7 +43,9 @@ stop-later : (e k : ℕ) (l : Bytes) (ls : List Bytes) (s next : Said) (r : Refu
 stop-later e k l ls s next r x p =
     let n : k + length (l ∷ p .before) ≡ suc k + length (p .before) = omega arith in
     record {
-      before = l ∷ p .before; line = p .line; behind = p .behind;
+      before = l ∷ p .before;
+      line = p .line;
+      behind = p .behind;
       split = ap (λ (xs : List Bytes). l ∷ xs) (p .split);
       not-empty = p .not-empty;
       said = p .said;
@@ -110,7 +112,7 @@ readZero-is : (f : File) → readZero f ≡ (zeroLines (f .entry) 1 (lines (f .b
 unfolding readZero finish stateOf
 readZero-is f = refl
 
-readZero-met : (f : File) (r : Refusal) → readZero f ≡ refused r → MetInZero f r
+pub readZero-met : (f : File) (r : Refusal) → readZero f ≡ refused r → MetInZero f r
 unfolding finish
 readZero-met f r h = go (bind-refused (zeroLines (f .entry) 1 (lines (f .body)) saidNothing) (finish (f .entry)) (sym (readZero-is f) ∙ h))
   where
@@ -143,7 +145,7 @@ refused-line e k [] ls s n c = absurd (n refl)
 refused-line e k (b ∷ bs) ls s n (by-form q) = rw q
 refused-line e k (b ∷ bs) ls s n (by-place a q p) = rw (q, p)
 
-met-readZero : (f : File) (r : Refusal) → MetInZero f r → readZero f ≡ refused r
+pub met-readZero : (f : File) (r : Refusal) → MetInZero f r → readZero f ≡ refused r
 unfolding finish
 met-readZero f r h = go h
   where
@@ -161,7 +163,7 @@ met-readZero f r h = go h
 
 -- ---- the way
 
-follow-met : (z : State) (w : Way) (r : Refusal) → follow mostLive z w ≡ refused r → MetOn z w r
+pub follow-met : (z : State) (w : Way) (r : Refusal) → follow mostLive z w ≡ refused r → MetOn z w r
 unfolding follow
 follow-met z fromZero r h = apart (cc)
 follow-met z (fromCheckpoint f) r h = in-checkpoint (readFile-met f (nothingLive (z .table)) r h)
@@ -171,7 +173,7 @@ follow-met z (andThen w g) r h = go (bind-refused (follow mostLive z w) (λ st. 
     go (inl x) ih = earlier (ih x)
     go (inr (st, x, y)) ih = in-version st x (readFile-met g st r y)
 
-met-follow : (z : State) (w : Way) (r : Refusal) → MetOn z w r → follow mostLive z w ≡ refused r
+pub met-follow : (z : State) (w : Way) (r : Refusal) → MetOn z w r → follow mostLive z w ≡ refused r
 unfolding follow
 met-follow z _ r (in-checkpoint {f = f} h) = met-readFile f (nothingLive (z .table)) r h
 met-follow z _ r (earlier {w = w} h) = rw (met-follow z w r h)
@@ -190,3 +192,27 @@ way-met zf w r h = go (bind-refused (readZero zf) (λ z. follow mostLive z w) h)
 pub met-way : (zf : File) (w : Way) (r : Refusal) → Met zf w r → fromZeroOn zf w ≡ refused r
 met-way zf w r (in-zero h) = rw (met-readZero zf r h)
 met-way zf w r (on-way z e h) = rw (e, met-follow z w r h)
+
+-- ---- what is met is refused by 6 or 7
+
+abbrev pub SixOrSeven : Refusal → Type 0
+SixOrSeven r = ((e l : ℕ) × (r ≡ malformed e l)) ⊎ ((e l : ℕ) × (r ≡ tooManyLive e l))
+
+pub metIn-number : (f : File) (st : State) (r : Refusal) → MetIn f st r → SixOrSeven r
+metIn-number f st _ (malformed-line l e) = inl (_, _, refl)
+metIn-number f st _ (too-many l a e m) = inr (_, _, refl)
+metIn-number f st _ (no-object e) = inl (_, _, refl)
+
+pub metOn-number : (z : State) (w : Way) (r : Refusal) → MetOn z w r → SixOrSeven r
+metOn-number z _ r (in-checkpoint {f = f} h) = metIn-number f _ r h
+metOn-number z _ r (earlier {w = w} h) = metOn-number z w r h
+metOn-number z _ r (in-version {g = g} st e h) = metIn-number g st r h
+
+pub metInZero-number : (f : File) (r : Refusal) → MetInZero f r → SixOrSeven r
+metInZero-number f _ (malformed-line l e) = inl (_, _, refl)
+metInZero-number f _ (out-of-place l a e q) = inl (_, _, refl)
+metInZero-number f _ (no-metaData s e q) = inl (_, _, refl)
+
+pub met-number : (zf : File) (w : Way) (r : Refusal) → Met zf w r → SixOrSeven r
+met-number zf w r (in-zero h) = metInZero-number zf r h
+met-number zf w r (on-way z e h) = metOn-number z w r h

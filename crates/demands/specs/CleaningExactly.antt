@@ -102,8 +102,8 @@ pub record CleaningExactly (lent : Lent) (s : Bytes) (now retention : ℕ) : Typ
   -- accepted: nothing to name, or what is named
   pub no-0 : (es : List ℕ) → (cleaning lent s now retention ≡ accepted es)
       ↔ (((b : Begun lent s) × NothingToName (logOf (b .fs)) × ([] ≡ es))
-          ⊎ ((c : Compared lent s) × Readable (c .mine .inForce) × (NotWritable (c .mine .inForce) → ⊥) × SameState (c .mine) (c .theirs)
-              × (named (c .comparing .c) now retention (c .comparing .begun .fs) ≡ es)))
+      ⊎ ((c : Compared lent s) × Readable (c .mine .inForce) × (NotWritable (c .mine .inForce) → ⊥) × SameState (c .mine) (c .theirs)
+      × (named (c .comparing .c) now retention (c .comparing .begun .fs) ≡ es)))
 
 abbrev pub CleaningRefusesExactly : Type 0
 CleaningRefusesExactly = (lent : Lent) (s : Bytes) (now retention : ℕ) → CleaningExactly lent s now retention

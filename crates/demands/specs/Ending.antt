@@ -2,7 +2,7 @@
 -- that the paper lists for it. Room that is too short is left untouched; after any other refusal the stated rooms hold zeros; beyond, and in length, they stay.
 use mathlib.Core.Path.{_≡_}
 use mathlib.Core.List.{List, [], _∷_}
-use Prim.Native.Nat.{ℕ, _<_}
+use Prim.Native.Nat.{ℕ}
 use lib.ListN.{length, take, drop, replicate}
 use Rattle.rules.specs.Bytes.{Bytes}
 use Rattle.rules.specs.Rooms.{Room, rowsRoom, keptRoom, namesRoom}
