@@ -14,3 +14,4 @@ pub mod Exactly
 pub mod KeepingExactly
 pub mod CleaningWords
 pub mod CleaningExactly
+pub mod WrongPrograms

@@ -9,3 +9,4 @@ pub mod Ending
 pub mod Met
 pub mod Exactly
 pub mod CleaningExactly
+pub mod WrongPrograms
