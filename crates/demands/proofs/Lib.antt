@@ -14,4 +14,5 @@ pub mod Exactly
 pub mod KeepingExactly
 pub mod CleaningWords
 pub mod CleaningExactly
+pub mod Choosing
 pub mod WrongPrograms

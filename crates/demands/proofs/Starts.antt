@@ -74,7 +74,7 @@ no-way-no-start log (suc v) e s st r =
 
 -- ---- the way begins at the highest start
 
-pub way-highest : ReadFromTheHighest
+way-highest : (log : Log) (v : ℕ) (w : Way) → wayTo log v ≡ some w → Highest log v w
 unfolding wayTo
 way-highest log zero w e = go (byStart-some (startAt log zero) (λ _. some fromZero) w e)
   where
@@ -119,6 +119,25 @@ pub way-some-start : (log : Log) (v : ℕ) (w : Way) → There (log .versionFile
 way-some-start log v w z e =
     let p = way-highest log v w e in
     record { s = p .s; start = from-start log (p .s) v w z (p .begins); reaches = from-reaches log (p .s) v w (p .begins) }
+
+-- the highest start gives the way
+highest-way : (log : Log) (s v : ℕ) (w : Way) → From log s v w → ((t : ℕ) → IsStart log t → Reaches log t v → t ≤ s) → wayTo log v ≡ some w
+unfolding wayTo byStart byFile onwardBy
+highest-way log s zero _ (at-checkpoint e) h = rw e
+highest-way log s (suc v) _ (at-checkpoint e) h = rw e
+highest-way log s _ _ (at-zero e) h = rw e
+highest-way log s _ _ (and-then {v = v} {w = w} {g = g} f e) h =
+    let r = from-reaches log s v w f in
+    rw (no-start (startAt log (suc v)) refl (r .below), e, highest-way log s v w f (λ t i q. h t i (reaches-next log t v q (g, e))))
+  where
+    no-start : (o : Option File) → startAt log (suc v) ≡ o → s ≤ v → o ≡ none
+    no-start none q l = refl
+    no-start (some c) q l =
+        let m : suc v ≤ s = h (suc v) (inr (c, q)) (record { below = omega arith; between = λ x a b. absurd (omega arith) }) in
+        absurd (omega arith)
+
+pub read-from-the-highest : ReadFromTheHighest
+read-from-the-highest log v w = (way-highest log v w, (λ p. highest-way log (p .s) v w (p .begins) (p .highest)))
 
 -- ---- the latest version
 

@@ -81,8 +81,8 @@ module _ (p : Reader) (k : KeepsPromise p) where
   not-same-table : SameTableForAll p → ⊥
   not-same-table h =
       let e : _≡_ {A = ℕ} 1 0 =
-            sym size-live ∙ sym (ap sizeIn (leaves-as p k removedAndAdded theLatest)) ∙ ap sizeIn (h sevens removedAndAdded addedAndRemoved all theLatest)
-            ∙ ap sizeIn (leaves-as p k addedAndRemoved theLatest) ∙ size-none in
+      sym size-live ∙ sym (ap sizeIn (leaves-as p k removedAndAdded theLatest)) ∙ ap sizeIn (h sevens removedAndAdded addedAndRemoved all theLatest)
+      ∙ ap sizeIn (leaves-as p k addedAndRemoved theLatest) ∙ size-none in
       omega arith
 
   not-silent : WritesNothing p → ⊥
@@ -93,8 +93,8 @@ module _ (p : Reader) (k : KeepsPromise p) where
   not-first-only : AppliesTheFirstOnly p → ⊥
   not-first-only h =
       let e : _≡_ {A = ℕ} 0 1 =
-            sym size-at-2 ∙ sym (ap sizeIn (leaves-as p k removedLater (theVersion 2))) ∙ ap sizeIn (h sevens removedLater all 1)
-            ∙ ap sizeIn (leaves-as p k removedLater (theVersion 1)) ∙ size-at-1 in
+      sym size-at-2 ∙ sym (ap sizeIn (leaves-as p k removedLater (theVersion 2))) ∙ ap sizeIn (h sevens removedLater all 1)
+      ∙ ap sizeIn (leaves-as p k removedLater (theVersion 1)) ∙ size-at-1 in
       omega arith
 
   count-is : (s : Bytes) (n : ℕ) → countIn (told (reading rowsRoom s all theLatest)) ≡ some n → (t : Told) × (p .answer sevens s all theLatest ≡ accepted t) × (t .count ≡ n)

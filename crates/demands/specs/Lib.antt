@@ -9,4 +9,5 @@ pub mod Ending
 pub mod Met
 pub mod Exactly
 pub mod CleaningExactly
+pub mod Choosing
 pub mod WrongPrograms

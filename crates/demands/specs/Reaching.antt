@@ -1,6 +1,6 @@
 -- Starts, and what they reach, as the paper says it; beside them the way that the rules take.
 use mathlib.Core.Path.{_≡_}
-use mathlib.Core.Logic.{_⊎_}
+use mathlib.Core.Logic.{_⊎_, _↔_}
 use mathlib.Core.Option.{Option, none, some}
 use Prim.Native.Nat.{ℕ, suc, _≤_, _<_}
 use Rattle.rules.specs.Numbers.{most}
@@ -42,7 +42,7 @@ pub record Highest (log : Log) (v : ℕ) (w : Way) : Type 0 where
   pub highest : (t : ℕ) → IsStart log t → Reaches log t v → t ≤ s
 
 abbrev pub ReadFromTheHighest : Type 0
-ReadFromTheHighest = (log : Log) (v : ℕ) (w : Way) → wayTo log v ≡ some w → Highest log v w
+ReadFromTheHighest = (log : Log) (v : ℕ) (w : Way) → (wayTo log v ≡ some w) ↔ Highest log v w
 
 -- ---- the latest version is the highest one reached from the marker's checkpoint, or from version 0: reading stops at a gap
 
