@@ -15,4 +15,5 @@ pub mod KeepingExactly
 pub mod CleaningWords
 pub mod CleaningExactly
 pub mod Choosing
+pub mod Showing
 pub mod WrongPrograms

@@ -10,4 +10,5 @@ pub mod Met
 pub mod Exactly
 pub mod CleaningExactly
 pub mod Choosing
+pub mod Showing
 pub mod WrongPrograms

@@ -20,3 +20,4 @@ pub mod Moving
 pub mod SoleNames
 pub mod Bundles
 pub mod Readings
+pub mod TextParts
