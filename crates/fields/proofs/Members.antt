@@ -2,7 +2,7 @@
 use mathlib.Core.Path.{_≡_, refl, sym, ap, _∙_}
 use mathlib.Core.Bool.{true, false}
 use mathlib.Core.Option.{Option, none, some}
-use Prim.Native.Nat.{ℕ, _+_, _-_, _≤_}
+use Prim.Native.Nat.{ℕ, _+_, _-_, _≤_, _<_}
 use native.Mathlib.Omega.{arith}
 use lib.ListN.{length, take, drop}
 use Rattle.rules.specs.Bytes.{Bytes, _>>=_}
@@ -12,6 +12,7 @@ use Rattle.rules.specs.Json.Values.{colon, member}
 use Rattle.rules.proofs.Tests.{apart}
 use Rattle.rules.proofs.Json.Shadows.{behind-some}
 use Rattle.rules.proofs.Json.Places.{member-place}
+use Rattle.strings.specs.Decoded.{decoded}
 use Rattle.strings.proofs.Decoding.{decoded-some}
 use Rattle.fields.specs.Places.{valueIn}
 use Rattle.fields.specs.Spelled.{nameIn, Named, Quoted, Stands}
@@ -19,11 +20,11 @@ use Rattle.fields.specs.declared.names.Spell.{Spell}
 
 pub named-plain : (s : Text) (i e : ℕ) → string (drop i s) ≡ some (take (e - 1 - i) (drop i s), drop e s) → i + 1 ≤ e → e ≤ length s
     → Named s (record { at = i; end = e; plain = true })
-named-plain s i e f h k = record { closed = ap behind f; from = h; within = k; raw = λ _. decoded-some (drop i s) f }
+named-plain s i e f h k = record { closed = ap behind f; from = h; within = k; raw = λ _. decoded-some (drop i s) f; fewer = λ p. apart (cc) }
 
-pub named-escaped : (s : Text) (i e : ℕ) → behind (string (drop i s)) ≡ some (drop e s) → i + 1 ≤ e → e ≤ length s
+pub named-escaped : (s : Text) (i e : ℕ) → behind (string (drop i s)) ≡ some (drop e s) → i + 1 ≤ e → e ≤ length s → length (decoded (drop i s)) < e - 1 - i
     → Named s (record { at = i; end = e; plain = false })
-named-escaped s i e f h k = record { closed = f; from = h; within = k; raw = λ p. apart (cc) }
+named-escaped s i e f h k l = record { closed = f; from = h; within = k; raw = λ p. apart (cc); fewer = λ _. l }
 
 pub named-string : (s : Text) (n : Spell) → Named s n → string (drop (n .at) s) ≡ some (nameIn s n, drop (n .end) s)
 named-string s n d =

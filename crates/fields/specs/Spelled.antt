@@ -1,8 +1,8 @@
 -- A name as it stands in a text, and a member that was read, by positions.
 use mathlib.Core.Path.{_≡_}
-use mathlib.Core.Bool.{true}
+use mathlib.Core.Bool.{true, false}
 use mathlib.Core.Option.{Option, none, some}
-use Prim.Native.Nat.{ℕ, _+_, _-_, _≤_}
+use Prim.Native.Nat.{ℕ, _+_, _-_, _≤_, _<_}
 use lib.ListN.{length, take, drop}
 use Rattle.rules.specs.Bytes.{Bytes, _>>=_}
 use Rattle.rules.specs.Json.Text.{Text, behind, byte}
@@ -25,6 +25,7 @@ pub record Named (s : Text) (n : Spell) : Type 0 where
   pub from : n .at + 1 ≤ n .end
   pub within : n .end ≤ length s
   pub raw : n .plain ≡ true → nameIn s n ≡ take (n .end - 1 - n .at) (drop (n .at) s)
+  pub fewer : n .plain ≡ false → length (nameIn s n) < n .end - 1 - n .at
 
 -- in quotes, the first at `at`
 pub record Quoted (s : Text) (at : ℕ) (n : Spell) : Type 0 where

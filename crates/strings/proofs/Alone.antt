@@ -10,6 +10,7 @@ use lib.Seq.{length-take-le}
 use Rattle.rules.specs.Json.Text.{Text, behind}
 use Rattle.rules.specs.Json.Strings.{string}
 use Rattle.rules.proofs.Tests.{apart}
+use Rattle.text.proofs.Alone.{left-alone}
 use Rattle.rules.proofs.Json.Suffix.{some-same, answered-none}
 use Rattle.strings.specs.Decoded.{decoded}
 use Rattle.strings.specs.Scanned.{Scanned}
@@ -20,10 +21,6 @@ use Rattle.strings.specs.declared.steps.Cursor.{Cursor}
 use Rattle.strings.specs.declared.steps.Step.{Step}
 use Rattle.strings.specs.declared.steps.Step.the-variants.{Byte, End}
 use Rattle.strings.proofs.Decoding.{decoded-some}
-
--- what is left fixes the position
-pub left-alone : (s : Text) (i j : ℕ) → i ≤ length s → j ≤ length s → drop i s ≡ drop j s → i ≡ j
-left-alone s i j h k e = omega (arith, length-drop i s, length-drop j s, ap length e)
 
 module _ (s : Text) (at : ℕ) where
   -- up to where a string goes, plain or not
