@@ -52,12 +52,15 @@ pub record Array (o : Option (List rCondition × Text)) (q : Text) (end n : ℕ)
   pub all : o ≡ some (conditionsOf q n cs, drop end q)
   pub within : end ≤ length q
 
-abbrev pub GatheredBy : Option (List rCondition × Text) → Text → (good : Bool) → (end n : ℕ) → List Condition → Type 0
-GatheredBy o q true end n cs = Array o q end n cs
-GatheredBy o q false end n cs = o ≡ none
+abbrev pub noArray : Gathered
+noArray = record { good = false; end = 0; count = 0; conditions = replicate 8 noCondition }
+
+abbrev pub GatheredBy : Option (List rCondition × Text) → Text → (good : Bool) → Gathered → Type 0
+GatheredBy o q true r = Array o q (r .end) (r .count) (r .conditions)
+GatheredBy o q false r = (o ≡ none) × (r ≡ noArray)
 
 abbrev pub GatheredIs : Option (List rCondition × Text) → Text → Gathered → Type 0
-GatheredIs o q r = GatheredBy o q (r .good) (r .end) (r .count) (r .conditions)
+GatheredIs o q r = GatheredBy o q (r .good) r
 
 -- ---- the query
 

@@ -16,7 +16,7 @@ ghost use Rattle.rules.specs.Bytes.{holds, distinct};
 ghost use Rattle.rules.specs.Json.Values.{list};
 ghost use Rattle.strings.specs.Decoded.{decoded, WellSpelled};
 ghost use Rattle.query.specs.Conditions.{conditionRead};
-ghost use Rattle.query.specs.Reading.{noCondition, noQuery, Sounds, columnsOf, fewOf, GatheredIs, QueryIs};
+ghost use Rattle.query.specs.Reading.{noCondition, noArray, noQuery, Sounds, columnsOf, fewOf, GatheredIs, QueryIs};
 
 // A query has so many bytes at most.
 const MOST_BYTES: usize = 4_096;
@@ -55,6 +55,19 @@ fn no_condition() -> Condition
     }
 }
 
+// What is said where there is no array of at most 8 conditions.
+fn no_array() -> Gathered
+    ensures { λ r. ⌜ r ≡ noArray ⌝ }
+{
+    let blank = no_condition();
+    Gathered {
+        good: false,
+        end: 0,
+        count: 0,
+        conditions: [blank; 8],
+    }
+}
+
 // The array behind whose bracket `at` is.
 fn conditions_in(q: &[u8], at: usize) -> Gathered
     requires { ⌜ at ≤ length (now q) ⌝ }
@@ -63,12 +76,7 @@ fn conditions_in(q: &[u8], at: usize) -> Gathered
     let blank = no_condition();
     let mut conditions = [blank; 8];
     match json::opening(q, at, CLOSE_BRACKET) {
-        Tail::Neither => Gathered {
-            good: false,
-            end: 0,
-            count: 0,
-            conditions,
-        },
+        Tail::Neither => no_array(),
         Tail::Closed(end) => Gathered {
             good: true,
             end,
@@ -80,30 +88,15 @@ fn conditions_in(q: &[u8], at: usize) -> Gathered
             let mut n = 0;
             loop {
                 if n == MOST_CONDITIONS {
-                    return Gathered {
-                        good: false,
-                        end: 0,
-                        count: 0,
-                        conditions,
-                    };
+                    return no_array();
                 }
                 let Element::Holds(c, e) = condition_at(q, i) else {
-                    return Gathered {
-                        good: false,
-                        end: 0,
-                        count: 0,
-                        conditions,
-                    };
+                    return no_array();
                 };
                 conditions[n] = c;
                 n += 1;
                 match json::closing(q, e, CLOSE_BRACKET) {
-                    Tail::Neither => return Gathered {
-                        good: false,
-                        end: 0,
-                        count: 0,
-                        conditions,
-                    },
+                    Tail::Neither => return no_array(),
                     Tail::Closed(end) => return Gathered {
                         good: true,
                         end,

@@ -1,13 +1,13 @@
 -- `conditions_in` meets its contract. The loop holds the conditions that went by, and what is left gets shorter.
 use Rattle.query.proofs.Gathering.{Going, opened-neither, opened-closed, going-start, going-none, going-full, going-neither, going-closed, going-more}
 use Rattle.query.specs.declared.conditions.Condition.{Condition}
-use Rattle.query.specs.Reading.{fewOf, Array}
+use Rattle.query.specs.Reading.{fewOf, Array, GatheredIs}
 use Rattle.query.specs.Conditions.{conditionRead, ElementIs}
 use Rattle.json.specs.Follows.{Follows}
 use Rattle.rules.specs.Json.Values.{list}
 use lib.ListN.{length, drop, replicate}
 use Prim.Native.Nat.{_+_, _-_, _≤_, _<_}
-use mathlib.Core.Path.{sym, subst}
+use mathlib.Core.Path.{refl, sym, subst}
 use native.Mathlib.Omega.{arith}
 use borrow.Author.Needs.{needs}
 use Rattle.query.proofs.reading.conditions_in.Statement.{statement}
@@ -28,6 +28,9 @@ opening-requires c κs = search needs
 enum-told : tie.Need-enum-told Inv-loop μ-loop
 enum-told c = search needs
 
+no-array-requires : tie.Need-no-array-requires Inv-loop μ-loop
+no-array-requires c κs = search needs
+
 enum-known-end : tie.Need-enum-known-end Inv-loop μ-loop
 enum-known-end c = search needs
 
@@ -37,8 +40,11 @@ enum-known-first c = search needs
 loop-holds : tie.Need-loop-holds Inv-loop μ-loop
 loop-holds c = subst (λ (x : Condition). Going (c .before .before .before .before .before .before .args .q .now) (c .before .before .before .before .before .before .args .at) (c .before .first .given .0 .0) 0 (replicate 8 x)) (sym (c .before .before .before .before .no-condition .ensures)) (going-start (c .before .before .before .before .before .before .args .q .now) (c .before .before .before .before .before .before .args .at) (c .before .first .given .0 .0) (subst (Follows _ _ _) (c .before .first .given .1) (c .before .before .before .opening .ensures)))
 
+no-array-requires-2 : tie.Need-no-array-requires-2 Inv-loop μ-loop
+no-array-requires-2 c κs = search needs
+
 returns : tie.Need-returns Inv-loop μ-loop
-returns c = going-full (c .before .before .before .before .before .before .before .before .args .q .now) (c .before .before .before .before .before .before .before .before .args .at) (c .before .loop .i) (c .before .loop .n) (c .before .loop .conditions) (c .before .loop .inv) (c .if1 .taken)
+returns c = subst (GatheredIs (fewOf (list conditionRead 0x5D (drop (c .before .before .before .before .before .before .before .before .before .args .at) (c .before .before .before .before .before .before .before .before .before .args .q .now)))) (c .before .before .before .before .before .before .before .before .before .args .q .now)) (sym (c .no-array2 .ensures)) (going-full (c .before .before .before .before .before .before .before .before .before .args .q .now) (c .before .before .before .before .before .before .before .before .before .args .at) (c .before .before .loop .i) (c .before .before .loop .n) (c .before .before .loop .conditions) (c .before .before .loop .inv) (c .before .if1 .taken), refl)
 
 condition-at-requires : tie.Need-condition-at-requires Inv-loop μ-loop
 condition-at-requires c κs = c .before .loop .inv .passed .within
@@ -49,8 +55,11 @@ enum-known-c c = search needs
 enum-told-2 : tie.Need-enum-told-2 Inv-loop μ-loop
 enum-told-2 c = search needs
 
+no-array-requires-3 : tie.Need-no-array-requires-3 Inv-loop μ-loop
+no-array-requires-3 c κs = search needs
+
 returns-2 : tie.Need-returns-2 Inv-loop μ-loop
-returns-2 c = going-none (c .before .before .before .before .before .before .before .before .before .before .before .args .q .now) (c .before .before .before .before .before .before .before .before .before .before .before .args .at) (c .before .before .before .before .loop .i) (c .before .before .before .before .loop .n) (c .before .before .before .before .loop .conditions) (c .before .before .before .before .loop .inv) (subst (ElementIs _ _ _) (c .enum-told2 .given .1) (c .before .before .condition-at .ensures))
+returns-2 c = subst (GatheredIs (fewOf (list conditionRead 0x5D (drop (c .before .before .before .before .before .before .before .before .before .before .before .before .args .at) (c .before .before .before .before .before .before .before .before .before .before .before .before .args .q .now)))) (c .before .before .before .before .before .before .before .before .before .before .before .before .args .q .now)) (sym (c .no-array3 .ensures)) (going-none (c .before .before .before .before .before .before .before .before .before .before .before .before .args .q .now) (c .before .before .before .before .before .before .before .before .before .before .before .before .args .at) (c .before .before .before .before .before .loop .i) (c .before .before .before .before .before .loop .n) (c .before .before .before .before .before .loop .conditions) (c .before .before .before .before .before .loop .inv) (subst (ElementIs _ _ _) (c .before .enum-told2 .given .1) (c .before .before .before .condition-at .ensures)), refl)
 
 mul-conditions : tie.Need-mul-conditions Inv-loop μ-loop
 mul-conditions c =
@@ -73,8 +82,11 @@ closing-requires c κs = (subst (ElementIs _ _ _) (c .before .c .given .1) (c .b
 enum-told-3 : tie.Need-enum-told-3 Inv-loop μ-loop
 enum-told-3 c = search needs
 
+no-array-requires-4 : tie.Need-no-array-requires-4 Inv-loop μ-loop
+no-array-requires-4 c κs = search needs
+
 returns-3 : tie.Need-returns-3 Inv-loop μ-loop
-returns-3 c = going-neither (c .before .before .before .before .before .before .before .before .before .before .before .before .before .before .before .args .q .now) (c .before .before .before .before .before .before .before .before .before .before .before .before .before .before .before .args .at) (c .before .before .before .before .before .before .before .before .loop .i) (c .before .before .before .before .before .before .before .before .loop .n) (c .before .before .before .before .before .before .before .before .loop .conditions) (c .before .before .before .before .before .before .before .before .loop .inv) (c .before .before .before .before .c .given .0 .0) (c .before .before .before .before .c .given .0 .1 .0) (subst (ElementIs _ _ _) (c .before .before .before .before .c .given .1) (c .before .before .before .before .before .before .condition-at .ensures)) (subst (Follows _ _ _) (c .enum-told3 .given .1) (c .before .before .closing .ensures))
+returns-3 c = subst (GatheredIs (fewOf (list conditionRead 0x5D (drop (c .before .before .before .before .before .before .before .before .before .before .before .before .before .before .before .before .args .at) (c .before .before .before .before .before .before .before .before .before .before .before .before .before .before .before .before .args .q .now)))) (c .before .before .before .before .before .before .before .before .before .before .before .before .before .before .before .before .args .q .now)) (sym (c .no-array4 .ensures)) (going-neither (c .before .before .before .before .before .before .before .before .before .before .before .before .before .before .before .before .args .q .now) (c .before .before .before .before .before .before .before .before .before .before .before .before .before .before .before .before .args .at) (c .before .before .before .before .before .before .before .before .before .loop .i) (c .before .before .before .before .before .before .before .before .before .loop .n) (c .before .before .before .before .before .before .before .before .before .loop .conditions) (c .before .before .before .before .before .before .before .before .before .loop .inv) (c .before .before .before .before .before .c .given .0 .0) (c .before .before .before .before .before .c .given .0 .1 .0) (subst (ElementIs _ _ _) (c .before .before .before .before .before .c .given .1) (c .before .before .before .before .before .before .before .condition-at .ensures)) (subst (Follows _ _ _) (c .before .enum-told3 .given .1) (c .before .before .before .closing .ensures)), refl)
 
 enum-known-end-2 : tie.Need-enum-known-end-2 Inv-loop μ-loop
 enum-known-end-2 c = search needs
@@ -104,7 +116,7 @@ loop-again c =
     going-more (c .before .before .before .before .before .before .before .before .before .before .before .before .before .before .before .before .args .q .now) (c .before .before .before .before .before .before .before .before .before .before .before .before .before .before .before .before .args .at) (c .before .before .before .before .before .before .before .before .before .loop .i) (c .before .before .before .before .before .before .before .before .before .loop .n) (c .before .before .before .before .before .before .before .before .before .loop .conditions) (c .before .before .before .before .before .before .before .before .before .loop .inv) (c .before .before .before .before .before .c .given .0 .0) (c .before .before .before .before .before .c .given .0 .1 .0) (subst (ElementIs _ _ _) (c .before .before .before .before .before .c .given .1) (c .before .before .before .before .before .before .before .condition-at .ensures)) room (c .before .j .given .0 .0) (subst (Follows _ _ _) (c .before .j .given .1) (c .before .before .before .closing .ensures))
 
 returns-5 : tie.Need-returns-5 Inv-loop μ-loop
-returns-5 c = opened-neither (c .before .before .before .before .before .args .q .now) (c .before .before .before .before .before .args .at) (subst (Follows _ _ _) (c .enum-told .given .1) (c .before .before .opening .ensures))
+returns-5 c = subst (GatheredIs (fewOf (list conditionRead 0x5D (drop (c .before .before .before .before .before .before .args .at) (c .before .before .before .before .before .before .args .q .now)))) (c .before .before .before .before .before .before .args .q .now)) (sym (c .no-array .ensures)) (opened-neither (c .before .before .before .before .before .before .args .q .now) (c .before .before .before .before .before .before .args .at) (subst (Follows _ _ _) (c .before .enum-told .given .1) (c .before .before .before .opening .ensures)), refl)
 
 returns-6 : tie.Need-returns-6 Inv-loop μ-loop
 returns-6 c = subst (λ (x : Condition). Array (fewOf (list conditionRead 0x5D (drop (c .before .before .before .before .before .before .args .at) (c .before .before .before .before .before .before .args .q .now)))) (c .before .before .before .before .before .before .args .q .now) (c .before .end .given .0 .0) 0 (replicate 8 x)) (sym (c .before .before .before .before .no-condition .ensures)) (opened-closed (c .before .before .before .before .before .before .args .q .now) (c .before .before .before .before .before .before .args .at) (c .before .end .given .0 .0) (subst (Follows _ _ _) (c .before .end .given .1) (c .before .before .before .opening .ensures)))
@@ -118,19 +130,23 @@ conditions-in-spec =
     no-condition-requires
     opening-requires
     enum-told
+    no-array-requires
     enum-known-end
     enum-known-first
     loop-holds
+    no-array-requires-2
     returns
     condition-at-requires
     enum-known-c
     enum-told-2
+    no-array-requires-3
     returns-2
     mul-conditions
     array-set-from-conditions
     add-n
     closing-requires
     enum-told-3
+    no-array-requires-4
     returns-3
     enum-known-end-2
     returns-4

@@ -49,10 +49,10 @@ malformed-requires-3 c κs = search needs
 
 returns-3 : tie.Need-returns-3
 unfolding mostQuery
-returns-3 c = subst (QueryIs (c .before .before .before .before .before .before .before .before .before .before .before .args .q .now)) (sym (c .malformed3 .ensures)) (query-array (c .before .before .before .before .before .before .before .before .before .before .before .args .q .now) (le-leb (length (c .before .before .before .before .before .before .before .before .before .before .before .args .q .now)) 4096 (c .before .before .before .before .before .before .before .before .before .if1 .left)) (ap (byte 0x5B) (c .before .before .before .before .before .before .before .before .skip-ws .ensures .left) ∙ (subst (Answer _ _ _) (c .before .before .before .before .before .at .given .1) (c .before .before .before .before .before .before .before .skip-byte .ensures)) .0) ∙ behind-none (list conditionRead 0x5D (drop (c .before .before .before .before .before .at .given .0 .0) (c .before .before .before .before .before .before .before .before .before .before .before .args .q .now))) (subst (λ (b : Bool). GatheredBy (fewOf (list conditionRead 0x5D (drop (c .before .before .before .before .before .at .given .0 .0) (c .before .before .before .before .before .before .before .before .before .before .before .args .q .now)))) (c .before .before .before .before .before .before .before .before .before .before .before .args .q .now) b (c .before .before .before .conditions-in .result .end) (c .before .before .before .conditions-in .result .count) (c .before .before .before .conditions-in .result .conditions)) (not-true (c .before .before .before .conditions-in .result .good) (c .before .if2 .taken)) (c .before .before .before .conditions-in .ensures)), refl)
+returns-3 c = subst (QueryIs (c .before .before .before .before .before .before .before .before .before .before .before .args .q .now)) (sym (c .malformed3 .ensures)) (query-array (c .before .before .before .before .before .before .before .before .before .before .before .args .q .now) (le-leb (length (c .before .before .before .before .before .before .before .before .before .before .before .args .q .now)) 4096 (c .before .before .before .before .before .before .before .before .before .if1 .left)) (ap (byte 0x5B) (c .before .before .before .before .before .before .before .before .skip-ws .ensures .left) ∙ (subst (Answer _ _ _) (c .before .before .before .before .before .at .given .1) (c .before .before .before .before .before .before .before .skip-byte .ensures)) .0) ∙ behind-none (list conditionRead 0x5D (drop (c .before .before .before .before .before .at .given .0 .0) (c .before .before .before .before .before .before .before .before .before .before .before .args .q .now))) ((subst (λ (b : Bool). GatheredBy (fewOf (list conditionRead 0x5D (drop (c .before .before .before .before .before .at .given .0 .0) (c .before .before .before .before .before .before .before .before .before .before .before .args .q .now)))) (c .before .before .before .before .before .before .before .before .before .before .before .args .q .now) b (c .before .before .before .conditions-in .result)) (not-true (c .before .before .before .conditions-in .result .good) (c .before .if2 .taken)) (c .before .before .before .conditions-in .ensures)) .0), refl)
 
 skip-ws-requires-2 : tie.Need-skip-ws-requires-2
-skip-ws-requires-2 c κs = let a = (subst (λ (b : Bool). GatheredBy (fewOf (list conditionRead 0x5D (drop (c .before .before .before .before .at .given .0 .0) (c .before .before .before .before .before .before .before .before .before .before .args .q .now)))) (c .before .before .before .before .before .before .before .before .before .before .args .q .now) b (c .before .before .conditions-in .result .end) (c .before .before .conditions-in .result .count) (c .before .before .conditions-in .result .conditions)) (not-false (c .before .before .conditions-in .result .good) (c .if2 .left)) (c .before .before .conditions-in .ensures)) in a .within
+skip-ws-requires-2 c κs = let a = (subst (λ (b : Bool). GatheredBy (fewOf (list conditionRead 0x5D (drop (c .before .before .before .before .at .given .0 .0) (c .before .before .before .before .before .before .before .before .before .before .args .q .now)))) (c .before .before .before .before .before .before .before .before .before .before .args .q .now) b (c .before .before .conditions-in .result)) (not-false (c .before .before .conditions-in .result .good) (c .if2 .left)) (c .before .before .conditions-in .ensures)) in a .within
 
 malformed-requires-4 : tie.Need-malformed-requires-4
 malformed-requires-4 c κs = search needs
@@ -60,16 +60,16 @@ malformed-requires-4 c κs = search needs
 returns-4 : tie.Need-returns-4
 unfolding mostQuery
 returns-4 c =
-    let a = (subst (λ (b : Bool). GatheredBy (fewOf (list conditionRead 0x5D (drop (c .before .before .before .before .before .before .before .at .given .0 .0) (c .before .before .before .before .before .before .before .before .before .before .before .before .before .args .q .now)))) (c .before .before .before .before .before .before .before .before .before .before .before .before .before .args .q .now) b (c .before .before .before .before .before .conditions-in .result .end) (c .before .before .before .before .before .conditions-in .result .count) (c .before .before .before .before .before .conditions-in .result .conditions)) (not-false (c .before .before .before .before .before .conditions-in .result .good) (c .before .before .before .if2 .left)) (c .before .before .before .before .before .conditions-in .ensures)) in
+    let a = (subst (λ (b : Bool). GatheredBy (fewOf (list conditionRead 0x5D (drop (c .before .before .before .before .before .before .before .at .given .0 .0) (c .before .before .before .before .before .before .before .before .before .before .before .before .before .args .q .now)))) (c .before .before .before .before .before .before .before .before .before .before .before .before .before .args .q .now) b (c .before .before .before .before .before .conditions-in .result)) (not-false (c .before .before .before .before .before .conditions-in .result .good) (c .before .before .before .if2 .left)) (c .before .before .before .before .before .conditions-in .ensures)) in
     subst (QueryIs (c .before .before .before .before .before .before .before .before .before .before .before .before .before .args .q .now)) (sym (c .malformed4 .ensures)) (query-array (c .before .before .before .before .before .before .before .before .before .before .before .before .before .args .q .now) (le-leb (length (c .before .before .before .before .before .before .before .before .before .before .before .before .before .args .q .now)) 4096 (c .before .before .before .before .before .before .before .before .before .before .before .if1 .left)) (ap (byte 0x5B) (c .before .before .before .before .before .before .before .before .before .before .skip-ws .ensures .left) ∙ (subst (Answer _ _ _) (c .before .before .before .before .before .before .before .at .given .1) (c .before .before .before .before .before .before .before .before .before .skip-byte .ensures)) .0) ∙ behind-more (list conditionRead 0x5D (drop (c .before .before .before .before .before .before .before .at .given .0 .0) (c .before .before .before .before .before .before .before .before .before .before .before .before .before .args .q .now))) (a .all) (c .before .before .skip-ws2 .ensures .left ∙ here (c .before .before .before .before .before .before .before .before .before .before .before .before .before .args .q .now) (c .before .before .skip-ws2 .result) (c .before .if3 .taken)), refl)
 
 columns-differ-requires : tie.Need-columns-differ-requires
-columns-differ-requires c κs = let a = (subst (λ (b : Bool). GatheredBy (fewOf (list conditionRead 0x5D (drop (c .before .before .before .before .before .before .before .at .given .0 .0) (c .before .before .before .before .before .before .before .before .before .before .before .before .before .args .q .now)))) (c .before .before .before .before .before .before .before .before .before .before .before .before .before .args .q .now) b (c .before .before .before .before .before .conditions-in .result .end) (c .before .before .before .before .before .conditions-in .result .count) (c .before .before .before .before .before .conditions-in .result .conditions)) (not-false (c .before .before .before .before .before .conditions-in .result .good) (c .before .before .before .if2 .left)) (c .before .before .before .before .before .conditions-in .ensures)) in a .held .sounds
+columns-differ-requires c κs = let a = (subst (λ (b : Bool). GatheredBy (fewOf (list conditionRead 0x5D (drop (c .before .before .before .before .before .before .before .at .given .0 .0) (c .before .before .before .before .before .before .before .before .before .before .before .before .before .args .q .now)))) (c .before .before .before .before .before .before .before .before .before .before .before .before .before .args .q .now) b (c .before .before .before .before .before .conditions-in .result)) (not-false (c .before .before .before .before .before .conditions-in .result .good) (c .before .before .before .if2 .left)) (c .before .before .before .before .before .conditions-in .ensures)) in a .held .sounds
 
 returns-5 : tie.Need-returns-5
 unfolding mostQuery columnsOf
 returns-5 c =
-    let a = (subst (λ (b : Bool). GatheredBy (fewOf (list conditionRead 0x5D (drop (c .before .before .before .before .before .before .before .before .before .at .given .0 .0) (c .before .before .before .before .before .before .before .before .before .before .before .before .before .before .before .args .q .now)))) (c .before .before .before .before .before .before .before .before .before .before .before .before .before .before .before .args .q .now) b (c .before .before .before .before .before .before .before .conditions-in .result .end) (c .before .before .before .before .before .before .before .conditions-in .result .count) (c .before .before .before .before .before .before .before .conditions-in .result .conditions)) (not-false (c .before .before .before .before .before .before .before .conditions-in .result .good) (c .before .before .before .before .before .if2 .left)) (c .before .before .before .before .before .before .before .conditions-in .ensures)) in
+    let a = (subst (λ (b : Bool). GatheredBy (fewOf (list conditionRead 0x5D (drop (c .before .before .before .before .before .before .before .before .before .at .given .0 .0) (c .before .before .before .before .before .before .before .before .before .before .before .before .before .before .before .args .q .now)))) (c .before .before .before .before .before .before .before .before .before .before .before .before .before .before .before .args .q .now) b (c .before .before .before .before .before .before .before .conditions-in .result)) (not-false (c .before .before .before .before .before .before .before .conditions-in .result .good) (c .before .before .before .before .before .if2 .left)) (c .before .before .before .before .before .before .before .conditions-in .ensures)) in
     record { held = a .held; says = query-array (c .before .before .before .before .before .before .before .before .before .before .before .before .before .before .before .args .q .now) (le-leb (length (c .before .before .before .before .before .before .before .before .before .before .before .before .before .before .before .args .q .now)) 4096 (c .before .before .before .before .before .before .before .before .before .before .before .before .before .if1 .left)) (ap (byte 0x5B) (c .before .before .before .before .before .before .before .before .before .before .before .before .skip-ws .ensures .left) ∙ (subst (Answer _ _ _) (c .before .before .before .before .before .before .before .before .before .at .given .1) (c .before .before .before .before .before .before .before .before .before .before .before .skip-byte .ensures)) .0) ∙ behind-apart (list conditionRead 0x5D (drop (c .before .before .before .before .before .before .before .before .before .at .given .0 .0) (c .before .before .before .before .before .before .before .before .before .before .before .before .before .before .before .args .q .now))) (a .all) (c .before .before .before .before .skip-ws2 .ensures .left ∙ ended (c .before .before .before .before .before .before .before .before .before .before .before .before .before .before .before .args .q .now) (c .before .before .before .before .skip-ws2 .result) (c .before .before .before .if3 .left)) (sym (c .before .columns-differ .ensures) ∙ c .if4 .taken) }
 
 malformed-requires-5 : tie.Need-malformed-requires-5
@@ -78,7 +78,7 @@ malformed-requires-5 c κs = search needs
 returns-6 : tie.Need-returns-6
 unfolding mostQuery columnsOf
 returns-6 c =
-    let a = (subst (λ (b : Bool). GatheredBy (fewOf (list conditionRead 0x5D (drop (c .before .before .before .before .before .before .before .before .before .before .at .given .0 .0) (c .before .before .before .before .before .before .before .before .before .before .before .before .before .before .before .before .args .q .now)))) (c .before .before .before .before .before .before .before .before .before .before .before .before .before .before .before .before .args .q .now) b (c .before .before .before .before .before .before .before .before .conditions-in .result .end) (c .before .before .before .before .before .before .before .before .conditions-in .result .count) (c .before .before .before .before .before .before .before .before .conditions-in .result .conditions)) (not-false (c .before .before .before .before .before .before .before .before .conditions-in .result .good) (c .before .before .before .before .before .before .if2 .left)) (c .before .before .before .before .before .before .before .before .conditions-in .ensures)) in
+    let a = (subst (λ (b : Bool). GatheredBy (fewOf (list conditionRead 0x5D (drop (c .before .before .before .before .before .before .before .before .before .before .at .given .0 .0) (c .before .before .before .before .before .before .before .before .before .before .before .before .before .before .before .before .args .q .now)))) (c .before .before .before .before .before .before .before .before .before .before .before .before .before .before .before .before .args .q .now) b (c .before .before .before .before .before .before .before .before .conditions-in .result)) (not-false (c .before .before .before .before .before .before .before .before .conditions-in .result .good) (c .before .before .before .before .before .before .if2 .left)) (c .before .before .before .before .before .before .before .before .conditions-in .ensures)) in
     subst (QueryIs (c .before .before .before .before .before .before .before .before .before .before .before .before .before .before .before .before .args .q .now)) (sym (c .malformed5 .ensures)) (query-array (c .before .before .before .before .before .before .before .before .before .before .before .before .before .before .before .before .args .q .now) (le-leb (length (c .before .before .before .before .before .before .before .before .before .before .before .before .before .before .before .before .args .q .now)) 4096 (c .before .before .before .before .before .before .before .before .before .before .before .before .before .before .if1 .left)) (ap (byte 0x5B) (c .before .before .before .before .before .before .before .before .before .before .before .before .before .skip-ws .ensures .left) ∙ (subst (Answer _ _ _) (c .before .before .before .before .before .before .before .before .before .before .at .given .1) (c .before .before .before .before .before .before .before .before .before .before .before .before .skip-byte .ensures)) .0) ∙ behind-twice (list conditionRead 0x5D (drop (c .before .before .before .before .before .before .before .before .before .before .at .given .0 .0) (c .before .before .before .before .before .before .before .before .before .before .before .before .before .before .before .before .args .q .now))) (a .all) (c .before .before .before .before .before .skip-ws2 .ensures .left ∙ ended (c .before .before .before .before .before .before .before .before .before .before .before .before .before .before .before .before .args .q .now) (c .before .before .before .before .before .skip-ws2 .result) (c .before .before .before .before .if3 .left)) (sym (c .before .before .columns-differ .ensures) ∙ c .before .if4 .left), refl)
 
 pub read-spec : {M : Type 1} → statement M
