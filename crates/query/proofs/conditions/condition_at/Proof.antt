@@ -39,7 +39,7 @@ scan-requires c κs = (subst (Answer _ _ _) (c .before .i .given .1) (c .before 
 
 returns-2 : tie.Need-returns-2
 unfolding inAction
-returns-2 c = read-no-object (drop (c .before .before .before .before .before .before .before .args .at) (c .before .before .before .before .before .before .before .args .q .now)) ((subst (Answer _ _ _) (c .before .before .before .i .given .1) (c .before .before .before .before .before .skip-byte .ensures)) .0) (subst (λ (b : Bool). ScannedBy (contents (rValue 30) (drop (c .before .before .before .i .given .0 .0) (c .before .before .before .before .before .before .before .args .q .now))) (c .before .before .before .before .before .before .before .args .q .now) (c .before .before .before .i .given .0 .0) (namesOf Condition) b (c .before .scan .result .end) (c .before .scan .result .slots)) (not-true (c .before .scan .result .good) (c .if1 .taken)) (c .before .scan .ensures))
+returns-2 c = read-no-object (drop (c .before .before .before .before .before .before .before .args .at) (c .before .before .before .before .before .before .before .args .q .now)) ((subst (Answer _ _ _) (c .before .before .before .i .given .1) (c .before .before .before .before .before .skip-byte .ensures)) .0) ((subst (λ (b : Bool). ScannedBy (contents (rValue 30) (drop (c .before .before .before .i .given .0 .0) (c .before .before .before .before .before .before .before .args .q .now))) (c .before .before .before .before .before .before .before .args .q .now) (c .before .before .before .i .given .0 .0) (namesOf Condition) b (c .before .scan .result .end) (c .before .scan .result .slots)) (not-true (c .before .scan .result .good) (c .if1 .taken)) (c .before .scan .ensures)) .0)
 
 in-order-requires : tie.Need-in-order-requires
 in-order-requires c κs = (subst (Answer _ _ _) (c .before .before .before .i .given .1) (c .before .before .before .before .before .skip-byte .ensures)) .2
