@@ -14,6 +14,8 @@ pub mod Exactly
 pub mod KeepingExactly
 pub mod CleaningWords
 pub mod CleaningExactly
+pub mod Replayed
 pub mod Choosing
 pub mod Showing
 pub mod WrongPrograms
+pub mod Demands
