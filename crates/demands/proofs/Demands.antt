@@ -1,9 +1,10 @@
 -- The three demands hold of the rules.
 use Rattle.demands.specs.Demands.{Demand1, Demand2, Demand3}
 use Rattle.demands.proofs.Starts.{read-from-the-highest, latest-stops}
+use Rattle.demands.proofs.Readable.{true-is-readable}
 use Rattle.demands.proofs.FirstSentence.{first-sentence, full-log-is-history}
 use Rattle.demands.proofs.LastSentence.{last-sentence, stopped-halfway}
-use Rattle.demands.proofs.Example.{example-is-full}
+use Rattle.demands.proofs.Example.{answers-hold, example-is-full}
 use Rattle.demands.proofs.Ending.{reading-ends, keeping-ends, cleaning-ends}
 use Rattle.demands.proofs.LentRooms.{reading-room-ends, keeping-room-ends, cleaning-rooms-end}
 use Rattle.demands.proofs.Exactly.{reading-exactly}
@@ -46,6 +47,8 @@ demand-2 = record {
 pub demand-3 : Demand3
 demand-3 = record {
   premise = example-is-full;
+  example = answers-hold;
+  readable = true-is-readable;
   whole = full-log-is-history;
   first = first-sentence;
   last = last-sentence;

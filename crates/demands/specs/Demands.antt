@@ -1,9 +1,11 @@
 -- The customer's three demands, as far as they speak of the rules. The promises of the code are equations with the rules' definitions,
 -- so that what is said here of `reading`, `keeping`, `cleaning` and of what is shown is said of the code.
+use Rattle.rules.specs.Edges.{Holds}
 use Rattle.demands.specs.Reaching.{ReadFromTheHighest, LatestStopsAtAGap}
+use Rattle.demands.specs.FullHistory.{TrueIsReadable}
 use Rattle.demands.specs.FirstSentence.{FirstSentence, FullLogIsHistory}
 use Rattle.demands.specs.LastSentence.{LastSentence, StoppedHalfway}
-use Rattle.demands.specs.Example.{ExampleIsFull}
+use Rattle.demands.specs.Example.{ExampleIsFull, answers}
 use Rattle.demands.specs.Ending.{ReadingEnds, KeepingEnds, CleaningEnds, ReadingRoomEnds, KeepingRoomEnds, CleaningRoomsEnd}
 use Rattle.demands.specs.Exactly.{ReadingRefusesExactly, KeepingRefusesExactly}
 use Rattle.demands.specs.CleaningExactly.{CleaningRefusesExactly, NamedExactly}
@@ -42,6 +44,8 @@ pub record Demand2 : Type 0 where
 -- with any files but version 0 removed: the full history's answer or "not kept"; with named files removed: the same answers
 pub record Demand3 : Type 0 where
   pub premise : ExampleIsFull
+  pub example : Holds answers
+  pub readable : TrueIsReadable
   pub whole : FullLogIsHistory
   pub first : FirstSentence
   pub last : LastSentence
