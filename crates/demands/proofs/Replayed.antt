@@ -116,7 +116,7 @@ readLines-goes e k at ((b ∷ bs) ∷ ls) st to s h = go (action (b ∷ bs)) h (
         let r = bind-accepted (withinLimit mostLive e k (effect at (length (b ∷ bs)) a st)) (λ next. readLines mostLive e (suc k) (at + length (b ∷ bs) + 1) ls next) h in
         let w = withinLimit-accepted mostLive e k (effect at (length (b ∷ bs)) a st) (r .1) in
         let t : readLines mostLive e (suc k) (at + length (b ∷ bs) + 1) ls (effect at (length (b ∷ bs)) a st) ≡ accepted to =
-              subst (λ (x : State). readLines mostLive e (suc k) (at + length (b ∷ bs) + 1) ls x ≡ accepted to) (sym (w .0)) (r .2) in
+        subst (λ (x : State). readLines mostLive e (suc k) (at + length (b ∷ bs) + 1) ls x ≡ accepted to) (sym (w .0)) (r .2) in
         goes-more at (length (b ∷ bs)) a (actionsIn ls) st to s (ih (effect at (length (b ∷ bs)) a st) (effect-ascends at (length (b ∷ bs)) a st s) t)
 
 readFile-goes : (f : File) (st to : State) → Ordered st → readFile mostLive f st ≡ accepted to → Goes (actionsIn (lines (f .body))) st to
