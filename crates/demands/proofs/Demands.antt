@@ -1,6 +1,7 @@
 -- The three demands hold of the rules.
 use Rattle.demands.specs.Demands.{Demand1, Demand2, Demand3}
 use Rattle.demands.proofs.Starts.{read-from-the-highest, latest-stops}
+use Rattle.demands.proofs.Ordered.{removal-keeps-order}
 use Rattle.demands.proofs.Readable.{true-is-readable}
 use Rattle.demands.proofs.FirstSentence.{first-sentence, full-log-is-history}
 use Rattle.demands.proofs.LastSentence.{last-sentence, stopped-halfway}
@@ -49,6 +50,7 @@ demand-3 = record {
   premise = example-is-full;
   example = answers-hold;
   readable = true-is-readable;
+  removal = removal-keeps-order;
   whole = full-log-is-history;
   first = first-sentence;
   last = last-sentence;

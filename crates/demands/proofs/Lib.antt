@@ -1,5 +1,6 @@
 pub mod Starts
 pub mod Removal
+pub mod Ordered
 pub mod Readable
 pub mod FirstSentence
 pub mod Upward

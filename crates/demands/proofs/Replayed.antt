@@ -1,6 +1,5 @@
 -- Line by line, what is live at a path and what protocol is in force go as the actions say.
 use mathlib.Core.Path.{_≡_, refl, sym, _∙_, ap, subst}
-use mathlib.Core.Logic.{_⊎_, inl, inr}
 use mathlib.Core.Bool.{Bool, true, false}
 use mathlib.Core.Option.{Option, none, some}
 use mathlib.Core.List.{List, [], _∷_, _++_}
@@ -13,9 +12,9 @@ use Rattle.rules.specs.Actions.{Facts, Protocol, Action, add, remove, protocol,
 use Rattle.rules.specs.Live.{mostLive, Row, pathOf, put, takeOut}
 use Rattle.rules.specs.History.{State, effect, withinLimit, readLine, readLines, readFile}
 use Rattle.rules.specs.Starts.{Way, fromZero, fromCheckpoint, andThen, nothingLive, follow}
-use Rattle.rules.specs.Refusals.{Answer, accepted, refused, _>>=_, orRefuse, require, malformed}
+use Rattle.rules.specs.Refusals.{accepted, _>>=_, orRefuse, require, malformed}
 use Rattle.rules.proofs.Tests.{apart, by}
-use Rattle.rules.proofs.Order.{same-true, same-false, eq-same, ne-same}
+use Rattle.rules.proofs.Order.{same-true, same-false}
 use Rattle.rules.proofs.Ascending.{Ascends}
 use Rattle.rules.proofs.Live.{lookup, lookup-put, lookup-put-other, lookup-takeOut, lookup-takeOut-other}
 use Rattle.rules.proofs.Replaying.{bind-accepted, withinLimit-accepted, effect-ascends, Ordered}

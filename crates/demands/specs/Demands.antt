@@ -2,6 +2,7 @@
 -- so that what is said here of `reading`, `keeping`, `cleaning` and of what is shown is said of the code.
 use Rattle.rules.specs.Edges.{Holds}
 use Rattle.demands.specs.Reaching.{ReadFromTheHighest, LatestStopsAtAGap}
+use Rattle.demands.specs.Removed.{RemovalKeepsOrder}
 use Rattle.demands.specs.FullHistory.{TrueIsReadable}
 use Rattle.demands.specs.FirstSentence.{FirstSentence, FullLogIsHistory}
 use Rattle.demands.specs.LastSentence.{LastSentence, StoppedHalfway}
@@ -42,10 +43,11 @@ pub record Demand2 : Type 0 where
   pub wrong : NoneKeepsThePromise
 
 -- with any files but version 0 removed: the full history's answer or "not kept"; with named files removed: the same answers
-pub record Demand3 : Type 0 where
+pub record Demand3 : Type 1 where
   pub premise : ExampleIsFull
   pub example : Holds answers
   pub readable : TrueIsReadable
+  pub removal : RemovalKeepsOrder
   pub whole : FullLogIsHistory
   pub first : FirstSentence
   pub last : LastSentence

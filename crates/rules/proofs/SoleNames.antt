@@ -4,10 +4,10 @@ use mathlib.Core.Logic.{_⊎_, inl, inr}
 use mathlib.Core.Bool.{Bool, true, false}
 use mathlib.Core.Option.{Option, none, some}
 use mathlib.Core.List.{_++_, [], _∷_}
-use Prim.Native.Nat.{ℕ, _+_, _*_, _-_, _≤_}
+use Prim.Native.Nat.{ℕ, suc, _+_, _*_, _-_, _≤_}
 use native.Mathlib.Omega.{arith}
 use lib.Dec.{leb, eqb}
-use lib.ListN.{length, take, drop, length-take, length-drop, take-append-drop}
+use lib.ListN.{length, take, drop, replicate, length-take, length-drop, take-append-drop}
 use borrow.Author.Tests.{eqb-true}
 use Rattle.rules.specs.Bytes.{_>>=_, Bytes, guard, ascii, same, among}
 use Rattle.rules.specs.Numbers.{most, isDigit, decimalFrom, decimal}
@@ -190,3 +190,27 @@ unpadded-once (x ∷ xs) (y ∷ ys) name l e f = go (unpadded-cases x xs name e)
     go (inl (m, a, b)) (inr (z, d)) ih = apart (cc)
     go (inr (z, d)) (inl (m, a, b)) ih = apart (cc)
     go (inr (z, d)) (inr (z′, d′)) ih = zeros-once (x ∷ xs) (y ∷ ys) l z z′
+
+zeros-replicate : (p : Bytes) → zeros p ≡ true → p ≡ replicate (length p) 0
+zeros-replicate [] h = refl
+zeros-replicate (x ∷ xs) h = let z = zeros-cons x xs h in ap₂ _∷_ (z .0) (zeros-replicate xs (z .1))
+
+-- a name with zeros behind it, as many as make n bytes
+pub withZeros : ℕ → Bytes → Bytes
+withZeros n name = name ++ replicate (n - length name) 0
+
+pub unpadded-zeros : (p name : Bytes) → unpadded p ≡ some name → p ≡ withZeros (length p) name
+unfolding unpadded withZeros
+unpadded-zeros [] name h = let e : [] ≡ name = cc in subst (λ (n : Bytes). [] ≡ n ++ replicate (0 - length n) 0) e refl
+unpadded-zeros (x ∷ xs) name h = go (unpadded-cases x xs name h) (λ m. unpadded-zeros xs m)
+  where
+    go : ((m : Bytes) × (unpadded xs ≡ some m) × (x ∷ m ≡ name)) ⊎ ((zeros (x ∷ xs) ≡ true) × ([] ≡ name))
+        → ((m : Bytes) → unpadded xs ≡ some m → xs ≡ m ++ replicate (length xs - length m) 0) → x ∷ xs ≡ name ++ replicate (suc (length xs) - length name) 0
+    go (inl (m, a, b)) ih =
+        let n : length xs - length m ≡ suc (length xs) - length (x ∷ m) = omega arith in
+        subst (λ (y : Bytes). x ∷ xs ≡ y ++ replicate (suc (length xs) - length y) 0) b
+        (ap (λ (y : Bytes). x ∷ y) (ih m a) ∙ ap (λ (k : ℕ). x ∷ (m ++ replicate k 0)) n)
+    go (inr (z, d)) ih =
+        let n : suc (length xs) ≡ suc (length xs) - 0 = omega arith in
+        subst (λ (y : Bytes). x ∷ xs ≡ y ++ replicate (suc (length xs) - length y) 0) d
+        (zeros-replicate (x ∷ xs) z ∙ ap (λ (k : ℕ). replicate {A = ℕ} k 0) n)
