@@ -1,7 +1,7 @@
 -- Demand 1, the rooms: an answer's numbers never exceed the stated room, so what lies beyond stays, and so does the length.
 use mathlib.Core.Path.{_≡_, refl, sym, _∙_, ap, subst}
 use mathlib.Core.Logic.{_⊎_, inl, inr}
-use mathlib.Core.Bool.{Bool, true, false, not, _&&_}
+use mathlib.Core.Bool.{Bool, true, false, not}
 use mathlib.Core.Option.{Option, none, some}
 use mathlib.Core.List.{List, [], _∷_, _++_, map}
 use Prim.Native.Nat.{ℕ, zero, suc, _+_, _*_, _-_, _≤_}
@@ -26,12 +26,14 @@ use Rattle.rules.specs.Reading.{Asked, versionAsked, Listing, stateBy, listing,
 use Rattle.rules.specs.Keeping.{keeping, roomAfterKeeping}
 use Rattle.rules.specs.Cleaning.{mayGo, named, compared, cleanedBy, cleanedAt, Lent, enough, cleaning, namesAfterCleaning, tableAfterCleaning}
 use Rattle.rules.specs.Refusals.{Answer, accepted, refused, _>>=_, orRefuse, require, roomTooShort, bundleMalformed, versionTooLarge, noVersionZero, queryMalformed, noSuchColumn, stateMalformed, tooManyManifests}
-use Rattle.rules.proofs.Tests.{apart, and-left, and-right}
+use Rattle.rules.proofs.Tests.{apart}
 use Rattle.rules.proofs.Replaying.{bind-accepted, require-accepted, stateBy-live}
 use Rattle.rules.proofs.Rooms.{length-filled, leaves-accepted, leaves-untouched, leaves-zeros}
 use Rattle.rules.proofs.Answers.{numberOf, refused-number}
 use Rattle.rules.proofs.Bundles.{bundle-sound}
+use Rattle.demands.specs.CleaningExactly.{Enough}
 use Rattle.demands.specs.Ending.{RoomEnds, ReadingRoomEnds, KeepingRoomEnds, lengths, CleaningRoomsEnd}
+use Rattle.demands.proofs.CleaningWords.{true-enough}
 
 -- ---- a room that is filled
 
@@ -96,16 +98,9 @@ keeping-long : (room : ℕ) (state q : Bytes) → (numberOf (keeping room state 
 unfolding keeping
 keeping-long room state q h = leb-true keptRoom room (long-enough (leb keptRoom room) (λ _. _) h)
 
-cleaning-long : (lent : Lent) (s : Bytes) (now retention : ℕ) → (numberOf (cleaning lent s now retention) ≡ 1 → ⊥)
-    → (namesRoom ≤ lent .names) × (rowsRoom ≤ lent .table₁) × (rowsRoom ≤ lent .table₂)
-unfolding cleaning enough
-cleaning-long lent s now retention h =
-    let a : Bool = leb namesRoom (lent .names) in
-    let b : Bool = leb rowsRoom (lent .table₁) in
-    let c : Bool = leb rowsRoom (lent .table₂) in
-    let e : (a && (b && c)) ≡ true = long-enough (a && (b && c)) (λ _. _) h in
-    let f : (b && c) ≡ true = and-right a (b && c) e in
-    (leb-true namesRoom (lent .names) (and-left a (b && c) e), leb-true rowsRoom (lent .table₁) (and-left b c f), leb-true rowsRoom (lent .table₂) (and-right b c f))
+cleaning-long : (lent : Lent) (s : Bytes) (now retention : ℕ) → (numberOf (cleaning lent s now retention) ≡ 1 → ⊥) → Enough lent
+unfolding cleaning
+cleaning-long lent s now retention h = true-enough lent (long-enough (enough lent) (λ _. _) h)
 
 -- ---- reading
 

@@ -1,4 +1,5 @@
--- What every well-formed bundle is: its files are numbered from 0, at most 1,024, and of each version file and checkpoint there is one.
+-- What every well-formed bundle is: its files are numbered from 0, at most 1,024, their padded names ascend, and of each version file and
+-- checkpoint there is one.
 use mathlib.Core.Path.{_≡_, refl, sym, _∙_, ap, subst}
 use mathlib.Core.Bool.{Bool, true, false}
 use mathlib.Core.Option.{Option, none, some}
