@@ -8,7 +8,7 @@ use Prim.Native.Nat.{ℕ, suc, _+_, _*_, _-_, _≤_}
 use native.Mathlib.Omega.{arith}
 use lib.Dec.{leb, eqb}
 use lib.ListN.{length, take, drop, replicate, length-take, length-drop, take-append-drop}
-use borrow.Author.Tests.{eqb-true}
+use borrow.Author.Tests.{eqb-true, leb-true}
 use Rattle.rules.specs.Bytes.{_>>=_, Bytes, guard, ascii, same, among}
 use Rattle.rules.specs.Numbers.{most, isDigit, decimalFrom, decimal}
 use Rattle.rules.specs.Bundle.{zeros, unpadded}
@@ -103,6 +103,23 @@ version-says s w e =
     let d = nameOf-digits s (version w) (λ q. apart (cc)) (λ q. apart (cc)) e in
     let k = numbered-version (same (drop 20 s) (ascii ".json")) (same (drop 20 s) (ascii ".checkpoint.json")) (leb (d .0) most) (d .0) w (d .2) in
     (d .1 ∙ ap some (k .1), same-true (drop 20 s) (ascii ".json") (k .0))
+
+numbered-small : (a b c : Bool) (n w : ℕ) → numbered a b c n ≡ version w → c ≡ true
+unfolding numbered
+numbered-small true b true n w e = refl
+numbered-small true b false n w e = apart (cc)
+numbered-small false true true n w e = refl
+numbered-small false true false n w e = apart (cc)
+numbered-small false false c n w e = apart (cc)
+
+-- no version is above 2^63 - 1
+pub version-small : (s : Bytes) (w : ℕ) → nameOf s ≡ version w → w ≤ most
+version-small s w e =
+    let d = nameOf-digits s (version w) (λ q. apart (cc)) (λ q. apart (cc)) e in
+    let json : Bool = same (drop 20 s) (ascii ".json") in
+    let checkpointed : Bool = same (drop 20 s) (ascii ".checkpoint.json") in
+    let n : d .0 ≡ w = numbered-version json checkpointed (leb (d .0) most) (d .0) w (d .2) .1 in
+    subst (λ (x : ℕ). x ≤ most) n (leb-true (d .0) most (numbered-small json checkpointed (leb (d .0) most) (d .0) w (d .2)))
 
 checkpoint-says : (s : Bytes) (w : ℕ) → nameOf s ≡ checkpoint w → Says (ascii ".checkpoint.json") w s
 checkpoint-says s w e =
