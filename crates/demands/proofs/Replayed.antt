@@ -2,24 +2,27 @@
 use mathlib.Core.Path.{_≡_, refl, sym, _∙_, ap, subst}
 use mathlib.Core.Bool.{Bool, true, false}
 use mathlib.Core.Option.{Option, none, some}
-use mathlib.Core.List.{List, [], _∷_, _++_}
+use mathlib.Core.List.{List, [], _∷_, _++_, append-nil}
 use Prim.Native.Nat.{ℕ, suc, _+_}
 use lib.ListN.{length}
 use Rattle.rules.specs.Bytes.{Bytes, same}
 use Rattle.rules.specs.Bundle.{File}
 use Rattle.rules.specs.Lines.{lines, anyObject}
-use Rattle.rules.specs.Actions.{Facts, Protocol, Action, add, remove, protocol, metaData, mergeskip, other, action}
+use Rattle.rules.specs.Actions.{Facts, MetaData, Protocol, Action, add, remove, protocol, metaData, mergeskip, other, action}
 use Rattle.rules.specs.Live.{mostLive, Row, pathOf, put, takeOut}
-use Rattle.rules.specs.History.{State, effect, withinLimit, readLine, readLines, readFile}
+use Rattle.rules.specs.History.{State, Said, effect, withinLimit, readLine, readLines, readFile, saidNothing, sayTable, sayProtocol, say, zeroLines, orUnstated, readZero}
 use Rattle.rules.specs.Starts.{Way, fromZero, fromCheckpoint, andThen, nothingLive, follow}
-use Rattle.rules.specs.Refusals.{accepted, _>>=_, orRefuse, require, malformed}
+use Rattle.rules.specs.Reading.{stateBy}
+use Rattle.rules.specs.Refusals.{accepted, _>>=_, orRefuse, require, malformed, noVersionZero, notKept}
 use Rattle.rules.proofs.Tests.{apart, by}
 use Rattle.rules.proofs.Order.{same-true, same-false}
 use Rattle.rules.proofs.Ascending.{Ascends}
 use Rattle.rules.proofs.Live.{lookup, lookup-put, lookup-put-other, lookup-takeOut, lookup-takeOut-other}
-use Rattle.rules.proofs.Replaying.{bind-accepted, withinLimit-accepted, effect-ascends, Ordered}
+use Rattle.rules.proofs.Replaying.{bind-accepted, withinLimit-accepted, effect-ascends, Ordered, stateBy-live}
+use Rattle.rules.proofs.Answers.{orRefuse-accepted}
 use Rattle.rules.proofs.Moving.{follow-table}
-use Rattle.demands.specs.Replayed.{actionsIn, actionsOn, after, afterAll, liveAt, lastProtocol, protocolBefore, ReplaysExactly}
+use Rattle.rules.proofs.Json.Suffix.{some-same}
+use Rattle.demands.specs.Replayed.{actionsIn, actionsOn, after, afterAll, liveAt, lastProtocol, protocolBefore, tablesIn, ZeroSays, ReplaysExactly}
 
 -- ---- the live file at a path
 
@@ -168,5 +171,92 @@ follow-comes z (andThen w g) st e h = go (bind-accepted (follow mostLive z w) (�
           ordered = d .ordered;
         }
 
+-- ---- version 0
+
+listOf : Option MetaData → List MetaData
+listOf none = []
+listOf (some m) = m ∷ []
+
+-- one action, in front of those that are left
+say-goes : (a : Action) (left : List Action) (s next : Said) → say a s ≡ some next
+    → (listOf (next .ofTable) ++ tablesIn left ≡ listOf (s .ofTable) ++ tablesIn (a ∷ left)) × (lastProtocol left (orUnstated (next .ofProtocol)) ≡ lastProtocol (a ∷ left) (orUnstated (s .ofProtocol)))
+unfolding say sayTable sayProtocol tablesIn lastProtocol listOf orUnstated
+say-goes (add f) left s next e = apart (cc)
+say-goes (remove q) left s next e = apart (cc)
+say-goes (protocol p) left s next e = go (s .ofProtocol) e
+  where
+    go : (o : Option Protocol) → sayProtocol o p s ≡ some next
+        → (listOf (next .ofTable) ++ tablesIn left ≡ listOf (s .ofTable) ++ tablesIn left) × (lastProtocol left (orUnstated (next .ofProtocol)) ≡ lastProtocol left p)
+    go none e = subst (λ (n : Said). (listOf (n .ofTable) ++ tablesIn left ≡ listOf (s .ofTable) ++ tablesIn left) × (lastProtocol left (orUnstated (n .ofProtocol)) ≡ lastProtocol left p)) (some-same e) (refl, refl)
+    go (some q) e = apart (cc)
+say-goes (metaData m) left s next e = go (s .ofTable) e
+  where
+    go : (o : Option MetaData) → sayTable o m s ≡ some next
+        → (listOf (next .ofTable) ++ tablesIn left ≡ listOf o ++ (m ∷ tablesIn left)) × (lastProtocol left (orUnstated (next .ofProtocol)) ≡ lastProtocol left (orUnstated (s .ofProtocol)))
+    go none e = subst (λ (n : Said). (listOf (n .ofTable) ++ tablesIn left ≡ m ∷ tablesIn left) × (lastProtocol left (orUnstated (n .ofProtocol)) ≡ lastProtocol left (orUnstated (s .ofProtocol)))) (some-same e) (refl, refl)
+    go (some n) e = apart (cc)
+say-goes mergeskip left s next e = apart (cc)
+say-goes other left s next e =
+    subst (λ (n : Said). (listOf (n .ofTable) ++ tablesIn left ≡ listOf (s .ofTable) ++ tablesIn left) × (lastProtocol left (orUnstated (n .ofProtocol)) ≡ lastProtocol left (orUnstated (s .ofProtocol)))) (some-same e) (refl, refl)
+
+record Said-so (ls : List Bytes) (s to : Said) : Type 0 where
+  table : listOf (to .ofTable) ≡ listOf (s .ofTable) ++ tablesIn (actionsIn ls)
+  inForce : orUnstated (to .ofProtocol) ≡ lastProtocol (actionsIn ls) (orUnstated (s .ofProtocol))
+
+zeroLines-goes : (e k : ℕ) (ls : List Bytes) (s to : Said) → zeroLines e k ls s ≡ accepted to → Said-so ls s to
+unfolding zeroLines actionsIn tablesIn lastProtocol
+zeroLines-goes e k [] s to h =
+    let q : s ≡ to = cc in
+    subst (Said-so [] s) q (record { table = sym (append-nil (listOf (s .ofTable))); inForce = refl })
+zeroLines-goes e k ([] ∷ ls) s to h = let r = zeroLines-goes e (suc k) ls s to h in record { table = r .table; inForce = r .inForce }
+zeroLines-goes e k ((b ∷ bs) ∷ ls) s to h = go (action (b ∷ bs)) refl h (λ next. zeroLines-goes e (suc k) ls next to)
+  where
+    said-so : (a : Action) (o : Option Said) → say a s ≡ o → (orRefuse (malformed e k) o >>= (λ next. zeroLines e (suc k) ls next)) ≡ accepted to
+        → ((next : Said) → zeroLines e (suc k) ls next ≡ accepted to → Said-so ls next to)
+        → (listOf (to .ofTable) ≡ listOf (s .ofTable) ++ tablesIn (a ∷ actionsIn ls)) × (orUnstated (to .ofProtocol) ≡ lastProtocol (a ∷ actionsIn ls) (orUnstated (s .ofProtocol)))
+    said-so a none q h ih = apart (cc)
+    said-so a (some next) q h ih = let r = ih next h in let t = say-goes a (actionsIn ls) s next q in (r .table ∙ t .0, r .inForce ∙ t .1)
+
+    go : (o : Option Action) → action (b ∷ bs) ≡ o → (orRefuse (malformed e k) o >>= (λ a. orRefuse (malformed e k) (say a s) >>= (λ next. zeroLines e (suc k) ls next))) ≡ accepted to
+        → ((next : Said) → zeroLines e (suc k) ls next ≡ accepted to → Said-so ls next to) → Said-so ((b ∷ bs) ∷ ls) s to
+    go none q h ih = apart (cc)
+    go (some a) q h ih = let r = said-so a (say a s) refl h ih in record { table = rw (actionsIn, q) (r .0); inForce = rw (actionsIn, q) (r .1) }
+
+readZero-says : (f : File) (z : State) → readZero f ≡ accepted z → ZeroSays f z
+unfolding readZero listOf saidNothing orUnstated
+readZero-says f z h =
+    let a = bind-accepted (zeroLines (f .entry) 1 (lines (f .body)) saidNothing) (λ s. orRefuse (malformed (f .entry) 0) (s .ofTable) >>= (λ m. accepted (stateOf s m))) h in
+    let b = bind-accepted (orRefuse (malformed (f .entry) 0) (a .0 .ofTable)) (λ m. accepted (stateOf (a .0) m)) (a .2) in
+    go (a .0) (b .0) (zeroLines-goes (f .entry) 1 (lines (f .body)) saidNothing (a .0) (a .1)) (orRefuse-accepted (malformed (f .entry) 0) (a .0 .ofTable) (b .1)) (b .2)
+  where
+    stateOf : Said → MetaData → State
+    stateOf s m = record { table = m; inForce = orUnstated (s .ofProtocol); live = [] }
+
+    go : (s : Said) (m : MetaData) → Said-so (lines (f .body)) saidNothing s → s .ofTable ≡ some m → accepted (stateOf s m) ≡ accepted z → ZeroSays f z
+    go s m r t e =
+        let q : stateOf s m ≡ z = cc in
+        subst (ZeroSays f) q (record { table = sym (r .table) ∙ ap listOf t; inForce = r .inForce; live = refl })
+
+-- ---- the state
+
 pub replays-exactly : ReplaysExactly
-replays-exactly z w st e h = let c = follow-comes z w st e h in record { live = c .live; inForce = c .inForce; table = follow-table mostLive z w st h }
+unfolding stateBy
+replays-exactly log way st h =
+    let a = bind-accepted (orRefuse noVersionZero (log .versionFile 0)) (λ zf. orRefuse notKept way >>= (λ w. readZero zf >>= (λ z. follow mostLive z w))) h in
+    let b = bind-accepted (orRefuse notKept way) (λ w. readZero (a .0) >>= (λ z. follow mostLive z w)) (a .2) in
+    let c = bind-accepted (readZero (a .0)) (λ z. follow mostLive z (b .0)) (b .2) in
+    let z = readZero-says (a .0) (c .0) (c .1) in
+    let w = follow-comes (c .0) (b .0) st (z .live) (c .2) in
+    record {
+      zero = a .0;
+      z = c .0;
+      w = b .0;
+      zero-there = orRefuse-accepted noVersionZero (log .versionFile 0) (a .1);
+      way-there = orRefuse-accepted notKept way (b .1);
+      zero-says = z;
+      table = follow-table mostLive (c .0) (b .0) st (c .2);
+      inForce = w .inForce;
+      live = w .live;
+      in-order = w .ordered;
+      few = stateBy-live log way st h .1;
+    }

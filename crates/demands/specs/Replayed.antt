@@ -3,12 +3,17 @@ use mathlib.Core.Path.{_≡_}
 use mathlib.Core.Bool.{true, false}
 use mathlib.Core.Option.{Option, none, some}
 use mathlib.Core.List.{List, [], _∷_, _++_}
-use Rattle.rules.specs.Bytes.{Bytes, same}
+use Prim.Native.Nat.{_≤_}
+use lib.ListN.{length}
+use Rattle.facts.specs.Lists.{All}
+use Rattle.rules.specs.Bytes.{Bytes, less, order, same}
+use Rattle.rules.specs.Bundle.{File}
 use Rattle.rules.specs.Lines.{lines}
-use Rattle.rules.specs.Actions.{Facts, Protocol, unstated, Action, add, remove, protocol, metaData, mergeskip, other, action}
-use Rattle.rules.specs.Live.{mostLive, Row}
+use Rattle.rules.specs.Actions.{Facts, MetaData, Protocol, unstated, Action, add, remove, protocol, metaData, mergeskip, other, action}
+use Rattle.rules.specs.Live.{mostLive, Row, pathOf}
 use Rattle.rules.specs.History.{State}
-use Rattle.rules.specs.Starts.{Way, fromZero, fromCheckpoint, andThen, follow}
+use Rattle.rules.specs.Starts.{Log, Way, fromZero, fromCheckpoint, andThen}
+use Rattle.rules.specs.Reading.{stateBy}
 use Rattle.rules.specs.Refusals.{accepted}
 
 -- ---- the actions on a way, in order
@@ -42,6 +47,11 @@ unfoldable pub liveAt : Bytes → List Row → Option Facts
 liveAt p [] = none
 liveAt p (r ∷ rs) = elim (same p (r .facts .path)) [ true ↦ some (r .facts) | false ↦ liveAt p rs ]
 
+-- in path byte order, each path once
+abbrev pub InPathOrder : List Row → Type 0
+InPathOrder [] = Unit {0}
+InPathOrder (r ∷ rs) = All (λ (s : Row). order (pathOf r) (pathOf s) ≡ less) rs × InPathOrder rs
+
 -- ---- the last protocol line is in force
 
 unfoldable pub lastProtocol : List Action → Protocol → Protocol
@@ -59,11 +69,37 @@ protocolBefore fromZero p = p
 protocolBefore (fromCheckpoint f) p = unstated
 protocolBefore (andThen w g) p = protocolBefore w p
 
--- `z` is the state that version 0 gives, in which nothing is live; only version 0's metaData counts
-pub record Replays (z : State) (w : Way) (st : State) : Type 0 where
-  pub live : (p : Bytes) → liveAt p (st .live) ≡ afterAll p (actionsOn w) none
-  pub inForce : st .inForce ≡ lastProtocol (actionsOn w) (protocolBefore w (z .inForce))
+-- ---- version 0
+
+unfoldable pub tablesIn : List Action → List MetaData
+tablesIn [] = []
+tablesIn (add f ∷ acts) = tablesIn acts
+tablesIn (remove q ∷ acts) = tablesIn acts
+tablesIn (protocol p ∷ acts) = tablesIn acts
+tablesIn (metaData m ∷ acts) = m ∷ tablesIn acts
+tablesIn (mergeskip ∷ acts) = tablesIn acts
+tablesIn (other ∷ acts) = tablesIn acts
+
+-- exactly one metaData; the protocol, or (1, 1) without one; nothing is live
+pub record ZeroSays (f : File) (z : State) : Type 0 where
+  pub table : tablesIn (actionsIn (lines (f .body))) ≡ z .table ∷ []
+  pub inForce : z .inForce ≡ lastProtocol (actionsIn (lines (f .body))) unstated
+  pub live : z .live ≡ []
+
+-- ---- the state at the end of the way; only version 0's metaData counts
+
+pub record StateSays (log : Log) (way : Option Way) (st : State) : Type 0 where
+  pub zero : File
+  pub z : State
+  pub w : Way
+  pub zero-there : log .versionFile 0 ≡ some zero
+  pub way-there : way ≡ some w
+  pub zero-says : ZeroSays zero z
   pub table : st .table ≡ z .table
+  pub inForce : st .inForce ≡ lastProtocol (actionsOn w) (protocolBefore w (z .inForce))
+  pub live : (p : Bytes) → liveAt p (st .live) ≡ afterAll p (actionsOn w) none
+  pub in-order : InPathOrder (st .live)
+  pub few : length (st .live) ≤ mostLive
 
 abbrev pub ReplaysExactly : Type 0
-ReplaysExactly = (z : State) (w : Way) (st : State) → z .live ≡ [] → follow mostLive z w ≡ accepted st → Replays z w st
+ReplaysExactly = (log : Log) (way : Option Way) (st : State) → stateBy log way ≡ accepted st → StateSays log way st
