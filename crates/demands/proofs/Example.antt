@@ -25,8 +25,8 @@ use Rattle.demands.specs.Example as Example
 use Rattle.demands.specs.Example.{whole, ExampleIsFull, answers}
 
 pub answers-hold : Holds answers
-unfolding rules answers whole Example.zero Example.one Example.checkpointAtOne Example.two
-answers-hold = (refl, (refl, (refl, (refl, tt))))
+unfolding rules answers whole Example.zero Example.one Example.checkpointAtOne Example.untrueAtOne Example.two
+answers-hold = (refl, (refl, (refl, (refl, (refl, tt)))))
 
 -- ---- its files
 

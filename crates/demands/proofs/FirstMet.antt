@@ -1,8 +1,8 @@
 -- Reading is refused exactly at the first line met: forward by the steps of the reading, backward by the lines before it, which are accepted.
 use mathlib.Core.Path.{_≡_, refl, sym, _∙_, ap, subst}
 use mathlib.Core.Logic.{_⊎_, inl, inr}
-use mathlib.Core.Bool.{Bool, true, false}
-use mathlib.Core.Option.{Option, none, some}
+use mathlib.Core.Bool.{false}
+use mathlib.Core.Option.{none, some}
 use mathlib.Core.List.{List, [], _∷_, _++_}
 use Prim.Native.Nat.{ℕ, suc, _+_, _<_}
 use native.Mathlib.Omega.{arith}
@@ -17,23 +17,9 @@ use Rattle.rules.specs.Live.{mostLive}
 use Rattle.rules.specs.History.{State, effect, withinLimit, readLine, readLines, readFile}
 use Rattle.rules.specs.Refusals.{Refusal, Answer, accepted, refused, _>>=_, orRefuse, require, malformed, tooManyLive}
 use Rattle.rules.proofs.Tests.{apart}
-use Rattle.rules.proofs.Answers.{bind-refused}
+use Rattle.rules.proofs.Answers.{bind-refused, orRefuse-refused, orRefuse-accepted, require-refused}
 use Rattle.rules.proofs.Moving.{effect-same, same-held-refl, same-rows-length}
 use Rattle.demands.specs.Met.{Line, MetIn, malformed-line, too-many, no-object}
-
--- ---- steps that refuse
-
-pub orRefuse-refused : {A : Type 0} (r : Refusal) (o : Option A) {s : Refusal} → orRefuse r o ≡ refused s → (o ≡ none) × (r ≡ s)
-orRefuse-refused r none e = (refl, cc)
-orRefuse-refused r (some a) e = apart (cc)
-
-pub require-refused : (r : Refusal) (b : Bool) {s : Refusal} → require r b ≡ refused s → (b ≡ false) × (r ≡ s)
-require-refused r true e = apart (cc)
-require-refused r false e = (refl, cc)
-
-pub orRefuse-accepted : {A : Type 0} (r : Refusal) (o : Option A) {a : A} → orRefuse r o ≡ accepted a → o ≡ some a
-orRefuse-accepted r none e = apart (cc)
-orRefuse-accepted r (some x) e = cc
 
 -- ---- one line
 

@@ -1,9 +1,9 @@
 -- Demand 1, the rooms: an answer's numbers never exceed the stated room, so what lies beyond stays, and so does the length.
 use mathlib.Core.Path.{_≡_, refl, sym, _∙_, ap, subst}
 use mathlib.Core.Logic.{_⊎_, inl, inr}
-use mathlib.Core.Bool.{Bool, true, false, not, _&&_}
+use mathlib.Core.Bool.{Bool, true, false, not}
 use mathlib.Core.Option.{Option, none, some}
-use mathlib.Core.List.{List, [], _∷_, _++_, map}
+use mathlib.Core.List.{List, [], _∷_, _++_, map, append-assoc}
 use Prim.Native.Nat.{ℕ, zero, suc, _+_, _*_, _-_, _≤_}
 use native.Mathlib.Omega.{arith}
 use lib.Dec.{leb}
@@ -26,12 +26,14 @@ use Rattle.rules.specs.Reading.{Asked, versionAsked, Listing, stateBy, listing,
 use Rattle.rules.specs.Keeping.{keeping, roomAfterKeeping}
 use Rattle.rules.specs.Cleaning.{mayGo, named, compared, cleanedBy, cleanedAt, Lent, enough, cleaning, namesAfterCleaning, tableAfterCleaning}
 use Rattle.rules.specs.Refusals.{Answer, accepted, refused, _>>=_, orRefuse, require, roomTooShort, bundleMalformed, versionTooLarge, noVersionZero, queryMalformed, noSuchColumn, stateMalformed, tooManyManifests}
-use Rattle.rules.proofs.Tests.{apart, and-left, and-right}
+use Rattle.rules.proofs.Tests.{apart}
 use Rattle.rules.proofs.Replaying.{bind-accepted, require-accepted, stateBy-live}
 use Rattle.rules.proofs.Rooms.{length-filled, leaves-accepted, leaves-untouched, leaves-zeros}
 use Rattle.rules.proofs.Answers.{numberOf, refused-number}
 use Rattle.rules.proofs.Bundles.{bundle-sound}
+use Rattle.demands.specs.CleaningExactly.{Enough}
 use Rattle.demands.specs.Ending.{RoomEnds, ReadingRoomEnds, KeepingRoomEnds, lengths, CleaningRoomsEnd}
+use Rattle.demands.proofs.CleaningWords.{true-enough}
 
 -- ---- a room that is filled
 
@@ -43,20 +45,25 @@ drop-filled n xs room h =
     let inner : drop (n - length xs) (zs ++ drop n room) ≡ drop n room = drop-at zs (drop n room) (n - length xs) (length-replicate (n - length xs) 0) in
     ap (λ (k : ℕ). drop k (xs ++ (zs ++ drop n room))) e ∙ drop-append-add xs (zs ++ drop n room) (n - length xs) ∙ inner
 
-take-filled-none : (n : ℕ) (room : Room) → take n (filled n [] room) ≡ replicate n 0
+take-filled : (n : ℕ) (xs : List ℕ) (room : Room) → length xs ≤ n → take n (filled n xs room) ≡ xs ++ replicate (n - length xs) 0
 unfolding filled
-take-filled-none n room =
-    let e : n - 0 ≡ n = omega arith in
-    ap (λ (k : ℕ). take n (replicate {A = ℕ} k 0 ++ drop n room)) e ∙ take-at (replicate n 0) (drop n room) n (length-replicate n 0)
+take-filled n xs room h =
+    let zs : List ℕ = replicate (n - length xs) 0 in
+    let e : length (xs ++ zs) ≡ n = length-append xs zs ∙ ap (λ (k : ℕ). length xs + k) (length-replicate (n - length xs) 0) ∙ omega arith in
+    ap (take n) (sym (append-assoc xs zs (drop n room))) ∙ take-at (xs ++ zs) (drop n room) n e
+
+take-filled-none : (n : ℕ) (room : Room) → take n (filled n [] room) ≡ replicate n 0
+take-filled-none n room = let e : n - 0 ≡ n = omega arith in take-filled n [] room (omega arith) ∙ ap (λ (k : ℕ). replicate {A = ℕ} k 0) e
 
 -- ---- what an answer leaves, where only refusal 1 comes of a short room, and the numbers are not too many
 
 leaves-ends : {A : Type 0} (n : ℕ) (numbers : A → List ℕ) (answer : Answer A) (room : Room) → ((numberOf answer ≡ 1 → ⊥) → n ≤ length room)
-    → ((a : A) → answer ≡ accepted a → length (numbers a) ≤ n) → RoomEnds n answer room (leaves n numbers answer room)
+    → ((a : A) → answer ≡ accepted a → length (numbers a) ≤ n) → RoomEnds n numbers answer room (leaves n numbers answer room)
 unfolding numberOf
-leaves-ends n numbers (accepted a) room long few =
+leaves-ends {A} n numbers (accepted a) room long few =
     let e = leaves-accepted n numbers room a in
     record {
+      filled = λ b h. let q : a ≡ b = cc in ap (take n) e ∙ subst (λ (x : A). take n (filled n (numbers a) room) ≡ numbers x ++ replicate (n - length (numbers x)) 0) q (take-filled n (numbers a) room (few a refl));
       untouched = λ r h. apart (cc);
       zeros = λ r h. apart (cc);
       beyond = ap (drop n) e ∙ drop-filled n (numbers a) room (few a refl);
@@ -69,13 +76,14 @@ leaves-ends {A} n numbers (refused s) room long few = by-number (decide (s .numb
     decide (suc zero) = inl refl
     decide (suc (suc k)) = inr (λ q. omega arith)
 
-    by-number : (s .number ≡ 1) ⊎ (s .number ≡ 1 → ⊥) → RoomEnds {A = A} n (refused s) room (leaves n numbers (refused s) room)
+    by-number : (s .number ≡ 1) ⊎ (s .number ≡ 1 → ⊥) → RoomEnds {A = A} n numbers (refused s) room (leaves n numbers (refused s) room)
     by-number (inl one) =
         let e = leaves-untouched n numbers room s one in
-        record { untouched = λ r h q. e; zeros = λ r h q. absurd (q (sym (refused-number h) ∙ one)); beyond = ap (drop n) e; long = ap length e }
+        record { filled = λ b h. apart (cc); untouched = λ r h q. e; zeros = λ r h q. absurd (q (sym (refused-number h) ∙ one)); beyond = ap (drop n) e; long = ap length e }
     by-number (inr other) =
         let e = leaves-zeros n numbers room s other in
         record {
+          filled = λ b h. apart (cc);
           untouched = λ r h q. absurd (other (refused-number h ∙ q));
           zeros = λ r h q. ap (take n) e ∙ take-filled-none n room;
           beyond = ap (drop n) e ∙ drop-filled n [] room (omega arith);
@@ -96,16 +104,9 @@ keeping-long : (room : ℕ) (state q : Bytes) → (numberOf (keeping room state 
 unfolding keeping
 keeping-long room state q h = leb-true keptRoom room (long-enough (leb keptRoom room) (λ _. _) h)
 
-cleaning-long : (lent : Lent) (s : Bytes) (now retention : ℕ) → (numberOf (cleaning lent s now retention) ≡ 1 → ⊥)
-    → (namesRoom ≤ lent .names) × (rowsRoom ≤ lent .table₁) × (rowsRoom ≤ lent .table₂)
-unfolding cleaning enough
-cleaning-long lent s now retention h =
-    let a : Bool = leb namesRoom (lent .names) in
-    let b : Bool = leb rowsRoom (lent .table₁) in
-    let c : Bool = leb rowsRoom (lent .table₂) in
-    let e : (a && (b && c)) ≡ true = long-enough (a && (b && c)) (λ _. _) h in
-    let f : (b && c) ≡ true = and-right a (b && c) e in
-    (leb-true namesRoom (lent .names) (and-left a (b && c) e), leb-true rowsRoom (lent .table₁) (and-left b c f), leb-true rowsRoom (lent .table₂) (and-right b c f))
+cleaning-long : (lent : Lent) (s : Bytes) (now retention : ℕ) → (numberOf (cleaning lent s now retention) ≡ 1 → ⊥) → Enough lent
+unfolding cleaning
+cleaning-long lent s now retention h = true-enough lent (long-enough (enough lent) (λ _. _) h)
 
 -- ---- reading
 

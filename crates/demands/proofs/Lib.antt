@@ -1,5 +1,6 @@
 pub mod Starts
 pub mod Removal
+pub mod Ordered
 pub mod Readable
 pub mod FirstSentence
 pub mod Upward
@@ -14,6 +15,8 @@ pub mod Exactly
 pub mod KeepingExactly
 pub mod CleaningWords
 pub mod CleaningExactly
+pub mod Replayed
 pub mod Choosing
 pub mod Showing
 pub mod WrongPrograms
+pub mod Demands

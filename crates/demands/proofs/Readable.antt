@@ -13,12 +13,13 @@ use Rattle.rules.specs.Lines.{lines, anyObject}
 use Rattle.rules.specs.Actions.{Action, action}
 use Rattle.rules.specs.Live.{mostLive}
 use Rattle.rules.specs.History.{State, effect, withinLimit, readLine, readLines, readFile, readZero}
-use Rattle.rules.specs.Starts.{Log, logOf, everyLine, wellFormed, Way, fromZero, andThen, byFile, onwardBy, historyTo, follow}
+use Rattle.rules.specs.Starts.{Log, logOf, everyLine, wellFormed, Way, fromZero, fromCheckpoint, andThen, byFile, onwardBy, historyTo, nothingLive, follow}
 use Rattle.rules.specs.Reading.{stateBy}
-use Rattle.rules.specs.Refusals.{_>>=_, Answer, accepted, refused, orRefuse, require, malformed, tooManyLive}
+use Rattle.rules.specs.Refusals.{_>>=_, Answer, accepted, refused, orRefuse, require, noVersionZero, notKept, malformed, tooManyLive}
 use Rattle.rules.proofs.Tests.{apart}
+use Rattle.rules.proofs.Replaying.{bind-accepted, require-accepted}
 use Rattle.demands.specs.Reaching.{There}
-use Rattle.demands.specs.FullHistory.{FullHistory}
+use Rattle.demands.specs.FullHistory.{FullHistory, TrueIsReadable}
 use Rattle.demands.proofs.Starts.{byFile-some}
 
 data Fine : Answer State → Type 0 where
@@ -112,3 +113,34 @@ history-told fs n full v l =
         → (a : Answer State) → follow mostLive x h ≡ a → Fine a → (st : State) × (stateBy (logOf fs) (historyTo (logOf fs) v) ≡ accepted st)
     go zf h x ez e _ ef (fine st) = (st, e ∙ rw (ez, ef))
     go zf h x ez e _ ef (over i j) = absurd (full .never-over v i j (e ∙ rw (ez, ef)))
+
+-- ---- and what is accepted is readable
+
+readLines-everyLine : (e k at : ℕ) (ls : List Bytes) (st to : State) → readLines mostLive e k at ls st ≡ accepted to → everyLine ls ≡ true
+unfolding readLines readLine everyLine
+readLines-everyLine e k at [] st to h = refl
+readLines-everyLine e k at ([] ∷ ls) st to h = readLines-everyLine e (suc k) (at + 0 + 1) ls st to h
+readLines-everyLine e k at ((b ∷ bs) ∷ ls) st to h = go (action (b ∷ bs)) h (λ next. readLines-everyLine e (suc k) (at + length (b ∷ bs) + 1) ls next to)
+  where
+    go : (o : Option Action)
+        → ((orRefuse (malformed e k) o >>= (λ a. withinLimit mostLive e k (effect at (length (b ∷ bs)) a st))) >>= (λ next. readLines mostLive e (suc k) (at + length (b ∷ bs) + 1) ls next)) ≡ accepted to
+        → ((next : State) → readLines mostLive e (suc k) (at + length (b ∷ bs) + 1) ls next ≡ accepted to → everyLine ls ≡ true) → elim o [ none ↦ false | some a ↦ everyLine ls ] ≡ true
+    go none h ih = apart (cc)
+    go (some a) h ih =
+        let r = bind-accepted (withinLimit mostLive e k (effect at (length (b ∷ bs)) a st)) (λ next. readLines mostLive e (suc k) (at + length (b ∷ bs) + 1) ls next) h in
+        ih (r .0) (r .2)
+
+readFile-wellFormed : (f : File) (st to : State) → readFile mostLive f st ≡ accepted to → wellFormed (f .body) ≡ true
+unfolding readFile wellFormed
+readFile-wellFormed f st to h =
+    let r = bind-accepted (readLines mostLive (f .entry) 1 (f .start) (lines (f .body)) st) (λ next. require (malformed (f .entry) 0) (anyObject (lines (f .body))) >>= (λ _. accepted next)) h in
+    let t = bind-accepted (require (malformed (f .entry) 0) (anyObject (lines (f .body)))) (λ _. accepted (r .0)) (r .2) in
+    let any : anyObject (lines (f .body)) ≡ true = require-accepted (malformed (f .entry) 0) (anyObject (lines (f .body))) (t .1) in
+    rw (wellFormed, any) (readLines-everyLine (f .entry) 1 (f .start) (lines (f .body)) st (r .0) (r .1))
+
+pub true-is-readable : TrueIsReadable
+unfolding stateBy follow
+true-is-readable log c f t =
+    let a = bind-accepted (orRefuse noVersionZero (log .versionFile 0)) (λ zf. orRefuse notKept (some (fromCheckpoint f)) >>= (λ w. readZero zf >>= (λ z. follow mostLive z w))) (t .own-read) in
+    let b = bind-accepted (readZero (a .0)) (λ z. follow mostLive z (fromCheckpoint f)) (a .2) in
+    readFile-wellFormed f (nothingLive (b .0 .table)) (t .own) (b .2)

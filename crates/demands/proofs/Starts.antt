@@ -1,15 +1,19 @@
 -- The way to a version is there exactly where a start reaches it, and begins at the highest; the latest version stops at a gap.
 use mathlib.Core.Path.{_≡_, refl, subst}
 use mathlib.Core.Logic.{_⊎_, inl, inr}
+use mathlib.Core.Bool.{Bool, true, false}
 use mathlib.Core.Option.{Option, none, some}
+use mathlib.Core.List.{List, [], _∷_}
 use Prim.Native.Nat.{ℕ, zero, suc, _+_, _≤_, _<_}
 use native.Mathlib.Omega.{arith}
 use native.Mathlib.Decide.{decLe}
 use Rattle.rules.specs.Numbers.{most}
 use Rattle.rules.specs.Bundle.{File}
-use Rattle.rules.specs.Starts.{Log, startAt, Way, fromZero, fromCheckpoint, andThen, onwardBy, byFile, byStart, wayTo}
+use Rattle.rules.specs.Names.{Name, nameOf, versionIn, is}
+use Rattle.rules.specs.Starts.{Log, find, logOf, startAt, Way, fromZero, fromCheckpoint, andThen, onwardBy, byFile, byStart, wayTo}
 use Rattle.rules.specs.Marker.{marked, climbBy, climb, orZero, latest}
 use Rattle.rules.proofs.Tests.{apart}
+use Rattle.rules.proofs.SoleNames.{is-version, version-small}
 use Rattle.demands.specs.Reaching.{There, IsStart, Reaches, SomeStart, NoStart, From, at-checkpoint, at-zero, and-then, Highest, ReadFromTheHighest, StopsAtAGap, LatestStopsAtAGap}
 
 -- ---- by the steps of the way
@@ -167,14 +171,40 @@ pub latest-above : (log : Log) → orZero (marked log) ≤ latest log
 unfolding latest
 latest-above log = climb-climbs most log (orZero (marked log)) .above
 
+-- what is found passes the test
+find-passes : (test : Name → Bool) (fs : List File) (f : File) → find test fs ≡ some f → test (nameOf (f .name)) ≡ true
+unfolding find
+find-passes test [] f e = apart (cc)
+find-passes test (g ∷ fs) f e = go (test (nameOf (g .name))) refl e (find-passes test fs f)
+  where
+    go : (b : Bool) → test (nameOf (g .name)) ≡ b → _≡_ {A = Option File} (elim b [ true ↦ some g | false ↦ find test fs ]) (some f)
+        → (find test fs ≡ some f → test (nameOf (f .name)) ≡ true) → test (nameOf (f .name)) ≡ true
+    go true q e ih = let p : g ≡ f = cc in subst (λ (x : File). test (nameOf (x .name)) ≡ true) p q
+    go false q e ih = ih e
+
+-- no version is above 2^63 - 1
+none-above-most : (fs : List File) (w : ℕ) → most < w → logOf fs .versionFile w ≡ none
+unfolding logOf
+none-above-most fs w l = go (find (λ n. is w (versionIn n)) fs) refl
+  where
+    go : (o : Option File) → find (λ n. is w (versionIn n)) fs ≡ o → o ≡ none
+    go none e = refl
+    go (some f) e =
+        let m : w ≤ most = version-small (f .name) w (is-version w (nameOf (f .name)) (find-passes (λ n. is w (versionIn n)) fs f e)) in
+        absurd (omega arith)
+
 -- where the bound is met, the next version is too large to be there
 pub latest-stops : LatestStopsAtAGap
 unfolding latest
-latest-stops log small = go (climb most log (orZero (marked log))) (climb-climbs most log (orZero (marked log)))
+latest-stops fs = go (climb most (logOf fs) (orZero (marked (logOf fs)))) (climb-climbs most (logOf fs) (orZero (marked (logOf fs))))
   where
-    go : (r : ℕ) → Climbed most log (orZero (marked log)) r → StopsAtAGap log (orZero (marked log)) r
-    go r p = record { above = p .above; no-gap = p .no-gap; gap = gap (p .stops) }
+    go : (r : ℕ) → Climbed most (logOf fs) (orZero (marked (logOf fs))) r → StopsAtAGap (logOf fs) (orZero (marked (logOf fs))) r
+    go r p = record { reached = record { below = p .above; between = p .no-gap }; highest = λ v q. highest v q (decLe v r); gap = gap (p .stops) }
       where
-        gap : (log .versionFile (suc r) ≡ none) ⊎ (r ≡ orZero (marked log) + most) → log .versionFile (suc r) ≡ none
+        gap : (logOf fs .versionFile (suc r) ≡ none) ⊎ (r ≡ orZero (marked (logOf fs)) + most) → logOf fs .versionFile (suc r) ≡ none
         gap (inl e) = e
-        gap (inr e) = small (suc r) (omega arith)
+        gap (inr e) = none-above-most fs (suc r) (omega arith)
+
+        highest : (v : ℕ) → Reaches (logOf fs) (orZero (marked (logOf fs))) v → Dec (v ≤ r) → v ≤ r
+        highest v q (yes l) = l
+        highest v q (no n) = absurd (not-there (gap (p .stops)) (q .between (suc r) (omega (arith, p .above)) (omega arith)))

@@ -15,9 +15,9 @@ use Rattle.rules.specs.History.{State, Said, readFile, saidNothing, say, zeroLi
 use Rattle.rules.specs.Starts.{Way, fromZero, fromCheckpoint, andThen, nothingLive, follow}
 use Rattle.rules.specs.Refusals.{Refusal, Answer, accepted, refused, _>>=_, orRefuse, malformed, tooManyLive}
 use Rattle.rules.proofs.Tests.{apart}
-use Rattle.rules.proofs.Answers.{bind-refused}
+use Rattle.rules.proofs.Answers.{bind-refused, orRefuse-refused}
 use Rattle.demands.specs.Met.{MetIn, too-many, no-object, ZeroLine, MetInZero, malformed-line, out-of-place, no-metaData, MetOn, in-checkpoint, earlier, in-version, Met, in-zero, on-way}
-use Rattle.demands.proofs.FirstMet.{orRefuse-refused, readFile-met, met-readFile}
+use Rattle.demands.proofs.FirstMet.{readFile-met, met-readFile}
 
 -- ---- lines of version 0
 

@@ -1,12 +1,12 @@
 -- Demand 1: every entry takes any bundle, query, version, time and lent room, and ends with an answer or a numbered refusal, one of those
 -- that the paper lists for it. Room that is too short is left untouched; after any other refusal the stated rooms hold zeros; beyond, and in length, they stay.
 use mathlib.Core.Path.{_≡_}
-use mathlib.Core.List.{List, [], _∷_}
-use Prim.Native.Nat.{ℕ}
+use mathlib.Core.List.{List, [], _∷_, _++_}
+use Prim.Native.Nat.{ℕ, _-_}
 use lib.ListN.{length, take, drop, replicate}
 use Rattle.rules.specs.Bytes.{Bytes}
-use Rattle.rules.specs.Rooms.{Room, rowsRoom, keptRoom, namesRoom}
-use Rattle.rules.specs.Reading.{Asked, reading, roomAfterReading}
+use Rattle.rules.specs.Rooms.{Room, rowsRoom, keptRoom, namesRoom, rowsNumbers}
+use Rattle.rules.specs.Reading.{Asked, Listing, reading, roomAfterReading}
 use Rattle.rules.specs.Keeping.{keeping, roomAfterKeeping}
 use Rattle.rules.specs.Cleaning.{Lent, cleaning, namesAfterCleaning, tableAfterCleaning}
 use Rattle.rules.specs.Refusals.{Refusal, Answer, accepted, refused}
@@ -35,8 +35,9 @@ CleaningEnds = (lent : Lent) (s : Bytes) (now retention : ℕ) → Ends (1 ∷ 2
 
 -- ---- the rooms
 
--- a room of which n numbers are stated, before and after an answer
-pub record RoomEnds {A : Type 0} (n : ℕ) (answer : Answer A) (before after : Room) : Type 0 where
+-- a room of which n numbers are stated, before and after an answer: its numbers in front, then zeros
+pub record RoomEnds {A : Type 0} (n : ℕ) (numbers : A → List ℕ) (answer : Answer A) (before after : Room) : Type 0 where
+  pub filled : (a : A) → answer ≡ accepted a → take n after ≡ numbers a ++ replicate (n - length (numbers a)) 0
   pub untouched : (r : Refusal) → answer ≡ refused r → r .number ≡ 1 → after ≡ before
   pub zeros : (r : Refusal) → answer ≡ refused r → (r .number ≡ 1 → ⊥) → take n after ≡ replicate n 0
   pub beyond : drop n after ≡ drop n before
@@ -45,20 +46,21 @@ pub record RoomEnds {A : Type 0} (n : ℕ) (answer : Answer A) (before after : R
 abbrev pub ReadingRoomEnds : Type 0
 ReadingRoomEnds =
     (room : Room) (s q : Bytes) (asked : Asked)
-    → RoomEnds rowsRoom (reading (length room) s q asked) room (roomAfterReading (reading (length room) s q asked) room)
+    → RoomEnds rowsRoom (λ (l : Listing). rowsNumbers (l .rows)) (reading (length room) s q asked) room (roomAfterReading (reading (length room) s q asked) room)
 
 abbrev pub KeepingRoomEnds : Type 0
 KeepingRoomEnds =
-    (room : Room) (state q : Bytes) → RoomEnds keptRoom (keeping (length room) state q) room (roomAfterKeeping (keeping (length room) state q) room)
+    (room : Room) (state q : Bytes)
+    → RoomEnds keptRoom (λ (ks : List ℕ). ks) (keeping (length room) state q) room (roomAfterKeeping (keeping (length room) state q) room)
 
 abbrev pub lengths : (names table₁ table₂ : Room) → Lent
 lengths names table₁ table₂ = record { names = length names; table₁ = length table₁; table₂ = length table₂ }
 
 -- the entries named, and the two tables, whose numbers are zero at the end whatever the answer is
 pub record CleaningRooms (names table₁ table₂ : Room) (answer : Answer (List ℕ)) : Type 0 where
-  pub of-names : RoomEnds namesRoom answer names (namesAfterCleaning answer names)
-  pub first-table : RoomEnds rowsRoom answer table₁ (tableAfterCleaning answer table₁)
-  pub second-table : RoomEnds rowsRoom answer table₂ (tableAfterCleaning answer table₂)
+  pub of-names : RoomEnds namesRoom (λ (es : List ℕ). es) answer names (namesAfterCleaning answer names)
+  pub first-table : RoomEnds rowsRoom (λ (es : List ℕ). []) answer table₁ (tableAfterCleaning answer table₁)
+  pub second-table : RoomEnds rowsRoom (λ (es : List ℕ). []) answer table₂ (tableAfterCleaning answer table₂)
 
 abbrev pub CleaningRoomsEnd : Type 0
 CleaningRoomsEnd =

@@ -22,6 +22,10 @@ checkpointAtOne =
     file "00000000000000000001.checkpoint.json" 0
     ("" ∷ "{'add':{'path':'\\u0061','size':1,'dataChange':false,'modificationTime':1,'partitionValues':{'y':null,'x':'1'},'numRecords':null}}" ∷ [])
 
+-- well formed, and not true
+unfoldable pub untrueAtOne : Sample
+untrueAtOne = file "00000000000000000001.checkpoint.json" 0 ("{'add':{'path':'c','size':1,'modificationTime':1,'dataChange':true,'partitionValues':{}}}" ∷ [])
+
 unfoldable pub two : Sample
 two = file "00000000000000000002.json" 0 ("{'add':{'path':'b','size':1,'modificationTime':1,'dataChange':true,'partitionValues':{}}}" ∷ [])
 
@@ -31,11 +35,13 @@ whole = bundleOf (zero ∷ checkpointAtOne ∷ one ∷ two ∷ [])
 abbrev pub ExampleIsFull : Type 0
 ExampleIsFull = (fs : List File) × (bundle whole ≡ some fs) × FullHistory fs 2
 
--- whole; without version file 1, whose part the checkpoint takes; without the checkpoint; without both: not kept
+-- whole; without version file 1, whose part the checkpoint takes; without the checkpoint; without both: not kept.
+-- A checkpoint that is not true is believed, so that the premise cannot go
 unfoldable pub answers : List (Question × Says)
 answers =
     (read (theVersion 2) "[]" whole, listed 2 (ascii "a" ∷ ascii "b" ∷ []))
     ∷ (read (theVersion 2) "[]" (bundleOf (zero ∷ checkpointAtOne ∷ two ∷ [])), listed 2 (ascii "a" ∷ ascii "b" ∷ []))
     ∷ (read (theVersion 2) "[]" (bundleOf (zero ∷ one ∷ two ∷ [])), listed 2 (ascii "a" ∷ ascii "b" ∷ []))
     ∷ (read (theVersion 2) "[]" (bundleOf (zero ∷ two ∷ [])), refusal 5 0 0)
+    ∷ (read (theVersion 2) "[]" (bundleOf (zero ∷ untrueAtOne ∷ one ∷ two ∷ [])), listed 2 (ascii "b" ∷ ascii "c" ∷ []))
     ∷ []

@@ -1,4 +1,4 @@
--- The customer's demands, as far as they speak of the rules: what is proved of paper 01 as defined in crate rules.
+-- The customer's demands, as far as they speak of the rules. `Demands` lists them; the modules before it say them.
 pub mod Reaching
 pub mod Removed
 pub mod FullHistory
@@ -6,9 +6,11 @@ pub mod FirstSentence
 pub mod LastSentence
 pub mod Example
 pub mod Ending
+pub mod Showing
 pub mod Met
 pub mod Exactly
 pub mod CleaningExactly
+pub mod Replayed
 pub mod Choosing
-pub mod Showing
 pub mod WrongPrograms
+pub mod Demands

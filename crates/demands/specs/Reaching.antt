@@ -2,10 +2,10 @@
 use mathlib.Core.Path.{_≡_}
 use mathlib.Core.Logic.{_⊎_, _↔_}
 use mathlib.Core.Option.{Option, none, some}
+use mathlib.Core.List.{List}
 use Prim.Native.Nat.{ℕ, suc, _≤_, _<_}
-use Rattle.rules.specs.Numbers.{most}
 use Rattle.rules.specs.Bundle.{File}
-use Rattle.rules.specs.Starts.{Log, startAt, Way, fromZero, fromCheckpoint, andThen, wayTo}
+use Rattle.rules.specs.Starts.{Log, logOf, startAt, Way, fromZero, fromCheckpoint, andThen, wayTo}
 use Rattle.rules.specs.Marker.{marked, orZero, latest}
 
 abbrev pub There : {A : Type 0} → Option A → Type 0
@@ -47,10 +47,9 @@ ReadFromTheHighest = (log : Log) (v : ℕ) (w : Way) → (wayTo log v ≡ some w
 -- ---- the latest version is the highest one reached from the marker's checkpoint, or from version 0: reading stops at a gap
 
 pub record StopsAtAGap (log : Log) (from r : ℕ) : Type 0 where
-  pub above : from ≤ r
-  pub no-gap : (w : ℕ) → from < w → w ≤ r → There (log .versionFile w)
+  pub reached : Reaches log from r
+  pub highest : (v : ℕ) → Reaches log from v → v ≤ r
   pub gap : log .versionFile (suc r) ≡ none
 
--- in a log where no version is above 2^63 - 1, as in every bundle that refusal 3 passes
 abbrev pub LatestStopsAtAGap : Type 0
-LatestStopsAtAGap = (log : Log) → ((w : ℕ) → most < w → log .versionFile w ≡ none) → StopsAtAGap log (orZero (marked log)) (latest log)
+LatestStopsAtAGap = (fs : List File) → StopsAtAGap (logOf fs) (orZero (marked (logOf fs))) (latest (logOf fs))

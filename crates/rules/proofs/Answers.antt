@@ -6,6 +6,7 @@ use mathlib.Core.Option.{Option, none, some}
 use Prim.Native.Nat.{ℕ}
 use Rattle.rules.specs.Refusals.{_>>=_, Refusal, Answer, accepted, refused, orRefuse, require}
 use Rattle.rules.specs.Same.{SameAnswer, both-accepted, both-refused}
+use Rattle.rules.proofs.Tests.{apart}
 
 -- ---- the same
 
@@ -41,3 +42,15 @@ refused-number e = ap numberOf e
 pub bind-refused : {A B : Type 0} (a : Answer A) (f : A → Answer B) {r : Refusal} → (a >>= f) ≡ refused r → (a ≡ refused r) ⊎ ((x : A) × (a ≡ accepted x) × (f x ≡ refused r))
 bind-refused (accepted x) f e = inr (x, refl, e)
 bind-refused (refused s) f e = inl (cc)
+
+pub orRefuse-refused : {A : Type 0} (r : Refusal) (o : Option A) {s : Refusal} → orRefuse r o ≡ refused s → (o ≡ none) × (r ≡ s)
+orRefuse-refused r none e = (refl, cc)
+orRefuse-refused r (some a) e = apart (cc)
+
+pub require-refused : (r : Refusal) (b : Bool) {s : Refusal} → require r b ≡ refused s → (b ≡ false) × (r ≡ s)
+require-refused r true e = apart (cc)
+require-refused r false e = (refl, cc)
+
+pub orRefuse-accepted : {A : Type 0} (r : Refusal) (o : Option A) {a : A} → orRefuse r o ≡ accepted a → o ≡ some a
+orRefuse-accepted r none e = apart (cc)
+orRefuse-accepted r (some x) e = cc

@@ -1,4 +1,5 @@
--- What every well-formed bundle is: its files are numbered from 0, at most 1,024, and of each version file and checkpoint there is one.
+-- What every well-formed bundle is: its files are numbered from 0, at most 1,024, their padded names ascend, and of each version file and
+-- checkpoint there is one.
 use mathlib.Core.Path.{_≡_, refl, sym, _∙_, ap, subst}
 use mathlib.Core.Bool.{Bool, true, false}
 use mathlib.Core.Option.{Option, none, some}
@@ -18,7 +19,8 @@ use Rattle.rules.specs.Names.{Name, nameOf, versionIn, checkpointIn, is}
 use Rattle.rules.specs.Starts.{find}
 use Rattle.rules.proofs.Tests.{apart}
 use Rattle.rules.proofs.Order.{order-trans, order-less-ne}
-use Rattle.rules.proofs.SoleNames.{bind-some, guard-some, OneName, one-version, one-checkpoint, unpadded-once}
+use Rattle.rules.proofs.Ascending.{Ascends}
+use Rattle.rules.proofs.SoleNames.{bind-some, guard-some, OneName, one-version, one-checkpoint, unpadded-once, withZeros, unpadded-zeros}
 
 -- ---- files beside their entries
 
@@ -134,6 +136,31 @@ module _ (test : Name → Bool) (one : OneName test) where
   told-lone a w (told {e = e} {f = f} {es = es} {fs = fs} u n r) =
       ((λ h. none-later (e .padded) (f .name) u (w .0) h (ascending-after e es a) (w .1) r), told-lone (ascending-tail e es a) (w .1) r)
 
+-- ---- the padded names ascend
+
+pub paddedName : File → Bytes
+paddedName f = withZeros 96 (f .name)
+
+pub paddedName-same : (f g : File) → f .name ≡ g .name → paddedName f ≡ paddedName g
+unfolding paddedName
+paddedName-same f g e = ap (withZeros 96) e
+
+padded-is : (e : Entry) (f : File) → unpadded (e .padded) ≡ some (f .name) → length (e .padded) ≡ 96 → e .padded ≡ paddedName f
+unfolding paddedName
+padded-is e f u w = unpadded-zeros (e .padded) (f .name) u ∙ ap (λ (n : ℕ). withZeros n (f .name)) w
+
+told-after : (p : Bytes) {k : ℕ} {es : List Entry} {fs : List File} → All (λ (e : Entry). order p (e .padded) ≡ less) es → All (λ (e : Entry). length (e .padded) ≡ 96) es → Told k es fs
+    → All (λ (f : File). order p (paddedName f) ≡ less) fs
+unfolding All
+told-after p a w told-end = tt
+told-after p a w (told {e = e} {f = f} u n r) = (subst (λ (x : Bytes). order p x ≡ less) (padded-is e f u (w .0)) (a .0), told-after p (a .1) (w .1) r)
+
+told-ascends : {k : ℕ} {es : List Entry} {fs : List File} → ascending es ≡ true → All (λ (e : Entry). length (e .padded) ≡ 96) es → Told k es fs → Ascends paddedName fs
+unfolding All
+told-ascends a w told-end = tt
+told-ascends a w (told {e = e} {f = f} {es = es} {fs = fs} u n r) =
+    (subst (λ (x : Bytes). All (λ (g : File). order x (paddedName g) ≡ less) fs) (padded-is e f u (w .0)) (told-after (e .padded) (ascending-after e es a) (w .1) r), told-ascends (ascending-tail e es a) (w .1) r)
+
 -- ---- the bundle
 
 pub record Sound (fs : List File) : Type 0 where
@@ -141,6 +168,7 @@ pub record Sound (fs : List File) : Type 0 where
   pub few : length fs ≤ mostEntries
   pub oneVersion : (w : ℕ) → Lone (λ n. is w (versionIn n)) fs
   pub oneCheckpoint : (c : ℕ) → Lone (λ n. is c (checkpointIn n)) fs
+  pub ascends : Ascends paddedName fs
 
 pub bundle-sound : (s : Bytes) (fs : List File) → bundle s ≡ some fs → Sound fs
 unfolding bundle filesOf entryBytes
@@ -164,4 +192,5 @@ bundle-sound s fs h =
           few = omega (arith, len);
           oneVersion = λ v. told-lone (λ x. is v (versionIn x)) (one-version v) up w t;
           oneCheckpoint = λ c. told-lone (λ x. is c (checkpointIn x)) (one-checkpoint c) up w t;
+          ascends = told-ascends up w t;
         }

@@ -4,11 +4,11 @@ use mathlib.Core.Logic.{_⊎_, inl, inr}
 use mathlib.Core.Bool.{Bool, true, false}
 use mathlib.Core.Option.{Option, none, some}
 use mathlib.Core.List.{_++_, [], _∷_}
-use Prim.Native.Nat.{ℕ, _+_, _*_, _-_, _≤_}
+use Prim.Native.Nat.{ℕ, suc, _+_, _*_, _-_, _≤_}
 use native.Mathlib.Omega.{arith}
 use lib.Dec.{leb, eqb}
-use lib.ListN.{length, take, drop, length-take, length-drop, take-append-drop}
-use borrow.Author.Tests.{eqb-true}
+use lib.ListN.{length, take, drop, replicate, length-take, length-drop, take-append-drop}
+use borrow.Author.Tests.{eqb-true, leb-true}
 use Rattle.rules.specs.Bytes.{_>>=_, Bytes, guard, ascii, same, among}
 use Rattle.rules.specs.Numbers.{most, isDigit, decimalFrom, decimal}
 use Rattle.rules.specs.Bundle.{zeros, unpadded}
@@ -104,6 +104,23 @@ version-says s w e =
     let k = numbered-version (same (drop 20 s) (ascii ".json")) (same (drop 20 s) (ascii ".checkpoint.json")) (leb (d .0) most) (d .0) w (d .2) in
     (d .1 ∙ ap some (k .1), same-true (drop 20 s) (ascii ".json") (k .0))
 
+numbered-small : (a b c : Bool) (n w : ℕ) → numbered a b c n ≡ version w → c ≡ true
+unfolding numbered
+numbered-small true b true n w e = refl
+numbered-small true b false n w e = apart (cc)
+numbered-small false true true n w e = refl
+numbered-small false true false n w e = apart (cc)
+numbered-small false false c n w e = apart (cc)
+
+-- no version is above 2^63 - 1
+pub version-small : (s : Bytes) (w : ℕ) → nameOf s ≡ version w → w ≤ most
+version-small s w e =
+    let d = nameOf-digits s (version w) (λ q. apart (cc)) (λ q. apart (cc)) e in
+    let json : Bool = same (drop 20 s) (ascii ".json") in
+    let checkpointed : Bool = same (drop 20 s) (ascii ".checkpoint.json") in
+    let n : d .0 ≡ w = numbered-version json checkpointed (leb (d .0) most) (d .0) w (d .2) .1 in
+    subst (λ (x : ℕ). x ≤ most) n (leb-true (d .0) most (numbered-small json checkpointed (leb (d .0) most) (d .0) w (d .2)))
+
 checkpoint-says : (s : Bytes) (w : ℕ) → nameOf s ≡ checkpoint w → Says (ascii ".checkpoint.json") w s
 checkpoint-says s w e =
     let d = nameOf-digits s (checkpoint w) (λ q. apart (cc)) (λ q. apart (cc)) e in
@@ -190,3 +207,27 @@ unpadded-once (x ∷ xs) (y ∷ ys) name l e f = go (unpadded-cases x xs name e)
     go (inl (m, a, b)) (inr (z, d)) ih = apart (cc)
     go (inr (z, d)) (inl (m, a, b)) ih = apart (cc)
     go (inr (z, d)) (inr (z′, d′)) ih = zeros-once (x ∷ xs) (y ∷ ys) l z z′
+
+zeros-replicate : (p : Bytes) → zeros p ≡ true → p ≡ replicate (length p) 0
+zeros-replicate [] h = refl
+zeros-replicate (x ∷ xs) h = let z = zeros-cons x xs h in ap₂ _∷_ (z .0) (zeros-replicate xs (z .1))
+
+-- a name with zeros behind it, as many as make n bytes
+pub withZeros : ℕ → Bytes → Bytes
+withZeros n name = name ++ replicate (n - length name) 0
+
+pub unpadded-zeros : (p name : Bytes) → unpadded p ≡ some name → p ≡ withZeros (length p) name
+unfolding unpadded withZeros
+unpadded-zeros [] name h = let e : [] ≡ name = cc in subst (λ (n : Bytes). [] ≡ n ++ replicate (0 - length n) 0) e refl
+unpadded-zeros (x ∷ xs) name h = go (unpadded-cases x xs name h) (λ m. unpadded-zeros xs m)
+  where
+    go : ((m : Bytes) × (unpadded xs ≡ some m) × (x ∷ m ≡ name)) ⊎ ((zeros (x ∷ xs) ≡ true) × ([] ≡ name))
+        → ((m : Bytes) → unpadded xs ≡ some m → xs ≡ m ++ replicate (length xs - length m) 0) → x ∷ xs ≡ name ++ replicate (suc (length xs) - length name) 0
+    go (inl (m, a, b)) ih =
+        let n : length xs - length m ≡ suc (length xs) - length (x ∷ m) = omega arith in
+        subst (λ (y : Bytes). x ∷ xs ≡ y ++ replicate (suc (length xs) - length y) 0) b
+        (ap (λ (y : Bytes). x ∷ y) (ih m a) ∙ ap (λ (k : ℕ). x ∷ (m ++ replicate k 0)) n)
+    go (inr (z, d)) ih =
+        let n : suc (length xs) ≡ suc (length xs) - 0 = omega arith in
+        subst (λ (y : Bytes). x ∷ xs ≡ y ++ replicate (suc (length xs) - length y) 0) d
+        (zeros-replicate (x ∷ xs) z ∙ ap (λ (k : ℕ). replicate {A = ℕ} k 0) n)
