@@ -1,5 +1,6 @@
 // Names of members as they stand, and their places among the names of a kind.
 ghost use mathlib.Core.Path.{_≡_};
+ghost use lib.ListN.{length};
 ghost use Rattle.rules.specs.Bytes.{same};
 ghost use Rattle.fields.specs.Kinds.{namesOf, seek};
 ghost use Rattle.fields.specs.Spelled.{nameIn, Named};
@@ -197,5 +198,23 @@ pub fn which(s: &[u8], n: Spell, kind: Kind) -> usize
         Kind::Manifest => which_manifest(s, n),
         Kind::Bounds => which_bounds(s, n),
         Kind::Condition => which_condition(s, n),
+    }
+}
+
+// How many names there are of the kind.
+pub fn names_in(kind: Kind) -> usize
+    ensures { λ r. ⌜ r ≡ length (namesOf kind) ⌝ }
+{
+    match kind {
+        Kind::Line => 5,
+        Kind::Add => 6,
+        Kind::Remove => 1,
+        Kind::Protocol => 4,
+        Kind::MetaData => 2,
+        Kind::Marker => 3,
+        Kind::State => 1,
+        Kind::Manifest => 2,
+        Kind::Bounds => 2,
+        Kind::Condition => 4,
     }
 }
