@@ -23,7 +23,8 @@ use Rattle.rules.proofs.Json.Shadows.{behind-some}
 use Rattle.rules.proofs.Json.StringReads.{string-reads}
 use Rattle.rules.proofs.Json.Places.{unquoted-place}
 use Rattle.values.specs.Answers.{truthIs}
-use Rattle.strings.specs.Decoded.{decoded, WellSpelled}
+use Rattle.strings.specs.Decoded.{decoded}
+use Rattle.strings.proofs.Decoding.{decoded-some}
 use Rattle.fields.specs.Kinds.{namesOf}
 use Rattle.fields.specs.Slots.{missing, textIn}
 use Rattle.fields.specs.declared.notes.Slot.{Slot}
@@ -44,7 +45,7 @@ use Rattle.actions.proofs.Lines.{lined-action}
 use Rattle.actions.proofs.Placed.{byte-next}
 use Rattle.actions.proofs.Single.{inside-single}
 use Rattle.actions.proofs.Stated.{field-whole, field-bool, field-string, field-optional, field-path, field-values, field-version, field-features, field-columns}
-use Rattle.actions.proofs.Strings.{decoded-some, byte-text, string-behind}
+use Rattle.actions.proofs.Strings.{byte-text, string-behind}
 
 abbrev pub slot : Fields → ℕ → Slot
 slot f k = getD (f .slots) k missing

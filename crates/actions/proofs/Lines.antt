@@ -195,7 +195,7 @@ module _ (o : Option (List Member × Text)) (s : Text) (at : ℕ) (names : List 
   scanned-good e = subst (λ (b : Bool). ScannedBy o s at names b (f .end) (f .slots)) e r
 
   pub scanned-bad : f .good ≡ false → o ≡ none
-  scanned-bad e = subst (λ (b : Bool). ScannedBy o s at names b (f .end) (f .slots)) e r
+  scanned-bad e = let q = subst (λ (b : Bool). ScannedBy o s at names b (f .end) (f .slots)) e r in q .0
 
 pub line-malformed : (s : Text) → lineMember s ≡ none → action s ≡ none
 unfolding action

@@ -21,12 +21,9 @@ use Rattle.rules.proofs.Json.StringReads.{char-reads}
 use Rattle.rules.proofs.Json.Steps.{string-end, string-quote, string-none, string-char}
 use Rattle.rules.proofs.Json.Shadows.{behind-some}
 use Rattle.rules.proofs.Json.Places.{stringOf-place}
-use Rattle.strings.specs.Decoded.{bytesOf, decoded}
+use Rattle.strings.specs.Decoded.{decoded}
+use Rattle.strings.proofs.Decoding.{decoded-some}
 use Rattle.actions.specs.Texts.{Read}
-
-pub decoded-some : (t : Text) {x : Bytes} {r : Text} → string t ≡ some (x, r) → decoded t ≡ x
-unfolding decoded bytesOf
-decoded-some t e = ap bytesOf e
 
 -- ---- more text behind it
 

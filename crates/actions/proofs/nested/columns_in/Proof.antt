@@ -27,7 +27,7 @@ returns-3 : tie.Need-returns-3
 returns-3 c = columns-many (c .before .before .before .before .before .before .before .before .args .s .now) (c .before .before .before .before .before .before .before .before .args .slot) (c .before .before .before .before .before .if1 .left) (c .before .before .at .given .0 .0) (c .before .before .at .given .0 .1 .0) (subst (ArrayIs _ _) (c .before .before .at .given .1) (c .before .before .before .before .array-at .ensures)) (c .if2 .taken)
 
 distinct-strings-requires : tie.Need-distinct-strings-requires
-distinct-strings-requires c κs = let a = subst (ArrayIs _ _) (c .before .before .at .given .1) (c .before .before .before .before .array-at .ensures) in a .within
+distinct-strings-requires c κs = let a = subst (ArrayIs _ _) (c .before .before .at .given .1) (c .before .before .before .before .array-at .ensures) in (a .within, record { ss = a .xs; listed = a .listed })
 
 returns-4 : tie.Need-returns-4
 returns-4 c =

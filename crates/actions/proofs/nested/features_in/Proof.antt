@@ -51,7 +51,7 @@ returns-4 : tie.Need-returns-4
 returns-4 c = features-not (c .before .before .before .before .before .before .before .before .before .before .before .args .s .now) (c .before .before .before .before .before .before .before .before .before .before .before .args .slot) (c .before .before .before .before .before .before .if2 .left) (sym (c .before .before .before .before .is-null .ensures) ∙ c .before .before .before .if3 .left) (subst (ArrayIs _ _) (c .enum-told .given .1) (c .before .before .array-at .ensures))
 
 all-known-requires : tie.Need-all-known-requires
-all-known-requires c κs = let a = subst (ArrayIs _ _) (c .before .at .given .1) (c .before .before .before .array-at .ensures) in a .within
+all-known-requires c κs = let a = subst (ArrayIs _ _) (c .before .at .given .1) (c .before .before .before .array-at .ensures) in (a .within, record { ss = a .xs; listed = a .listed })
 
 returns-5 : tie.Need-returns-5
 returns-5 c =

@@ -40,8 +40,10 @@ strings-or-nulls-requires c κs =
     (q .2, values-opened (c .before .before .before .before .before .before .before .args .s .now) (c .before .before .before .before .before .before .before .args .slot) (c .before .before .before .before .before .before .before .pre) (c .before .before .before .before .if1 .left) (c .before .at .given .0 .0) (q .2) (q .0))
 
 distinct-names-requires : tie.Need-distinct-names-requires
+unfolding inField
 distinct-names-requires c κs =
-    let q = subst (Answer _ _ _) (c .before .before .before .at .given .1) (c .before .before .before .before .before .skip-byte .ensures) in q .2
+    let q = subst (Answer _ _ _) (c .before .before .before .at .given .1) (c .before .before .before .before .before .skip-byte .ensures) in
+    (q .2, record { names = firsts (values-opened (c .before .before .before .before .before .before .before .before .before .args .s .now) (c .before .before .before .before .before .before .before .before .before .args .slot) (c .before .before .before .before .before .before .before .before .before .pre) (c .before .before .before .before .before .before .if1 .left) (c .before .before .before .at .given .0 .0) (q .2) (q .0) .ms); object = values-named (c .before .before .before .before .before .before .before .before .before .args .s .now) (c .before .before .before .before .before .before .before .before .before .args .slot) (c .before .before .before .before .before .before .before .before .before .pre) (c .before .before .before .before .before .before .if1 .left) (c .before .before .before .at .given .0 .0) (q .2) (q .0) })
 
 returns-3 : tie.Need-returns-3
 unfolding inField
