@@ -16,7 +16,7 @@ use Rattle.fields.specs.Slots.{textIn, optionalIn, Times}
 use Rattle.actions.specs.Inside.{InsideBy, Inside}
 use Rattle.fields.specs.declared.notes.Slot.{Slot}
 use Rattle.actions.specs.Counts.{recordsIs}
-use Rattle.actions.specs.declared.Records.the-variants.{Number, Missing, Bad}
+use Rattle.actions.specs.declared.slots.Records.the-variants.{Number, Missing, Bad}
 
 -- what a slot says of the values of its field, and where they stand
 pub times-inside : (s : Text) (seen v e : ℕ) (vs : List Text) → Times s seen v e vs → InsideBy s seen v e
@@ -39,14 +39,14 @@ module _ (s : Text) (x : Slot) where
       go (suc zero) f = absurd (f refl)
       go (suc (suc n)) f = refl
 
-  pub optional-missing : {A : Type 0} (of : Option Text → Option (Option A)) → x .seen ≡ 0 → of none ≡ (optionalIn s (x .seen) (x .start) (x .end) >>= of)
+  pub optional-missing : {A : Type 0} (of : Option Text → Option A) → x .seen ≡ 0 → of none ≡ (optionalIn s (x .seen) (x .start) (x .end) >>= of)
   optional-missing of p = sym (ap (λ (n : ℕ). optionalIn s n (x .start) (x .end) >>= of) p)
 
-  pub optional-single : {A : Type 0} (of : Option Text → Option (Option A)) → x .seen ≡ 1
+  pub optional-single : {A : Type 0} (of : Option Text → Option A) → x .seen ≡ 1
       → (soleOrNone (take (x .end - x .start) (drop (x .start) s) ∷ []) >>= of) ≡ (optionalIn s (x .seen) (x .start) (x .end) >>= of)
   optional-single of p = sym (ap (λ (n : ℕ). optionalIn s n (x .start) (x .end) >>= of) p)
 
-  pub optional-more : {A : Type 0} (of : Option Text → Option (Option A)) → (x .seen ≡ 0 → ⊥) → (x .seen ≡ 1 → ⊥) → none ≡ (optionalIn s (x .seen) (x .start) (x .end) >>= of)
+  pub optional-more : {A : Type 0} (of : Option Text → Option A) → (x .seen ≡ 0 → ⊥) → (x .seen ≡ 1 → ⊥) → none ≡ (optionalIn s (x .seen) (x .start) (x .end) >>= of)
   optional-more of f g = go (x .seen) f g
     where
       go : (n : ℕ) → (n ≡ 0 → ⊥) → (n ≡ 1 → ⊥) → none ≡ (optionalIn s n (x .start) (x .end) >>= of)

@@ -5,3 +5,4 @@ pub mod Moves
 pub mod Rows
 pub mod Tables
 pub mod Examples
+pub mod Kept

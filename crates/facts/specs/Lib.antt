@@ -3,3 +3,4 @@ pub mod Lists
 pub mod Parts
 pub mod Rows
 pub mod Moves
+pub mod Kept

@@ -6,18 +6,22 @@ use Prim.Native.Nat.{ℕ, _+_}
 use lib.ListN.{drop}
 use Rattle.rules.specs.Bytes.{Bytes, firsts}
 use Rattle.rules.specs.Json.Text.{Text}
-use Rattle.rules.specs.Json.Values.{opening, closing, list, member, value}
+use Rattle.rules.specs.Json.Values.{Member, opening, closing, list, member, contents, value}
 use Rattle.rules.proofs.Json.Suffix.{value-same, answered-none}
 use Rattle.rules.proofs.Json.ValueReads.{value-reads, member-reads}
 use Rattle.rules.proofs.Json.Steps.{contents-list, list-closed, list-onward, list-neither, rest, rest-none, rest-closed, rest-neither, rest-onward}
 use Rattle.json.specs.Follows.{Follows}
 use Rattle.json.specs.declared.Tail.the-variants.{Closed, More, Neither}
 use Rattle.fields.specs.Spelled.{nameIn, Stands}
-use Rattle.fields.specs.Namings.{Object, Members}
+use Rattle.fields.specs.Namings.{Object, IsObject, Members}
 use Rattle.fields.specs.declared.names.Spell.{Spell}
 use Rattle.fields.proofs.Walking.{andThen-some, items-first}
 
 -- ---- behind the opening brace
+
+-- an object that was read
+pub contents-object : (d : ℕ) (s : Text) (at : ℕ) {ms : List Member} {left : Text} → contents (value d) (drop at s) ≡ some (ms, left) → IsObject d s at
+contents-object d s at {ms} {left} e = record { names = firsts ms; object = record { ms = ms; left = left; all = e; each = refl } }
 
 module _ (d : ℕ) (s : Text) (at : ℕ) (names : List Bytes) (w : Object d s at names) where
   object-list : list (member (value d)) 0x7D (drop at s) ≡ some (w .ms, w .left)

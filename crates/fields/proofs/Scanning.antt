@@ -1,9 +1,10 @@
 -- The scan of an object: the members that went by are in the slots, and each way out of the loop answers for the whole object.
-use mathlib.Core.Path.{_≡_, _∙_}
-use mathlib.Core.Option.{none}
+use mathlib.Core.Path.{_≡_, refl, sym, ap, _∙_, subst}
+use mathlib.Core.Option.{Option, none}
 use mathlib.Core.List.{List, [], _∷_, _++_}
 use Prim.Native.Nat.{ℕ, _+_, _-_, _≤_}
 use lib.ListN.{length, take, drop, replicate}
+use Rattle.rules.specs.Bytes.{Bytes}
 use Rattle.rules.specs.Json.Text.{Text, Reader}
 use Rattle.rules.specs.Json.Values.{Member, opening, closing, member, contents}
 use Rattle.rules.proofs.Json.Suffix.{EachReads}
@@ -12,19 +13,28 @@ use Rattle.rules.proofs.Json.Steps.{contents-list, list-closed, list-neither}
 use Rattle.json.specs.Follows.{Follows}
 use Rattle.json.specs.declared.Tail.the-variants.{Closed, More, Neither}
 use Rattle.fields.specs.Kinds.{namesOf, seek}
-use Rattle.fields.specs.Slots.{missing, Noted, Each, Filled}
+use Rattle.fields.specs.Places.{nextIn, placesFrom, placesIn}
+use Rattle.fields.specs.Slots.{missing, noFields, Noted, Each, slotsOf, Filled, Scanned}
 use Rattle.fields.specs.Spelled.{nameIn, Stands}
 use Rattle.fields.specs.declared.names.Kind.{Kind}
 use Rattle.fields.specs.declared.notes.Slot.{Slot}
+use Rattle.fields.specs.declared.notes.Fields.{Fields}
 use Rattle.fields.specs.declared.names.Spell.{Spell}
 use Rattle.fields.proofs.Naming.{names-few, names-distinct}
 use Rattle.fields.proofs.Slots.{each-start, each-more}
+use Rattle.fields.proofs.Places.{followed, followed-more, places-more, slots-start, slots-more}
 use Rattle.fields.proofs.Passing.{Passed, passed-start, passed-none, passed-neither, passed-closed, passed-more, list-further}
 
 pub record Going (read : Reader) (s : Text) (at : ℕ) (kind : Kind) (slots : List Slot) (i : ℕ) : Type 0 where
   pub gone : List Member
   pub passed : Passed (member read) 0x7D s at i gone
   pub each : Each s (namesOf kind) gone slots
+  pub here : followed (nextIn (opening 0x7D (drop at s))) gone ≡ drop i s
+  pub exact : slots ≡ slotsOf 8 (namesOf kind) (placesIn s at gone)
+
+-- what is no object, by the answer that says so
+pub scanned-none : {o : Option (List Member × Text)} (s : Text) (at : ℕ) (names : List Bytes) {r : Fields} → r ≡ noFields → o ≡ none → Scanned o s at names r
+scanned-none {o} s at names e f = subst (Scanned o s at names) (sym e) (f, refl, refl)
 
 module _ (read : Reader) (s : Text) (at : ℕ) (kind : Kind) where
   -- ---- behind the opening brace
@@ -34,16 +44,25 @@ module _ (read : Reader) (s : Text) (at : ℕ) (kind : Kind) where
 
   pub opened-closed : EachReads 1 read → at ≤ length s → (end : ℕ) → Follows (opening 0x7D (drop at s)) s at (Closed end)
       → Filled (contents read (drop at s)) s at (namesOf kind) end (replicate 8 missing)
+  unfolding placesIn placesFrom
   opened-closed each h end f = record {
     ms = [];
     all = contents-list read (drop at s) ∙ list-closed (member read) 0x7D (drop at s) (f .0);
     from = list-further (member-reads each) 0x7D s at end h (f .2) (list-closed (member read) 0x7D (drop at s) (f .0));
     within = f .2;
     each = each-start s (namesOf kind) (names-few kind);
+    exact = slots-start 8 (namesOf kind);
   }
 
   pub going-start : (i : ℕ) → Follows (opening 0x7D (drop at s)) s at (More i) → Going read s at kind (replicate 8 missing) i
-  going-start i f = record { gone = []; passed = passed-start (member read) 0x7D s at f; each = each-start s (namesOf kind) (names-few kind) }
+  unfolding placesIn placesFrom followed nextIn
+  going-start i f = record {
+    gone = [];
+    passed = passed-start (member read) 0x7D s at f;
+    each = each-start s (namesOf kind) (names-few kind);
+    here = ap nextIn (f .0);
+    exact = slots-start 8 (namesOf kind);
+  }
 
   -- ---- a turn
 
@@ -55,9 +74,18 @@ module _ (read : Reader) (s : Text) (at : ℕ) (kind : Kind) where
       pub going-neither : Follows (closing 0x7D (drop e s)) s (e + 1) Neither → contents read (drop at s) ≡ none
       going-neither f = contents-list read (drop at s) ∙ passed-neither (g .passed) e (m .read) f
 
-      module _ (next : List Slot) (r : ℕ) (place : r ≡ seek (nameIn s n) (namesOf kind)) (noted : Noted slots r v e next) (reads : EachReads 1 read) where
+      module _ (next : List Slot) (r names : ℕ) (place : r ≡ seek (nameIn s n) (namesOf kind)) (many : names ≡ length (namesOf kind)) (note : Noted slots names r v e next) (reads : EachReads 1 read) where
+        noted : Noted slots (length (namesOf kind)) r v e next
+        noted = subst (λ (m : ℕ). Noted slots m r v e next) many note
+
         more : Each s (namesOf kind) (g .gone ++ ((nameIn s n, take (e - v) (drop v s)) ∷ [])) next
-        more = each-more s (namesOf kind) (g .gone) slots next (nameIn s n) r v e (names-few kind) (names-distinct kind) (m .ordered) (m .within) place noted (g .each)
+        more = each-more s (namesOf kind) (g .gone) slots next (nameIn s n) r v e (names-distinct kind) (m .ordered) (m .within) place noted (g .each)
+
+        exactly : next ≡ slotsOf 8 (namesOf kind) (placesIn s at (g .gone ++ ((nameIn s n, take (e - v) (drop v s)) ∷ [])))
+        unfolding placesIn
+        exactly =
+            slots-more (namesOf kind) (placesIn s at (g .gone)) slots next (nameIn s n) r v e (names-few kind) (names-distinct kind) place noted (g .exact)
+            ∙ sym (ap (slotsOf 8 (namesOf kind)) (places-more s (nextIn (opening 0x7D (drop at s))) (g .gone) (nameIn s n) i v e (m .ordered) (m .within) (g .here) (m .value)))
 
         pub going-closed : at ≤ length s → (k : ℕ) → Follows (closing 0x7D (drop e s)) s (e + 1) (Closed k) → Filled (contents read (drop at s)) s at (namesOf kind) k next
         going-closed h k f = record {
@@ -66,6 +94,7 @@ module _ (read : Reader) (s : Text) (at : ℕ) (kind : Kind) where
           from = list-further (member-reads reads) 0x7D s at k h (f .2) (passed-closed (g .passed) e (m .read) f);
           within = f .2;
           each = more;
+          exact = exactly;
         }
 
         pub going-more : (k : ℕ) → Follows (closing 0x7D (drop e s)) s (e + 1) (More k) → Going read s at kind next k
@@ -73,4 +102,6 @@ module _ (read : Reader) (s : Text) (at : ℕ) (kind : Kind) where
           gone = g .gone ++ ((nameIn s n, take (e - v) (drop v s)) ∷ []);
           passed = passed-more (g .passed) e (m .read) (member-reads reads) f;
           each = more;
+          here = followed-more s (nextIn (opening 0x7D (drop at s))) (g .gone) (nameIn s n) i v e (m .ordered) (m .within) (g .here) (m .value) k (f .0);
+          exact = exactly;
         }

@@ -7,7 +7,7 @@ use Prim.Native.String.{String}
 use native.Mathlib.Omega.{arith}
 use borrow.Author.Tests.{ne-eqb, eqb-true, eqb-false}
 use lib.Dec.{eqb}
-use lib.ListN.{length, take, drop, getD, set, replicate, getD-replicate, length-append}
+use lib.ListN.{length, take, drop, getD, set, replicate, getD-replicate, length-set, length-append}
 use lib.Seq.{getD-set-same, getD-set-other}
 use Rattle.rules.specs.Bytes.{Bytes, ascii, same, distinct}
 use Rattle.rules.specs.Json.Text.{Text}
@@ -26,19 +26,23 @@ pub one-more-other : (seen v e : ℕ) → (seen ≡ 0 → ⊥) → _≡_ {A = Sl
 one-more-other zero v e f = absurd (f refl)
 one-more-other (suc n) v e f = refl
 
-module _ (slots : List Slot) (k v e : ℕ) where
-  pub noted-in : (x : Slot) → length slots ≡ 8 → k < 8 → x ≡ oneMore (getD slots k missing .seen) v e → Noted slots k v e (set slots k x)
-  noted-in x l h p = record { each = λ j b. by (eqb k j) (here j) (other j) }
+module _ (slots : List Slot) (names k v e : ℕ) (l : length slots ≡ 8) where
+  pub noted-in : (x : Slot) → names ≤ 8 → k < names → x ≡ oneMore (getD slots k missing .seen) v e → Noted slots names k v e (set slots k x)
+  noted-in x few h p = record {
+    size = length-set slots k x ∙ l;
+    each = λ j b. by (eqb k j) (here j) (other j);
+    past = λ j b. getD-set-other slots k j x missing (λ same. absurd (omega (arith, h, b, same)));
+  }
     where
       here : (j : ℕ) → eqb k j ≡ true → getD (set slots k x) j missing ≡ slotBy (eqb k j) (oneMore (getD slots j missing .seen) v e) (getD slots j missing)
       here j q = rw q (subst (λ (i : ℕ). getD (set slots k x) i missing ≡ oneMore (getD slots i missing .seen) v e) (eqb-true k j q)
-          (getD-set-same slots k x missing (omega (arith, l, h)) ∙ p))
+          (getD-set-same slots k x missing (omega (arith, l, h, few)) ∙ p))
 
       other : (j : ℕ) → eqb k j ≡ false → getD (set slots k x) j missing ≡ slotBy (eqb k j) (oneMore (getD slots j missing .seen) v e) (getD slots j missing)
       other j q = rw q (getD-set-other slots k j x missing (λ same. eqb-false k j q (sym same)))
 
-  pub noted-out : 8 ≤ k → Noted slots k v e slots
-  noted-out h = record { each = λ j b. rw (ne-eqb k j (λ same. absurd (omega (arith, h, b, same)))) }
+  pub noted-out : names ≤ k → Noted slots names k v e slots
+  noted-out h = record { size = l; each = λ j b. rw (ne-eqb k j (λ same. absurd (omega (arith, h, b, same)))); past = λ j b. refl }
 
 one-more-holds : (s : Text) (n v₀ e₀ v e : ℕ) (vs : List Text) → v ≤ e → e ≤ length s → Times s n v₀ e₀ vs
     → Holds s (oneMore n v e) (vs ++ (take (e - v) (drop v s) ∷ []))
@@ -55,9 +59,9 @@ unfolding under
 each-start s names l k b = subst (λ (x : Slot). Holds s x (under (getD names k []) [])) (sym (getD-replicate 8 k missing missing (omega (arith, l, b)))) refl
 
 pub each-more : (s : Text) (names : List Bytes) (gone : List Member) (slots next : List Slot) (name : Bytes) (r v e : ℕ)
-    → length names ≤ 8 → distinct names ≡ true → v ≤ e → e ≤ length s → r ≡ seek name names → Noted slots r v e next → Each s names gone slots
+    → distinct names ≡ true → v ≤ e → e ≤ length s → r ≡ seek name names → Noted slots (length names) r v e next → Each s names gone slots
     → Each s names (gone ++ ((name, take (e - v) (drop v s)) ∷ [])) next
-each-more s names gone slots next name r v e l d h w p noted old k b = by (same name key)
+each-more s names gone slots next name r v e d h w p noted old k b = by (same name key)
     (λ t. subst (λ (x : Slot). Holds s x (under key (gone ++ (m ∷ [])))) (sym (now-slot ∙ ap picked (found ∙ t)))
     (rw (under-last-hit key gone m t) (one-more-holds s (getD slots k missing .seen) (getD slots k missing .start) (getD slots k missing .end) v e (under key gone) h w (old k b))))
     (λ t. subst (λ (x : Slot). Holds s x (under key (gone ++ (m ∷ [])))) (sym (now-slot ∙ ap picked (found ∙ t)))
@@ -73,7 +77,7 @@ each-more s names gone slots next name r v e l d h w p noted old k b = by (same 
     picked x = slotBy x (oneMore (getD slots k missing .seen) v e) (getD slots k missing)
 
     now-slot : getD next k missing ≡ picked (eqb r k)
-    now-slot = noted .each k (omega (arith, l, b))
+    now-slot = noted .each k b
 
     found : eqb r k ≡ same name key
     found = ap (λ (i : ℕ). eqb i k) p ∙ seek-is name names k d b

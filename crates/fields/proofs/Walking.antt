@@ -7,7 +7,7 @@ use lib.ListN.{length, drop}
 use Rattle.rules.specs.Bytes.{Bytes, _>>=_}
 use Rattle.rules.specs.Json.Text.{Text, Taker, spelled, byte}
 use Rattle.rules.specs.Json.Strings.{string}
-use Rattle.rules.specs.Json.Values.{Behind, closed, onward, neither, opening, closing, andThen, afterItem, items, list, value}
+use Rattle.rules.specs.Json.Values.{Behind, closed, onward, neither, opening, closing, andThen, afterItem, items, list, elements, value}
 use Rattle.rules.specs.Json.Fields.{strings}
 use Rattle.rules.proofs.Tests.{apart}
 use Rattle.rules.proofs.Json.Suffix.{some-same, value-same, left-same, answered-none}
@@ -18,7 +18,7 @@ use Rattle.rules.proofs.Json.Joined.{joined-nil}
 use Rattle.json.specs.Follows.{Follows}
 use Rattle.json.specs.declared.Tail.the-variants.{Closed, More, Neither}
 use Rattle.fields.specs.Spelled.{nameIn, Quoted}
-use Rattle.fields.specs.Strung.{Listed, Onward}
+use Rattle.fields.specs.Strung.{Strung, Listed, IsList, Onward}
 use Rattle.fields.specs.declared.names.Spell.{Spell}
 use Rattle.fields.proofs.Elements.{read-strings, element-string, element-bytes, no-strings, strings-first}
 
@@ -47,6 +47,10 @@ unfolding strings
 strings-nil vs e f = some-same (sym f ∙ ap strings e)
 
 -- ---- behind the opening bracket
+
+-- an array of strings that was counted
+pub strung-list : (d : ℕ) (s : Text) (at : ℕ) {n end : ℕ} → Strung (elements (value d) (drop at s)) s at n end → IsList s at
+strung-list d s at {end = end} f = record { ss = f .ss; listed = record { depth = d; vs = f .vs; left = drop end s; all = f .all; each = f .each } }
 
 module _ (s : Text) (at : ℕ) (ss : List Bytes) (l : Listed s at ss) where
   listed-list : list (spelled (value (l .depth))) 0x5D (drop at s) ≡ some (l .vs, l .left)

@@ -15,6 +15,11 @@ pub record Object (depth : ℕ) (s : Text) (at : ℕ) (names : List Bytes) : Typ
   pub all : contents (value depth) (drop at s) ≡ some (ms, left)
   pub each : firsts ms ≡ names
 
+-- and so it is of some names
+pub record IsObject (depth : ℕ) (s : Text) (at : ℕ) : Type 0 where
+  pub names : List Bytes
+  pub object : Object depth s at names
+
 -- the same of its members from the one at i on
 pub record Members (depth : ℕ) (s : Text) (i : ℕ) (names : List Bytes) : Type 0 where
   pub ms : List Member

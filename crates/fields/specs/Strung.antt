@@ -35,6 +35,11 @@ pub record Listed (s : Text) (at : ℕ) (ss : List Bytes) : Type 0 where
   pub all : elements (value depth) (drop at s) ≡ some (vs, left)
   pub each : strings vs ≡ some ss
 
+-- and so it is of some strings
+pub record IsList (s : Text) (at : ℕ) : Type 0 where
+  pub ss : List Bytes
+  pub listed : Listed s at ss
+
 -- the same of its elements from the one at i on
 pub record Onward (s : Text) (i : ℕ) (ss : List Bytes) : Type 0 where
   pub depth : ℕ

@@ -14,7 +14,7 @@ ghost use Rattle.rules.specs.Gate.{readerNames, writerNames};
 ghost use Rattle.rules.specs.Json.Values.{elements, value as rValue};
 ghost use Rattle.strings.specs.Decoded.{decoded, WellSpelled};
 ghost use Rattle.fields.specs.Spelled.{nameIn, Named};
-ghost use Rattle.fields.specs.Strung.{StringsIs, Listed, Onward, knownNames};
+ghost use Rattle.fields.specs.Strung.{StringsIs, Listed, IsList, Onward, knownNames};
 
 // How many strings an array holds, and the position behind it; or that it is no array of strings.
 pub enum Strings {
@@ -74,7 +74,7 @@ fn held_from(s: &[u8], at: usize, t: &[u8], j: usize) -> bool
 
 // Whether the array of strings behind whose bracket `at` is holds the string of t behind whose quote j is.
 pub fn holds_string(s: &[u8], at: usize, t: &[u8], j: usize) -> bool
-    requires { ⌜ (at ≤ length (now s)) × WellSpelled (now t) j ⌝ }
+    requires { ⌜ (at ≤ length (now s)) × WellSpelled (now t) j × IsList (now s) at ⌝ }
     ensures { λ r. ⌜ ((ss : List Bytes) → Listed (now (s .entry)) at ss → r ≡ holds (decoded (drop j (now (t .entry)))) ss) ⌝ }
 {
     match json::opening(s, at, CLOSE_BRACKET) {
@@ -86,7 +86,7 @@ pub fn holds_string(s: &[u8], at: usize, t: &[u8], j: usize) -> bool
 
 // Whether no two strings of the array behind whose bracket `at` is are the same.
 pub fn distinct_strings(s: &[u8], at: usize) -> bool
-    requires { ⌜ at ≤ length (now s) ⌝ }
+    requires { ⌜ (at ≤ length (now s)) × IsList (now s) at ⌝ }
     ensures { λ r. ⌜ ((ss : List Bytes) → Listed (now (s .entry)) at ss → r ≡ distinct ss) ⌝ }
 {
     match json::opening(s, at, CLOSE_BRACKET) {
@@ -163,7 +163,7 @@ fn is_known(s: &[u8], n: Spell, writer: bool) -> bool
 
 // Whether every string of the array behind whose bracket `at` is names a feature that is known: to writers, or to readers.
 pub fn all_known(s: &[u8], at: usize, writer: bool) -> bool
-    requires { ⌜ at ≤ length (now s) ⌝ }
+    requires { ⌜ (at ≤ length (now s)) × IsList (now s) at ⌝ }
     ensures { λ r. ⌜ ((ss : List Bytes) → Listed (now (s .entry)) at ss → r ≡ allAmong (knownNames writer) ss) ⌝ }
 {
     match json::opening(s, at, CLOSE_BRACKET) {

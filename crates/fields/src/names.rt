@@ -1,5 +1,6 @@
 // Names of members as they stand, and their places among the names of a kind.
 ghost use mathlib.Core.Path.{_≡_};
+ghost use lib.ListN.{length};
 ghost use Rattle.rules.specs.Bytes.{same};
 ghost use Rattle.fields.specs.Kinds.{namesOf, seek};
 ghost use Rattle.fields.specs.Spelled.{nameIn, Named};
@@ -15,6 +16,7 @@ pub enum Kind {
     State,
     Manifest,
     Bounds,
+    Condition,
 }
 
 // A name as it stands: behind its opening quote, behind its closing quote, and whether it is spelled as the bytes that it stands for.
@@ -164,6 +166,22 @@ fn which_bounds(s: &[u8], n: Spell) -> usize
     if name_is(s, n, b"max") { 1 } else { 2 }
 }
 
+fn which_condition(s: &[u8], n: Spell) -> usize
+    requires { ⌜ Named (now s) n ⌝ }
+    ensures { λ r. ⌜ r ≡ seek (nameIn (now (s .entry)) n) (namesOf Kind.Condition) ⌝ }
+{
+    if name_is(s, n, b"column") {
+        return 0;
+    }
+    if name_is(s, n, b"as") {
+        return 1;
+    }
+    if name_is(s, n, b"op") {
+        return 2;
+    }
+    if name_is(s, n, b"value") { 3 } else { 4 }
+}
+
 // The place of the name among those of the kind; their number where it is none of them.
 pub fn which(s: &[u8], n: Spell, kind: Kind) -> usize
     requires { ⌜ Named (now s) n ⌝ }
@@ -179,5 +197,24 @@ pub fn which(s: &[u8], n: Spell, kind: Kind) -> usize
         Kind::State => which_state(s, n),
         Kind::Manifest => which_manifest(s, n),
         Kind::Bounds => which_bounds(s, n),
+        Kind::Condition => which_condition(s, n),
+    }
+}
+
+// How many names there are of the kind.
+pub fn names_in(kind: Kind) -> usize
+    ensures { λ r. ⌜ r ≡ length (namesOf kind) ⌝ }
+{
+    match kind {
+        Kind::Line => 5,
+        Kind::Add => 6,
+        Kind::Remove => 1,
+        Kind::Protocol => 4,
+        Kind::MetaData => 2,
+        Kind::Marker => 3,
+        Kind::State => 1,
+        Kind::Manifest => 2,
+        Kind::Bounds => 2,
+        Kind::Condition => 4,
     }
 }

@@ -1,9 +1,10 @@
 // Slots: how often each field of an object was seen, and where its value stands.
 ghost use mathlib.Core.Path.{_≡_};
-ghost use Rattle.fields.specs.Slots.{oneMore, Noted};
+ghost use Prim.Native.Nat.{_≤_};
+ghost use Rattle.fields.specs.Slots.{noFields, oneMore, Noted};
 
-// So many names has an object at most.
-const MOST_NAMES: usize = 8;
+// The end of what is no object.
+const NOWHERE: usize = 0;
 
 // How often a field stands in an object (2 for more), and where its value is if once.
 pub struct Slot {
@@ -12,7 +13,7 @@ pub struct Slot {
     pub end: usize,
 }
 
-// What an object holds: whether it is one, the position behind it, and a slot for each name of its kind.
+// What an object holds: whether it is one, the position behind it, and a slot for each name of its kind, at most eight.
 pub struct Fields {
     pub good: bool,
     pub end: usize,
@@ -38,14 +39,30 @@ fn one_more(seen: usize, start: usize, end: usize) -> Slot
     }
 }
 
-// The slots with one value more of name k; no name of the kind, no slot.
-pub fn noted(slots: [Slot; 8], k: usize, start: usize, end: usize) -> [Slot; 8]
-    ensures { λ r. ⌜ Noted slots k start end r ⌝ }
+// The slots with one value more of name k, of so many names; none of them, no slot.
+pub fn noted(slots: [Slot; 8], names: usize, k: usize, start: usize, end: usize) -> [Slot; 8]
+    requires { ⌜ names ≤ 8 ⌝ }
+    ensures { λ r. ⌜ Noted slots names k start end r ⌝ }
 {
     let mut t = slots;
-    if k < MOST_NAMES {
+    if k < names {
         let old = t[k];
         t[k] = one_more(old.seen, start, end);
     }
     t
+}
+
+// What is no object.
+pub fn no_fields() -> Fields
+    ensures { λ r. ⌜ r ≡ noFields ⌝ }
+{
+    Fields {
+        good: false,
+        end: NOWHERE,
+        slots: [Slot {
+            seen: 0,
+            start: 0,
+            end: 0,
+        }; 8],
+    }
 }

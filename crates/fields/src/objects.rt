@@ -4,9 +4,11 @@ use crate::QUOTE;
 use crate::names::Kind;
 use crate::names::Spell;
 use crate::names::name_is;
+use crate::names::names_in;
 use crate::names::which;
 use crate::notes::Fields;
 use crate::notes::Slot;
+use crate::notes::no_fields;
 use crate::notes::noted;
 use json::Tail;
 use strings::Spelling;
@@ -20,7 +22,7 @@ ghost use Rattle.rules.specs.Json.Values.{member, contents, value as rValue};
 ghost use Rattle.fields.specs.Kinds.{namesOf};
 ghost use Rattle.fields.specs.Spelled.{nameIn, Named, NameIs, MetIs};
 ghost use Rattle.fields.specs.Slots.{Scanned};
-ghost use Rattle.fields.specs.Namings.{Object, Members};
+ghost use Rattle.fields.specs.Namings.{Object, IsObject, Members};
 
 // A name in its quotes, or none.
 pub enum Name {
@@ -58,7 +60,7 @@ pub enum Met {
 }
 
 // The member at `at`, whose value nests at most `depth` deep.
-fn read_member(s: &[u8], at: usize, depth: usize) -> Met
+pub fn read_member(s: &[u8], at: usize, depth: usize) -> Met
     requires { ⌜ at ≤ length (now s) ⌝ }
     ensures { λ r. ⌜ MetIs (member (rValue depth) (drop at (now (s .entry)))) (now (s .entry)) at r ⌝ }
 {
@@ -80,17 +82,14 @@ pub fn scan(s: &[u8], at: usize, kind: Kind, depth: usize) -> Fields
     requires { ⌜ at ≤ length (now s) ⌝ }
     ensures { λ r. ⌜ Scanned (contents (rValue depth) (drop at (now (s .entry)))) (now (s .entry)) at (namesOf kind) r ⌝ }
 {
+    let names = names_in(kind);
     let mut slots = [Slot {
         seen: 0,
         start: 0,
         end: 0,
     }; 8];
     match json::opening(s, at, CLOSE_BRACE) {
-        Tail::Neither => Fields {
-            good: false,
-            end: 0,
-            slots,
-        },
+        Tail::Neither => no_fields(),
         Tail::Closed(end) => Fields {
             good: true,
             end,
@@ -100,23 +99,13 @@ pub fn scan(s: &[u8], at: usize, kind: Kind, depth: usize) -> Fields
             let mut i = first;
             loop {
                 let Met::Member(n, v, e) = read_member(s, i, depth) else {
-                    return Fields {
-                        good: false,
-                        end: 0,
-                        slots,
-                    };
+                    return no_fields();
                 };
                 let k = which(s, n, kind);
-                let next = noted(slots, k, v, e);
+                let next = noted(slots, names, k, v, e);
                 slots = next;
                 match json::closing(s, e, CLOSE_BRACE) {
-                    Tail::Neither => {
-                        return Fields {
-                            good: false,
-                            end: 0,
-                            slots,
-                        };
-                    }
+                    Tail::Neither => return no_fields(),
                     Tail::Closed(end) => {
                         return Fields {
                             good: true,
@@ -171,7 +160,7 @@ fn named_from(s: &[u8], at: usize, depth: usize, n: Spell) -> bool
 
 // Whether no two members of the object behind whose brace `at` is have the same name.
 pub fn distinct_names(s: &[u8], at: usize, depth: usize) -> bool
-    requires { ⌜ at ≤ length (now s) ⌝ }
+    requires { ⌜ (at ≤ length (now s)) × IsObject depth (now s) at ⌝ }
     ensures { λ r. ⌜ ((names : List Bytes) → Object depth (now (s .entry)) at names → r ≡ distinct names) ⌝ }
 {
     match json::opening(s, at, CLOSE_BRACE) {

@@ -17,3 +17,9 @@ pub mod Agreement
 pub mod TotalOrders
 pub mod Dropping
 pub mod Rooms
+pub mod Answers
+pub mod Moving
+pub mod SoleNames
+pub mod Bundles
+pub mod Readings
+pub mod TextParts

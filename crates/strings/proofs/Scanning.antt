@@ -2,10 +2,11 @@
 use mathlib.Core.Path.{_≡_, refl, sym, ap, _∙_}
 use mathlib.Core.Bool.{true}
 use mathlib.Core.Option.{Option, none, some}
-use mathlib.Core.List.{[], _++_, append-assoc, append-nil}
+use mathlib.Core.List.{[], _∷_, _++_, append-assoc, append-nil}
 use Prim.Native.Nat.{ℕ, _+_, _-_, _≤_, _<_}
 use native.Mathlib.Omega.{arith}
-use lib.ListN.{length, take, drop, getD, drop-of-length-le}
+use lib.ListN.{length, take, drop, getD, length-append, length-drop, drop-of-length-le}
+use lib.Seq.{length-take-le}
 use Rattle.facts.specs.Parts.{part}
 use Rattle.facts.proofs.Lists.{drop-here, drop-is}
 use Rattle.facts.proofs.Parts.{part-none, part-split}
@@ -13,10 +14,18 @@ use Rattle.rules.specs.Bytes.{Bytes, _>>=_}
 use Rattle.rules.specs.Json.Text.{Text, behind, spelled}
 use Rattle.rules.specs.Json.Strings.{isPlain, unescaped, char, string}
 use Rattle.rules.proofs.Tests.{apart}
+use Rattle.rules.proofs.Json.Shadows.{behind-some}
 use Rattle.rules.proofs.Json.Places.{spelled-place}
 use Rattle.rules.proofs.Json.TextReads.{spelled-none}
 use Rattle.rules.proofs.Json.Steps.{char-plain, string-end, string-quote, string-none, string-char}
+use Rattle.text.specs.Answers.{Answer}
+use Rattle.text.specs.declared.Next.the-variants.{At}
+use Rattle.strings.specs.Decoded.{decoded}
+use Rattle.strings.specs.Scanned.{Scanned}
+use Rattle.strings.specs.declared.scan.Spelling.the-variants.{Plain, Escaped}
+use Rattle.strings.proofs.Decoding.{decoded-some}
 use Rattle.strings.proofs.Raw.{plain-quote, plain-backslash}
+use Rattle.strings.proofs.Shorter.{string-longer}
 
 -- the bytes x in front of a string's
 pub after : Bytes → Option (Bytes × Text) → Option (Bytes × Text)
@@ -55,7 +64,7 @@ module _ {s : Text} {at i : ℕ} (c : Scanning s at i) where
   unfolding after
   scanning-none e = c .rest ∙ ap (after (part s at i)) e
 
-  pub scanning-rest : {r : Text} → behind (string (drop i s)) ≡ some r → behind (string (drop at s)) ≡ some r
+  scanning-rest : {r : Text} → behind (string (drop i s)) ≡ some r → behind (string (drop at s)) ≡ some r
   scanning-rest e = ap behind (c .rest) ∙ after-behind (part s at i) (string (drop i s)) ∙ e
 
   pub scanning-no-rest : behind (string (drop i s)) ≡ none → string (drop at s) ≡ none
@@ -69,12 +78,34 @@ module _ {s : Text} {at i : ℕ} (c : Scanning s at i) where
   scanning-ended h = scanning-none (ap string (drop-of-length-le s h) ∙ string-end)
 
   module _ (h : i < length s) where
-    pub scanning-quote : getD s i 0 ≡ 0x22 → string (drop at s) ≡ some (take (i + 1 - 1 - at) (drop at s), drop (i + 1) s)
+    pub scanning-quote : getD s i 0 ≡ 0x22 → Scanned s at (Plain (i + 1))
     unfolding after part
     scanning-quote e =
         let n : i - at ≡ i + 1 - 1 - at = omega arith in
-        c .rest ∙ ap (after (part s at i)) (ap string (drop-is s i 0 0x22 h e) ∙ string-quote (drop (i + 1) s))
-        ∙ ap (λ (x : Bytes). some (x, drop (i + 1) s)) (append-nil (part s at i) ∙ ap (λ (k : ℕ). take k (drop at s)) n)
+        let low : at ≤ i = c .from in (
+          c .rest ∙ ap (after (part s at i)) (ap string (drop-is s i 0 0x22 h e) ∙ string-quote (drop (i + 1) s))
+              ∙ ap (λ (x : Bytes). some (x, drop (i + 1) s)) (append-nil (part s at i) ∙ ap (λ (k : ℕ). take k (drop at s)) n),
+          omega arith,
+          omega arith,
+        )
+
+    -- up to the backslash the string is as long as what it stands for, and longer behind it
+    scanning-fewer : (j : ℕ) → j ≤ length s → getD s i 0 ≡ 0x5C → behind (string (drop i s)) ≡ some (drop j s) → length (decoded (drop at s)) < j - 1 - at
+    unfolding after part
+    scanning-fewer j w e f =
+        let (x, g) = behind-some (string (drop i s)) f in
+        let here : drop i s ≡ 0x5C ∷ drop (i + 1) s = drop-is s i 0 0x5C h e in
+        let rest-long : length x + length (drop j s) + 1 ≤ length (drop (i + 1) s) = string-longer (drop (i + 1) s) (sym (ap string here) ∙ g) in
+        let all : string (drop at s) ≡ some (part s at i ++ x, drop j s) = c .rest ∙ ap (after (part s at i)) g in
+        let low : at ≤ i = c .from in
+        let fits : i - at ≤ length (drop at s) = omega (arith, length-drop at s) in
+        omega (arith, ap length (decoded-some (drop at s) all), length-append (part s at i) x, length-take-le (i - at) (drop at s) fits, length-drop j s, length-drop (i + 1) s)
+
+    pub scanning-backslash : (j : ℕ) → getD s i 0 ≡ 0x5C → Answer (behind (string (drop i s))) s (i + 1) (At j) → Scanned s at (Escaped j)
+    scanning-backslash j e f =
+        let low : at ≤ i = c .from in
+        let further : i + 1 ≤ j = f .1 in
+        (scanning-rest (f .0), omega arith, f .2, scanning-fewer j (f .2) e (f .0))
 
     module _ (q : getD s i 0 ≡ 0x22 → ⊥) (e : getD s i 0 ≡ 0x5C → ⊥) where
       char-here : char (drop i s) ≡ spelled unescaped (drop i s)

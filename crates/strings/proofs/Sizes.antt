@@ -27,8 +27,8 @@ shortEscape-small b e = first-answers Small _ (at 0x22 (omega arith), (at 0x5C (
     at : {T : Type 0} (n : ℕ) → n < 0x80 → T → (x : ℕ) → some n ≡ some x → x < 0x80
     at n l t x f = omega (arith, some-same f)
 
--- behind a backslash: with it, an escape is no shorter than what it stands for
-pub escaped-size : (t : Text) {x : ℕ} {r : Text} → escaped t ≡ some (x, r) → length (utf8 x) + length r ≤ length t + 1
+-- behind a backslash: even without it, an escape is no shorter than what it stands for
+pub escaped-size : (t : Text) {x : ℕ} {r : Text} → escaped t ≡ some (x, r) → length (utf8 x) + length r ≤ length t
 unfolding escaped Small
 escaped-size [] e = apart (cc)
 escaped-size (b ∷ t) {x} {r} e = by (eqb b 0x75)

@@ -1,11 +1,14 @@
 -- What a cursor stands for: the bytes that are to come; and what a step does.
 use mathlib.Core.Path.{_≡_}
+use mathlib.Core.Bool.{true, false}
+use mathlib.Core.Option.{Option, none, some}
 use mathlib.Core.List.{[], _∷_, _++_}
-use Prim.Native.Nat.{ℕ, _+_, _-_, _*_, _≤_, _<_}
+use Prim.Native.Nat.{ℕ, zero, suc, _+_, _-_, _*_, _≤_, _<_}
+use lib.Dec.{eqb}
 use lib.ListN.{length, drop}
 use Rattle.rules.specs.Bytes.{Bytes}
 use Rattle.rules.specs.Json.Text.{Text}
-use Rattle.rules.specs.Json.Strings.{utf8}
+use Rattle.rules.specs.Json.Strings.{utf8, escaped}
 use Rattle.strings.specs.Flat.{flat, lastOf}
 use Rattle.strings.specs.declared.steps.Cursor.{Cursor}
 use Rattle.strings.specs.declared.steps.Step.{Step}
@@ -27,8 +30,26 @@ pub record Sound (s : Text) (c : Cursor) : Type 0 where
 abbrev pub distance : Text → Cursor → ℕ
 distance s c = (length s - c .at) * 4 + c .left
 
+-- where a cursor goes over a byte that is to come: within its code point; or, with no more of it, by the byte at which it stands,
+-- into the code point of an escape or to the next byte
+unfoldable pub intoEscape : Text → Option (ℕ × Text) → Cursor
+intoEscape s none = fresh 0
+intoEscape s (some p) = record { at = length s - length (p .1); code = p .0; left = length (utf8 (p .0)) - 1 }
+
+unfoldable pub nextAt : Text → (at : ℕ) → Text → Cursor
+nextAt s at [] = fresh at
+nextAt s at (b ∷ t) = elim (eqb b 0x5C) [ true ↦ intoEscape s (escaped t) | false ↦ fresh (at + 1) ]
+
+unfoldable pub nextBy : Text → Cursor → (left : ℕ) → Cursor
+nextBy s c zero = nextAt s (c .at) (drop (c .at) s)
+nextBy s c (suc n) = record { at = c .at; code = c .code; left = n }
+
+abbrev pub nextOf : Text → Cursor → Cursor
+nextOf s c = nextBy s c (c .left)
+
 -- from c to d, over the byte b
 pub record Went (s : Text) (c d : Cursor) (b : ℕ) : Type 0 where
+  pub place : d ≡ nextOf s c
   pub more : ahead s c ≡ b ∷ ahead s d
   pub sound : Sound s d
   pub nearer : distance s d < distance s c

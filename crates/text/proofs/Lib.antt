@@ -5,3 +5,4 @@ pub mod Words
 pub mod Tails
 pub mod Units
 pub mod Inside
+pub mod Alone

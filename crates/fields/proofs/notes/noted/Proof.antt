@@ -20,10 +20,10 @@ array-set-from-t : tie.Need-array-set-from-t
 array-set-from-t c = search needs
 
 returns : tie.Need-returns
-returns c = let a = c .before .before .before .args in noted-in (a .slots) (a .k) (a .start) (a .end) (c .one-more .result) (search needs) (c .before .before .if1 .taken) (c .one-more .ensures)
+returns c = let a = c .before .before .before .args in noted-in (a .slots) (a .names) (a .k) (a .start) (a .end) (search needs) (c .one-more .result) (c .before .before .before .pre) (c .before .before .if1 .taken) (c .one-more .ensures)
 
 returns-2 : tie.Need-returns-2
-returns-2 c = let a = c .before .args in noted-out (a .slots) (a .k) (a .start) (a .end) (c .if1 .left)
+returns-2 c = let a = c .before .args in noted-out (a .slots) (a .names) (a .k) (a .start) (a .end) (search needs) (c .if1 .left)
 
 pub noted-spec : {M : Type 1} → statement M
 noted-spec =

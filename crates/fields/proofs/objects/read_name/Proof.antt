@@ -45,7 +45,7 @@ returns-3 : tie.Need-returns-3
 returns-3 c =
     let q = subst (Answer _ _ _) (c .before .before .before .before .before .i .given .1) (c .before .before .before .before .before .before .before .skip-byte .ensures) in
     let t = subst (Scanned _ _) (c .before .end2 .given .1) (c .before .before .before .scan-string .ensures) in
-    record { quote = q .0; from = q .1; named = named-escaped (c .before .before .before .before .before .before .before .before .before .args .s .now) (c .before .before .before .before .before .i .given .0 .0) (c .before .end2 .given .0 .0) (t .0) (t .1) (t .2) }
+    record { quote = q .0; from = q .1; named = named-escaped (c .before .before .before .before .before .before .before .before .before .args .s .now) (c .before .before .before .before .before .i .given .0 .0) (c .before .end2 .given .0 .0) (t .0) (t .1) (t .2) (t .3) }
 
 returns-4 : tie.Need-returns-4
 returns-4 c =

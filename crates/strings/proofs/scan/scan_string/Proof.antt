@@ -5,7 +5,7 @@ use lib.ListN.{length}
 use mathlib.Core.Path.{sym, subst, _∙_}
 use native.Mathlib.Omega.{arith}
 use Rattle.text.specs.Answers.{Answer}
-use Rattle.strings.proofs.Scanning.{Scanning, scanning-start, scanning-rest, scanning-no-rest, scanning-ended, scanning-quote, scanning-bad, scanning-more, scanning-plain}
+use Rattle.strings.proofs.Scanning.{Scanning, scanning-start, scanning-no-rest, scanning-ended, scanning-quote, scanning-backslash, scanning-bad, scanning-more, scanning-plain}
 use Rattle.strings.proofs.scan.scan_string.Statement.{statement}
 use Rattle.strings.proofs.scan.scan_string.Tie as tie
 
@@ -37,7 +37,7 @@ add-t13 : tie.Need-add-t13 Inv-loop μ-loop
 add-t13 c = omega arith
 
 returns : tie.Need-returns Inv-loop μ-loop
-returns c = (scanning-quote (c .before .before .before .before .before .loop .inv) (c .before .before .before .before .loop-test .taken) (c .if2 .taken), omega arith, omega arith)
+returns c = scanning-quote (c .before .before .before .before .before .loop .inv) (c .before .before .before .before .loop-test .taken) (c .if2 .taken)
 
 skip-string-requires : tie.Need-skip-string-requires Inv-loop μ-loop
 skip-string-requires c κs = (c .before .before .before .before .before .before .loop .inv .within)
@@ -52,10 +52,7 @@ returns-2 : tie.Need-returns-2 Inv-loop μ-loop
 returns-2 c = scanning-no-rest (c .before .before .before .before .before .before .before .before .before .loop .inv) (subst (Answer _ _ _) (c .enum-told .given .1) (c .before .before .skip-string .ensures))
 
 returns-3 : tie.Need-returns-3 Inv-loop μ-loop
-returns-3 c =
-    let e = subst (Answer _ _ _) (c .before .j .given .1) (c .before .before .before .skip-string .ensures) in
-    let l : (c .before .before .before .before .before .before .before .before .before .before .loop .i) + 1 ≤ (c .before .j .given .0 .0) = e .1 in
-    (scanning-rest (c .before .before .before .before .before .before .before .before .before .before .loop .inv) (e .0), omega arith, e .2)
+returns-3 c = scanning-backslash (c .before .before .before .before .before .before .before .before .before .before .loop .inv) (c .before .before .before .before .before .before .before .before .before .loop-test .taken) (c .before .j .given .0 .0) (c .before .before .before .before .if3 .taken) (subst (Answer _ _ _) (c .before .j .given .1) (c .before .before .before .skip-string .ensures))
 
 skip-unescaped-requires : tie.Need-skip-unescaped-requires Inv-loop μ-loop
 skip-unescaped-requires c κs = (c .before .before .before .before .before .before .loop .inv .within)

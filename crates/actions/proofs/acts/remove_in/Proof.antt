@@ -1,0 +1,35 @@
+-- `remove_in` meets its contract. The path of its field.
+use mathlib.Core.Path.{subst}
+use Rattle.fields.specs.Kinds.{namesOf}
+use Rattle.fields.specs.declared.names.Kind.the-variants.{Remove}
+use Rattle.actions.specs.Texts.{PathIs}
+use Rattle.actions.proofs.Stated.{each-inside}
+use Rattle.actions.proofs.Assembled.{remove-no-path, remove-there}
+use native.Mathlib.Omega.{arith}
+use borrow.Author.Needs.{needs}
+use Rattle.actions.proofs.acts.remove_in.Statement.{statement}
+use Rattle.actions.proofs.acts.remove_in.Tie as tie
+
+element-copy-out-place : tie.Need-element-copy-out-place
+element-copy-out-place c = search needs
+
+path-in-requires : tie.Need-path-in-requires
+unfolding namesOf
+path-in-requires c κs = each-inside (c .before .before .args .s .now) (namesOf Remove) (c .before .before .pre .ms) (c .before .before .args .t2 .slots) 0 (omega arith) (c .before .before .pre .each)
+
+enum-known-p : tie.Need-enum-known-p
+enum-known-p c = search needs
+
+enum-told : tie.Need-enum-told
+enum-told c = search needs
+
+returns : tie.Need-returns
+returns c = remove-no-path (c .before .before .before .before .before .args .s .now) (c .before .before .before .before .before .args .t2) (c .before .before .before .before .before .pre) (subst (PathIs _ _) (c .enum-told .given .1) (c .before .before .path-in .ensures))
+
+returns-2 : tie.Need-returns-2
+returns-2 c = remove-there (c .before .before .before .before .before .before .args .s .now) (c .before .before .before .before .before .before .args .t2) (c .before .before .before .before .before .before .pre) (c .before .p .given .0 .0) (subst (PathIs _ _) (c .before .p .given .1) (c .before .before .before .path-in .ensures))
+
+pub remove-in-spec : {M : Type 1} → statement M
+remove-in-spec =
+    tie.close
+    (tie.spec element-copy-out-place path-in-requires enum-known-p enum-told returns returns-2)

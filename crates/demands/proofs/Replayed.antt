@@ -1,0 +1,262 @@
+-- Line by line, what is live at a path and what protocol is in force go as the actions say.
+use mathlib.Core.Path.{_≡_, refl, sym, _∙_, ap, subst}
+use mathlib.Core.Bool.{Bool, true, false}
+use mathlib.Core.Option.{Option, none, some}
+use mathlib.Core.List.{List, [], _∷_, _++_, append-nil}
+use Prim.Native.Nat.{ℕ, suc, _+_}
+use lib.ListN.{length}
+use Rattle.rules.specs.Bytes.{Bytes, same}
+use Rattle.rules.specs.Bundle.{File}
+use Rattle.rules.specs.Lines.{lines, anyObject}
+use Rattle.rules.specs.Actions.{Facts, MetaData, Protocol, Action, add, remove, protocol, metaData, mergeskip, other, action}
+use Rattle.rules.specs.Live.{mostLive, Row, pathOf, put, takeOut}
+use Rattle.rules.specs.History.{State, Said, effect, withinLimit, readLine, readLines, readFile, saidNothing, sayTable, sayProtocol, say, zeroLines, orUnstated, readZero}
+use Rattle.rules.specs.Starts.{Way, fromZero, fromCheckpoint, andThen, nothingLive, follow}
+use Rattle.rules.specs.Reading.{stateBy}
+use Rattle.rules.specs.Refusals.{accepted, _>>=_, orRefuse, require, malformed, noVersionZero, notKept}
+use Rattle.rules.proofs.Tests.{apart, by}
+use Rattle.rules.proofs.Order.{same-true, same-false}
+use Rattle.rules.proofs.Ascending.{Ascends}
+use Rattle.rules.proofs.Live.{lookup, lookup-put, lookup-put-other, lookup-takeOut, lookup-takeOut-other}
+use Rattle.rules.proofs.Replaying.{bind-accepted, withinLimit-accepted, effect-ascends, Ordered, stateBy-live}
+use Rattle.rules.proofs.Answers.{orRefuse-accepted}
+use Rattle.rules.proofs.Moving.{follow-table}
+use Rattle.rules.proofs.Json.Suffix.{some-same}
+use Rattle.demands.specs.Replayed.{actionsIn, actionsOn, after, afterAll, liveAt, lastProtocol, protocolBefore, tablesIn, ZeroSays, ReplaysExactly}
+
+-- ---- the live file at a path
+
+factsIn : Option Row → Option Facts
+factsIn none = none
+factsIn (some r) = some (r .facts)
+
+liveAt-lookup : (p : Bytes) (rs : List Row) → liveAt p rs ≡ factsIn (lookup pathOf p rs)
+unfolding liveAt lookup factsIn pathOf
+liveAt-lookup p [] = refl
+liveAt-lookup p (r ∷ rs) = go (same p (r .facts .path)) (liveAt-lookup p rs)
+  where
+    go : (b : Bool) → liveAt p rs ≡ factsIn (lookup pathOf p rs)
+        → _≡_ {A = Option Facts} (elim b [ true ↦ some (r .facts) | false ↦ liveAt p rs ]) (factsIn (elim b as (λ _. Option Row) [ true ↦ some r | false ↦ lookup pathOf p rs ]))
+    go true ih = refl
+    go false ih = ih
+
+liveAt-put : (p : Bytes) (r : Row) (rs : List Row) → liveAt p (put pathOf r rs) ≡ after p (add (r .facts)) (liveAt p rs)
+unfolding after pathOf factsIn
+liveAt-put p r rs = by (same p (r .facts .path)) here there
+  where
+    here : same p (r .facts .path) ≡ true → liveAt p (put pathOf r rs) ≡ after p (add (r .facts)) (liveAt p rs)
+    here e =
+        let q : p ≡ r .facts .path = same-true p (r .facts .path) e in
+        let found : lookup pathOf p (put pathOf r rs) ≡ some r = subst (λ (x : Bytes). lookup pathOf x (put pathOf r rs) ≡ some r) (sym q) (lookup-put pathOf r rs) in
+        rw (after, e) (liveAt-lookup p (put pathOf r rs) ∙ ap factsIn found)
+
+    there : same p (r .facts .path) ≡ false → liveAt p (put pathOf r rs) ≡ after p (add (r .facts)) (liveAt p rs)
+    there e =
+        rw (after, e) (liveAt-lookup p (put pathOf r rs) ∙ ap factsIn (lookup-put-other pathOf p r rs (same-false p (r .facts .path) e)) ∙ sym (liveAt-lookup p rs))
+
+liveAt-takeOut : (p q : Bytes) (rs : List Row) → Ascends pathOf rs → liveAt p (takeOut pathOf q rs) ≡ after p (remove q) (liveAt p rs)
+unfolding after factsIn
+liveAt-takeOut p q rs s = by (same p q) here there
+  where
+    here : same p q ≡ true → liveAt p (takeOut pathOf q rs) ≡ after p (remove q) (liveAt p rs)
+    here e =
+        let f : p ≡ q = same-true p q e in
+        let gone : lookup pathOf p (takeOut pathOf q rs) ≡ none = subst (λ (x : Bytes). lookup pathOf x (takeOut pathOf q rs) ≡ none) (sym f) (lookup-takeOut pathOf q rs s) in
+        rw (after, e) (liveAt-lookup p (takeOut pathOf q rs) ∙ ap factsIn gone)
+
+    there : same p q ≡ false → liveAt p (takeOut pathOf q rs) ≡ after p (remove q) (liveAt p rs)
+    there e = rw (after, e) (liveAt-lookup p (takeOut pathOf q rs) ∙ ap factsIn (lookup-takeOut-other pathOf p q rs (same-false p q e)) ∙ sym (liveAt-lookup p rs))
+
+effect-live : (p : Bytes) (at size : ℕ) (a : Action) (st : State) → Ordered st → liveAt p (effect at size a st .live) ≡ after p a (liveAt p (st .live))
+unfolding effect after
+effect-live p at size (add f) st s = liveAt-put p (record { at = at; size = size; facts = f }) (st .live)
+effect-live p at size (remove q) st s = liveAt-takeOut p q (st .live) s
+effect-live p at size (protocol x) st s = refl
+effect-live p at size (metaData m) st s = refl
+effect-live p at size mergeskip st s = refl
+effect-live p at size other st s = refl
+
+effect-protocol : (at size : ℕ) (a : Action) (acts : List Action) (st : State) → lastProtocol acts (effect at size a st .inForce) ≡ lastProtocol (a ∷ acts) (st .inForce)
+unfolding effect lastProtocol
+effect-protocol at size (add f) acts st = refl
+effect-protocol at size (remove q) acts st = refl
+effect-protocol at size (protocol x) acts st = refl
+effect-protocol at size (metaData m) acts st = refl
+effect-protocol at size mergeskip acts st = refl
+effect-protocol at size other acts st = refl
+
+-- ---- lines, files and ways
+
+-- from one state to another, as the actions say
+record Goes (acts : List Action) (st to : State) : Type 0 where
+  live : (p : Bytes) → liveAt p (to .live) ≡ afterAll p acts (liveAt p (st .live))
+  inForce : to .inForce ≡ lastProtocol acts (st .inForce)
+  ordered : Ordered to
+
+goes-more : (at size : ℕ) (a : Action) (acts : List Action) (st to : State) → Ordered st → Goes acts (effect at size a st) to → Goes (a ∷ acts) st to
+unfolding afterAll
+goes-more at size a acts st to s g = record {
+  live = λ p. g .live p ∙ ap (afterAll p acts) (effect-live p at size a st s);
+  inForce = g .inForce ∙ effect-protocol at size a acts st;
+  ordered = g .ordered;
+}
+
+readLines-goes : (e k at : ℕ) (ls : List Bytes) (st to : State) → Ordered st → readLines mostLive e k at ls st ≡ accepted to → Goes (actionsIn ls) st to
+unfolding readLines readLine actionsIn afterAll lastProtocol
+readLines-goes e k at [] st to s h =
+    let q : st ≡ to = cc in
+    subst (λ (x : State). Goes [] st x) q (record { live = λ p. refl; inForce = refl; ordered = s })
+readLines-goes e k at ([] ∷ ls) st to s h = readLines-goes e (suc k) (at + 0 + 1) ls st to s h
+readLines-goes e k at ((b ∷ bs) ∷ ls) st to s h = go (action (b ∷ bs)) h (λ next. readLines-goes e (suc k) (at + length (b ∷ bs) + 1) ls next to)
+  where
+    go : (o : Option Action)
+        → ((orRefuse (malformed e k) o >>= (λ a. withinLimit mostLive e k (effect at (length (b ∷ bs)) a st))) >>= (λ next. readLines mostLive e (suc k) (at + length (b ∷ bs) + 1) ls next)) ≡ accepted to
+        → ((next : State) → Ordered next → readLines mostLive e (suc k) (at + length (b ∷ bs) + 1) ls next ≡ accepted to → Goes (actionsIn ls) next to)
+        → Goes (elim o [ none ↦ actionsIn ls | some a ↦ a ∷ actionsIn ls ]) st to
+    go none h ih = apart (cc)
+    go (some a) h ih =
+        let r = bind-accepted (withinLimit mostLive e k (effect at (length (b ∷ bs)) a st)) (λ next. readLines mostLive e (suc k) (at + length (b ∷ bs) + 1) ls next) h in
+        let w = withinLimit-accepted mostLive e k (effect at (length (b ∷ bs)) a st) (r .1) in
+        let t : readLines mostLive e (suc k) (at + length (b ∷ bs) + 1) ls (effect at (length (b ∷ bs)) a st) ≡ accepted to =
+        subst (λ (x : State). readLines mostLive e (suc k) (at + length (b ∷ bs) + 1) ls x ≡ accepted to) (sym (w .0)) (r .2) in
+        goes-more at (length (b ∷ bs)) a (actionsIn ls) st to s (ih (effect at (length (b ∷ bs)) a st) (effect-ascends at (length (b ∷ bs)) a st s) t)
+
+readFile-goes : (f : File) (st to : State) → Ordered st → readFile mostLive f st ≡ accepted to → Goes (actionsIn (lines (f .body))) st to
+unfolding readFile
+readFile-goes f st to s h =
+    let r = bind-accepted (readLines mostLive (f .entry) 1 (f .start) (lines (f .body)) st) (λ next. require (malformed (f .entry) 0) (anyObject (lines (f .body))) >>= (λ _. accepted next)) h in
+    let t = bind-accepted (require (malformed (f .entry) 0) (anyObject (lines (f .body)))) (λ _. accepted (r .0)) (r .2) in
+    let p : accepted (r .0) ≡ accepted to = t .2 in
+    let q : r .0 ≡ to = cc in
+    subst (Goes (actionsIn (lines (f .body))) st) q (readLines-goes (f .entry) 1 (f .start) (lines (f .body)) st (r .0) s (r .1))
+
+afterAll-append : (p : Bytes) (acts bs : List Action) (was : Option Facts) → afterAll p (acts ++ bs) was ≡ afterAll p bs (afterAll p acts was)
+unfolding afterAll
+afterAll-append p [] bs was = refl
+afterAll-append p (a ∷ acts) bs was = afterAll-append p acts bs (after p a was)
+
+lastProtocol-append : (acts bs : List Action) (was : Protocol) → lastProtocol (acts ++ bs) was ≡ lastProtocol bs (lastProtocol acts was)
+unfolding lastProtocol
+lastProtocol-append [] bs was = refl
+lastProtocol-append (add f ∷ acts) bs was = lastProtocol-append acts bs was
+lastProtocol-append (remove q ∷ acts) bs was = lastProtocol-append acts bs was
+lastProtocol-append (protocol p ∷ acts) bs was = lastProtocol-append acts bs p
+lastProtocol-append (metaData m ∷ acts) bs was = lastProtocol-append acts bs was
+lastProtocol-append (mergeskip ∷ acts) bs was = lastProtocol-append acts bs was
+lastProtocol-append (other ∷ acts) bs was = lastProtocol-append acts bs was
+
+-- along a way, from where nothing is live
+record Comes (w : Way) (p : Protocol) (to : State) : Type 0 where
+  live : (path : Bytes) → liveAt path (to .live) ≡ afterAll path (actionsOn w) none
+  inForce : to .inForce ≡ lastProtocol (actionsOn w) (protocolBefore w p)
+  ordered : Ordered to
+
+follow-comes : (z : State) (w : Way) (st : State) → z .live ≡ [] → follow mostLive z w ≡ accepted st → Comes w (z .inForce) st
+unfolding follow actionsOn protocolBefore afterAll lastProtocol nothingLive liveAt
+follow-comes z fromZero st e h =
+    let q : z ≡ st = cc in
+    subst (Comes fromZero (z .inForce)) q (record { live = λ p. ap (liveAt p) e; inForce = refl; ordered = subst (Ascends pathOf) (sym e) tt })
+follow-comes z (fromCheckpoint f) st e h =
+    let g = readFile-goes f (nothingLive (z .table)) st tt h in
+    record { live = g .live; inForce = g .inForce; ordered = g .ordered }
+follow-comes z (andThen w g) st e h = go (bind-accepted (follow mostLive z w) (λ x. readFile mostLive g x) h) (λ x. follow-comes z w x e)
+  where
+    go : (x : State) × (follow mostLive z w ≡ accepted x) × (readFile mostLive g x ≡ accepted st) → ((x : State) → follow mostLive z w ≡ accepted x → Comes w (z .inForce) x) → Comes (andThen w g) (z .inForce) st
+    go (x, a, b) ih =
+        let c = ih x a in
+        let d = readFile-goes g x st (c .ordered) b in
+        record {
+          live = λ p. d .live p ∙ ap (afterAll p (actionsIn (lines (g .body)))) (c .live p) ∙ sym (afterAll-append p (actionsOn w) (actionsIn (lines (g .body))) none);
+          inForce = d .inForce ∙ ap (lastProtocol (actionsIn (lines (g .body)))) (c .inForce) ∙ sym (lastProtocol-append (actionsOn w) (actionsIn (lines (g .body))) (protocolBefore w (z .inForce)));
+          ordered = d .ordered;
+        }
+
+-- ---- version 0
+
+listOf : Option MetaData → List MetaData
+listOf none = []
+listOf (some m) = m ∷ []
+
+-- one action, in front of those that are left
+say-goes : (a : Action) (left : List Action) (s next : Said) → say a s ≡ some next
+    → (listOf (next .ofTable) ++ tablesIn left ≡ listOf (s .ofTable) ++ tablesIn (a ∷ left)) × (lastProtocol left (orUnstated (next .ofProtocol)) ≡ lastProtocol (a ∷ left) (orUnstated (s .ofProtocol)))
+unfolding say sayTable sayProtocol tablesIn lastProtocol listOf orUnstated
+say-goes (add f) left s next e = apart (cc)
+say-goes (remove q) left s next e = apart (cc)
+say-goes (protocol p) left s next e = go (s .ofProtocol) e
+  where
+    go : (o : Option Protocol) → sayProtocol o p s ≡ some next
+        → (listOf (next .ofTable) ++ tablesIn left ≡ listOf (s .ofTable) ++ tablesIn left) × (lastProtocol left (orUnstated (next .ofProtocol)) ≡ lastProtocol left p)
+    go none e = subst (λ (n : Said). (listOf (n .ofTable) ++ tablesIn left ≡ listOf (s .ofTable) ++ tablesIn left) × (lastProtocol left (orUnstated (n .ofProtocol)) ≡ lastProtocol left p)) (some-same e) (refl, refl)
+    go (some q) e = apart (cc)
+say-goes (metaData m) left s next e = go (s .ofTable) e
+  where
+    go : (o : Option MetaData) → sayTable o m s ≡ some next
+        → (listOf (next .ofTable) ++ tablesIn left ≡ listOf o ++ (m ∷ tablesIn left)) × (lastProtocol left (orUnstated (next .ofProtocol)) ≡ lastProtocol left (orUnstated (s .ofProtocol)))
+    go none e = subst (λ (n : Said). (listOf (n .ofTable) ++ tablesIn left ≡ m ∷ tablesIn left) × (lastProtocol left (orUnstated (n .ofProtocol)) ≡ lastProtocol left (orUnstated (s .ofProtocol)))) (some-same e) (refl, refl)
+    go (some n) e = apart (cc)
+say-goes mergeskip left s next e = apart (cc)
+say-goes other left s next e =
+    subst (λ (n : Said). (listOf (n .ofTable) ++ tablesIn left ≡ listOf (s .ofTable) ++ tablesIn left) × (lastProtocol left (orUnstated (n .ofProtocol)) ≡ lastProtocol left (orUnstated (s .ofProtocol)))) (some-same e) (refl, refl)
+
+record Said-so (ls : List Bytes) (s to : Said) : Type 0 where
+  table : listOf (to .ofTable) ≡ listOf (s .ofTable) ++ tablesIn (actionsIn ls)
+  inForce : orUnstated (to .ofProtocol) ≡ lastProtocol (actionsIn ls) (orUnstated (s .ofProtocol))
+
+zeroLines-goes : (e k : ℕ) (ls : List Bytes) (s to : Said) → zeroLines e k ls s ≡ accepted to → Said-so ls s to
+unfolding zeroLines actionsIn tablesIn lastProtocol
+zeroLines-goes e k [] s to h =
+    let q : s ≡ to = cc in
+    subst (Said-so [] s) q (record { table = sym (append-nil (listOf (s .ofTable))); inForce = refl })
+zeroLines-goes e k ([] ∷ ls) s to h = let r = zeroLines-goes e (suc k) ls s to h in record { table = r .table; inForce = r .inForce }
+zeroLines-goes e k ((b ∷ bs) ∷ ls) s to h = go (action (b ∷ bs)) refl h (λ next. zeroLines-goes e (suc k) ls next to)
+  where
+    said-so : (a : Action) (o : Option Said) → say a s ≡ o → (orRefuse (malformed e k) o >>= (λ next. zeroLines e (suc k) ls next)) ≡ accepted to
+        → ((next : Said) → zeroLines e (suc k) ls next ≡ accepted to → Said-so ls next to)
+        → (listOf (to .ofTable) ≡ listOf (s .ofTable) ++ tablesIn (a ∷ actionsIn ls)) × (orUnstated (to .ofProtocol) ≡ lastProtocol (a ∷ actionsIn ls) (orUnstated (s .ofProtocol)))
+    said-so a none q h ih = apart (cc)
+    said-so a (some next) q h ih = let r = ih next h in let t = say-goes a (actionsIn ls) s next q in (r .table ∙ t .0, r .inForce ∙ t .1)
+
+    go : (o : Option Action) → action (b ∷ bs) ≡ o → (orRefuse (malformed e k) o >>= (λ a. orRefuse (malformed e k) (say a s) >>= (λ next. zeroLines e (suc k) ls next))) ≡ accepted to
+        → ((next : Said) → zeroLines e (suc k) ls next ≡ accepted to → Said-so ls next to) → Said-so ((b ∷ bs) ∷ ls) s to
+    go none q h ih = apart (cc)
+    go (some a) q h ih = let r = said-so a (say a s) refl h ih in record { table = rw (actionsIn, q) (r .0); inForce = rw (actionsIn, q) (r .1) }
+
+readZero-says : (f : File) (z : State) → readZero f ≡ accepted z → ZeroSays f z
+unfolding readZero listOf saidNothing orUnstated
+readZero-says f z h =
+    let a = bind-accepted (zeroLines (f .entry) 1 (lines (f .body)) saidNothing) (λ s. orRefuse (malformed (f .entry) 0) (s .ofTable) >>= (λ m. accepted (stateOf s m))) h in
+    let b = bind-accepted (orRefuse (malformed (f .entry) 0) (a .0 .ofTable)) (λ m. accepted (stateOf (a .0) m)) (a .2) in
+    go (a .0) (b .0) (zeroLines-goes (f .entry) 1 (lines (f .body)) saidNothing (a .0) (a .1)) (orRefuse-accepted (malformed (f .entry) 0) (a .0 .ofTable) (b .1)) (b .2)
+  where
+    stateOf : Said → MetaData → State
+    stateOf s m = record { table = m; inForce = orUnstated (s .ofProtocol); live = [] }
+
+    go : (s : Said) (m : MetaData) → Said-so (lines (f .body)) saidNothing s → s .ofTable ≡ some m → accepted (stateOf s m) ≡ accepted z → ZeroSays f z
+    go s m r t e =
+        let q : stateOf s m ≡ z = cc in
+        subst (ZeroSays f) q (record { table = sym (r .table) ∙ ap listOf t; inForce = r .inForce; live = refl })
+
+-- ---- the state
+
+pub replays-exactly : ReplaysExactly
+unfolding stateBy
+replays-exactly log way st h =
+    let a = bind-accepted (orRefuse noVersionZero (log .versionFile 0)) (λ zf. orRefuse notKept way >>= (λ w. readZero zf >>= (λ z. follow mostLive z w))) h in
+    let b = bind-accepted (orRefuse notKept way) (λ w. readZero (a .0) >>= (λ z. follow mostLive z w)) (a .2) in
+    let c = bind-accepted (readZero (a .0)) (λ z. follow mostLive z (b .0)) (b .2) in
+    let z = readZero-says (a .0) (c .0) (c .1) in
+    let w = follow-comes (c .0) (b .0) st (z .live) (c .2) in
+    record {
+      zero = a .0;
+      z = c .0;
+      w = b .0;
+      zero-there = orRefuse-accepted noVersionZero (log .versionFile 0) (a .1);
+      way-there = orRefuse-accepted notKept way (b .1);
+      zero-says = z;
+      table = follow-table mostLive (c .0) (b .0) st (c .2);
+      inForce = w .inForce;
+      live = w .live;
+      in-order = w .ordered;
+      few = stateBy-live log way st h .1;
+    }

@@ -1,0 +1,47 @@
+-- A log as demand 3 takes it, so that the premise is seen to be met: versions 0 to 2, and at 1 a checkpoint that writes the same facts
+-- in other words. And what is left of its answers when files go.
+use mathlib.Core.Path.{_≡_}
+use mathlib.Core.Option.{some}
+use mathlib.Core.List.{List, [], _∷_}
+use Rattle.rules.specs.Bytes.{Bytes, ascii}
+use Rattle.rules.specs.Bundle.{File, bundle}
+use Rattle.rules.specs.Reading.{theVersion}
+use Rattle.rules.specs.Samples.{Sample, file, bundleOf}
+use Rattle.rules.specs.Edges.{Question, read, Says, listed, refusal}
+use Rattle.demands.specs.FullHistory.{FullHistory}
+
+unfoldable pub zero : Sample
+zero = file "00000000000000000000.json" 0 ("{'metaData':{'id':'t','partitionColumns':['x','y']}}" ∷ [])
+
+unfoldable pub one : Sample
+one = file "00000000000000000001.json" 0 ("{'add':{'path':'a','size':1,'modificationTime':1,'dataChange':true,'partitionValues':{'x':'1','y':null}}}" ∷ [])
+
+-- an empty line, an escape in the path, the pairs in another order, numRecords null
+unfoldable pub checkpointAtOne : Sample
+checkpointAtOne =
+    file "00000000000000000001.checkpoint.json" 0
+    ("" ∷ "{'add':{'path':'\\u0061','size':1,'dataChange':false,'modificationTime':1,'partitionValues':{'y':null,'x':'1'},'numRecords':null}}" ∷ [])
+
+-- well formed, and not true
+unfoldable pub untrueAtOne : Sample
+untrueAtOne = file "00000000000000000001.checkpoint.json" 0 ("{'add':{'path':'c','size':1,'modificationTime':1,'dataChange':true,'partitionValues':{}}}" ∷ [])
+
+unfoldable pub two : Sample
+two = file "00000000000000000002.json" 0 ("{'add':{'path':'b','size':1,'modificationTime':1,'dataChange':true,'partitionValues':{}}}" ∷ [])
+
+unfoldable pub whole : Bytes
+whole = bundleOf (zero ∷ checkpointAtOne ∷ one ∷ two ∷ [])
+
+abbrev pub ExampleIsFull : Type 0
+ExampleIsFull = (fs : List File) × (bundle whole ≡ some fs) × FullHistory fs 2
+
+-- whole; without version file 1, whose part the checkpoint takes; without the checkpoint; without both: not kept.
+-- A checkpoint that is not true is believed, so that the premise cannot go
+unfoldable pub answers : List (Question × Says)
+answers =
+    (read (theVersion 2) "[]" whole, listed 2 (ascii "a" ∷ ascii "b" ∷ []))
+    ∷ (read (theVersion 2) "[]" (bundleOf (zero ∷ checkpointAtOne ∷ two ∷ [])), listed 2 (ascii "a" ∷ ascii "b" ∷ []))
+    ∷ (read (theVersion 2) "[]" (bundleOf (zero ∷ one ∷ two ∷ [])), listed 2 (ascii "a" ∷ ascii "b" ∷ []))
+    ∷ (read (theVersion 2) "[]" (bundleOf (zero ∷ two ∷ [])), refusal 5 0 0)
+    ∷ (read (theVersion 2) "[]" (bundleOf (zero ∷ untrueAtOne ∷ one ∷ two ∷ [])), listed 2 (ascii "b" ∷ ascii "c" ∷ []))
+    ∷ []

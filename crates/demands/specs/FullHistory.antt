@@ -1,0 +1,28 @@
+-- The log that demand 3 takes: all version files 0 to n and nothing above n, every file readable, every checkpoint true to the history,
+-- and never more than 1,024 files live after a line of any of them.
+use mathlib.Core.Path.{_≡_}
+use mathlib.Core.Bool.{true, false}
+use mathlib.Core.Option.{none, some}
+use mathlib.Core.List.{List}
+use Prim.Native.Nat.{ℕ, suc, _≤_, _<_}
+use Rattle.rules.specs.Bundle.{File}
+use Rattle.rules.specs.Names.{anyTooLarge}
+use Rattle.rules.specs.History.{State, readZero}
+use Rattle.rules.specs.Starts.{Log, logOf, wellFormed, historyTo}
+use Rattle.rules.specs.Reading.{stateBy}
+use Rattle.rules.specs.Same.{IsTrue}
+use Rattle.rules.specs.Refusals.{accepted, refused, tooManyLive}
+use Rattle.demands.specs.Reaching.{There}
+
+-- a true checkpoint has a state of its own: it is readable, as is said below, and never has more than 1,024 live
+pub record FullHistory (fs : List File) (n : ℕ) : Type 0 where
+  pub all : (w : ℕ) → w ≤ n → There (logOf fs .versionFile w)
+  pub nothing-above : (w : ℕ) → n < w → (logOf fs .versionFile w ≡ none) × (logOf fs .checkpointFile w ≡ none)
+  pub none-too-large : anyTooLarge fs ≡ false
+  pub zero-readable : (f : File) → logOf fs .versionFile 0 ≡ some f → (st : State) × (readZero f ≡ accepted st)
+  pub others-readable : (w : ℕ) (f : File) → logOf fs .versionFile (suc w) ≡ some f → wellFormed (f .body) ≡ true
+  pub checkpoints-true : (c : ℕ) (f : File) → logOf fs .checkpointFile c ≡ some f → IsTrue (logOf fs) c f
+  pub never-over : (v e l : ℕ) → stateBy (logOf fs) (historyTo (logOf fs) v) ≡ refused (tooManyLive e l) → ⊥
+
+abbrev pub TrueIsReadable : Type 0
+TrueIsReadable = (log : Log) (c : ℕ) (f : File) → IsTrue log c f → wellFormed (f .body) ≡ true

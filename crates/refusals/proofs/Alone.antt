@@ -1,0 +1,41 @@
+-- A refusal's number, entry and line fix its case: two refusals that say the same are equal.
+use mathlib.Core.Path.{_≡_, refl, sym, ap, _∙_}
+use mathlib.Core.List.{List, [], _∷_}
+use Prim.Native.Nat.{_-_}
+use lib.ListN.{getD}
+use Rattle.rules.specs.Refusals as Rules
+use Rattle.refusals.specs.Numbered.{numbered}
+use Rattle.refusals.specs.declared.Refusal.{Refusal}
+use Rattle.refusals.specs.declared.Refusal.the-variants.{RoomTooShort, BundleMalformed, VersionTooLarge, NoVersionZero, NotKept, Malformed, TooManyLive, ReaderTooHigh, UnknownFeature, QueryMalformed, NoSuchColumn, NotWritable, CheckpointDisagrees, StateMalformed, TooManyManifests}
+
+-- the cases, in the order of their numbers from 1
+cases : Rules.Refusal → List Refusal
+cases r =
+    RoomTooShort ∷ BundleMalformed ∷ VersionTooLarge ∷ NoVersionZero ∷ NotKept
+    ∷ Malformed (r .entry) (r .line) ∷ TooManyLive (r .entry) (r .line)
+    ∷ ReaderTooHigh ∷ UnknownFeature ∷ QueryMalformed ∷ NoSuchColumn ∷ NotWritable ∷ CheckpointDisagrees
+    ∷ StateMalformed ∷ TooManyManifests ∷ []
+
+caseOf : Rules.Refusal → Refusal
+caseOf r = getD (cases r) (r .number - 1) RoomTooShort
+
+caseOf-numbered : (x : Refusal) → caseOf (numbered x) ≡ x
+unfolding numbered caseOf cases
+caseOf-numbered RoomTooShort = refl
+caseOf-numbered BundleMalformed = refl
+caseOf-numbered VersionTooLarge = refl
+caseOf-numbered NoVersionZero = refl
+caseOf-numbered NotKept = refl
+caseOf-numbered (Malformed e l) = refl
+caseOf-numbered (TooManyLive e l) = refl
+caseOf-numbered ReaderTooHigh = refl
+caseOf-numbered UnknownFeature = refl
+caseOf-numbered QueryMalformed = refl
+caseOf-numbered NoSuchColumn = refl
+caseOf-numbered NotWritable = refl
+caseOf-numbered CheckpointDisagrees = refl
+caseOf-numbered StateMalformed = refl
+caseOf-numbered TooManyManifests = refl
+
+pub numbered-alone : (x y : Refusal) → numbered x ≡ numbered y → x ≡ y
+numbered-alone x y e = sym (caseOf-numbered x) ∙ ap caseOf e ∙ caseOf-numbered y

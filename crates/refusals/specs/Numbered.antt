@@ -1,0 +1,22 @@
+-- The paper's number, entry and line for each case of a refusal.
+use Rattle.rules.specs.Refusals as Rules
+use Rattle.rules.specs.Refusals.{roomTooShort, bundleMalformed, versionTooLarge, noVersionZero, notKept, malformed, tooManyLive, readerTooHigh, unknownFeature, queryMalformed, noSuchColumn, notWritable, checkpointDisagrees, stateMalformed, tooManyManifests}
+use Rattle.refusals.specs.declared.Refusal.{Refusal}
+use Rattle.refusals.specs.declared.Refusal.the-variants.{RoomTooShort, BundleMalformed, VersionTooLarge, NoVersionZero, NotKept, Malformed, TooManyLive, ReaderTooHigh, UnknownFeature, QueryMalformed, NoSuchColumn, NotWritable, CheckpointDisagrees, StateMalformed, TooManyManifests}
+
+unfoldable pub numbered : Refusal → Rules.Refusal
+numbered RoomTooShort = roomTooShort
+numbered BundleMalformed = bundleMalformed
+numbered VersionTooLarge = versionTooLarge
+numbered NoVersionZero = noVersionZero
+numbered NotKept = notKept
+numbered (Malformed e l) = malformed e l
+numbered (TooManyLive e l) = tooManyLive e l
+numbered ReaderTooHigh = readerTooHigh
+numbered UnknownFeature = unknownFeature
+numbered QueryMalformed = queryMalformed
+numbered NoSuchColumn = noSuchColumn
+numbered NotWritable = notWritable
+numbered CheckpointDisagrees = checkpointDisagrees
+numbered StateMalformed = stateMalformed
+numbered TooManyManifests = tooManyManifests

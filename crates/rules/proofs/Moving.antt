@@ -1,0 +1,237 @@
+-- Where a file lies, and which number its entry has, does not matter: the same bodies read on the same facts give the same facts.
+use mathlib.Core.Path.{_≡_, refl, _∙_, ap, ap₂, subst}
+use mathlib.Core.Logic.{_⊎_, inl, inr}
+use mathlib.Core.Bool.{Bool, true, false, _&&_}
+use mathlib.Core.Option.{Option}
+use mathlib.Core.List.{List, [], _∷_, map}
+use Prim.Native.Nat.{ℕ, suc, _+_}
+use lib.Dec.{leb}
+use lib.ListN.{length}
+use Rattle.rules.specs.Bytes.{Bytes, Order, less, equal, more, order, same, holds, allAmong, keepIf}
+use Rattle.rules.specs.Bundle.{File}
+use Rattle.rules.specs.Lines.{lines, anyObject}
+use Rattle.rules.specs.Actions.{Facts, Protocol, MetaData, Action, add, remove, protocol, metaData, mergeskip, other, action}
+use Rattle.rules.specs.Live.{Row, pathOf, putBeside, takeIf, put, takeOut}
+use Rattle.rules.specs.Refusals.{_>>=_, Answer, accepted, orRefuse, require, malformed, tooManyLive, noSuchColumn, readerTooHigh, unknownFeature}
+use Rattle.rules.specs.History.{State, Said, effect, withinLimit, readLine, readLines, readFile, say, saidNothing, zeroLines, orUnstated, readZero}
+use Rattle.rules.specs.Starts.{Way, nothingLive, follow}
+use Rattle.rules.specs.Gate.{knownReader, knownWriter, readerNames, writerNames, gate, writable}
+use Rattle.rules.specs.Query.{Condition, columnOf}
+use Rattle.rules.specs.Picking.{meetsValue, meetsAll, picked}
+use Rattle.rules.specs.Reading.{Listing, listing}
+use Rattle.rules.specs.Same.{SameFacts, SameRows, no-rows, row, SameProtocol, SameState, SameListing, SameAnswer, both-accepted}
+use Rattle.rules.proofs.Tests.{tests-equal}
+use Rattle.rules.proofs.Holding.{allAmong-holds, holds-allAmong}
+use Rattle.rules.proofs.Sameness.{same-facts-refl, same-protocol-refl, same-state-refl, same-state-trans, same-answer-refl}
+use Rattle.rules.proofs.Replaying.{Applied, readLine-accepted, Kept, follow-keeps}
+use Rattle.rules.proofs.Answers.{same-bind, same-orRefuse, same-require}
+
+-- ---- rows
+
+putBeside-same : (o : Order) (r s x y : Row) {xs ys : List Row} (k l : Unit {0} → List Row) → SameFacts (r .facts) (s .facts) → SameFacts (x .facts) (y .facts)
+    → SameRows xs ys → SameRows (k tt) (l tt) → SameRows (putBeside o r x xs k) (putBeside o s y ys l)
+unfolding putBeside
+putBeside-same less r s x y k l a b c d = row a (row b c)
+putBeside-same equal r s x y k l a b c d = row a c
+putBeside-same more r s x y k l a b c d = row b d
+
+pub put-same : (r s : Row) {xs ys : List Row} → SameFacts (r .facts) (s .facts) → SameRows xs ys → SameRows (put pathOf r xs) (put pathOf s ys)
+unfolding put pathOf
+put-same r s a no-rows = row a no-rows
+put-same r s a (row {r = x} {s = y} {rs = xs} {ss = ys} b c) =
+    subst (λ (o : Order). SameRows (put pathOf r (x ∷ xs)) (putBeside o s y ys (λ _. put pathOf s ys))) (ap₂ order (a .path) (b .path))
+    (putBeside-same (order (r .facts .path) (x .facts .path)) r s x y (λ _. put pathOf r xs) (λ _. put pathOf s ys) a b c (put-same r s a c))
+
+takeIf-same : (o : Bool) (x y : Row) {xs ys : List Row} (k l : Unit {0} → List Row) → SameFacts (x .facts) (y .facts)
+    → SameRows xs ys → SameRows (k tt) (l tt) → SameRows (takeIf o x xs k) (takeIf o y ys l)
+unfolding takeIf
+takeIf-same true x y k l b c d = c
+takeIf-same false x y k l b c d = row b d
+
+pub takeOut-same : (p : Bytes) {xs ys : List Row} → SameRows xs ys → SameRows (takeOut pathOf p xs) (takeOut pathOf p ys)
+unfolding takeOut pathOf
+takeOut-same p no-rows = no-rows
+takeOut-same p (row {r = x} {s = y} {rs = xs} {ss = ys} b c) =
+    subst (λ (o : Bool). SameRows (takeOut pathOf p (x ∷ xs)) (takeIf o y ys (λ _. takeOut pathOf p ys))) (ap (same p) (b .path))
+    (takeIf-same (same p (x .facts .path)) x y (λ _. takeOut pathOf p xs) (λ _. takeOut pathOf p ys) b c (takeOut-same p c))
+
+pub same-rows-length : {xs ys : List Row} → SameRows xs ys → length xs ≡ length ys
+same-rows-length no-rows = refl
+same-rows-length (row b c) = ap suc (same-rows-length c)
+
+-- ---- states, with the table that they are states of
+
+pub record SameHeld (s t : State) : Type 0 where
+  pub table : s .table ≡ t .table
+  pub state : SameState s t
+
+pub same-held-refl : (s : State) → SameHeld s s
+same-held-refl s = record { table = refl; state = same-state-refl s }
+
+pub same-held-trans : {s t u : State} → SameHeld s t → SameHeld t u → SameHeld s u
+same-held-trans h k = record { table = h .table ∙ k .table; state = same-state-trans (h .state) (k .state) }
+
+pub nothingLive-same : (m m′ : MetaData) → m ≡ m′ → SameHeld (nothingLive m) (nothingLive m′)
+nothingLive-same m m′ e = subst (λ x. SameHeld (nothingLive m) (nothingLive x)) e (same-held-refl (nothingLive m))
+
+pub effect-same : (at at′ n n′ : ℕ) (a : Action) (s t : State) → SameHeld s t → SameHeld (effect at n a s) (effect at′ n′ a t)
+unfolding effect
+effect-same at at′ n n′ (add f) s t h = record {
+  table = h .table;
+  state = record { inForce = h .state .inForce; live = put-same (record { at = at; size = n; facts = f }) (record { at = at′; size = n′; facts = f }) (same-facts-refl f) (h .state .live) };
+}
+effect-same at at′ n n′ (remove p) s t h = record { table = h .table; state = record { inForce = h .state .inForce; live = takeOut-same p (h .state .live) } }
+effect-same at at′ n n′ (protocol p) s t h = record { table = h .table; state = record { inForce = same-protocol-refl p; live = h .state .live } }
+effect-same at at′ n n′ (metaData m) s t h = h
+effect-same at at′ n n′ mergeskip s t h = h
+effect-same at at′ n n′ other s t h = h
+
+module _ (limit : ℕ) where
+  withinLimit-same : (e e′ k : ℕ) (s t : State) → SameHeld s t → SameAnswer SameHeld (withinLimit limit e k s) (withinLimit limit e′ k t)
+  unfolding withinLimit
+  withinLimit-same e e′ k s t h =
+      subst (λ (n : ℕ). SameAnswer SameHeld (withinLimit limit e k s) (require (tooManyLive e′ k) (leb n limit) >>= (λ _. accepted t))) (same-rows-length (h .state .live))
+      (same-require (tooManyLive e k) (tooManyLive e′ k) refl (leb (length (s .live)) limit) (accepted s) (accepted t) (both-accepted h))
+
+  readLine-same : (e e′ k at at′ : ℕ) (l : Bytes) (s t : State) → SameHeld s t → SameAnswer SameHeld (readLine limit e k at l s) (readLine limit e′ k at′ l t)
+  unfolding readLine
+  readLine-same e e′ k at at′ [] s t h = both-accepted h
+  readLine-same e e′ k at at′ (b ∷ bs) s t h =
+      same-orRefuse (malformed e k) (malformed e′ k) refl (action (b ∷ bs)) (λ a. withinLimit limit e k (effect at (length (b ∷ bs)) a s)) (λ a. withinLimit limit e′ k (effect at′ (length (b ∷ bs)) a t))
+      (λ a. withinLimit-same e e′ k (effect at (length (b ∷ bs)) a s) (effect at′ (length (b ∷ bs)) a t) (effect-same at at′ (length (b ∷ bs)) (length (b ∷ bs)) a s t h))
+
+  readLines-same : (e e′ k at at′ : ℕ) (ls : List Bytes) (s t : State) → SameHeld s t → SameAnswer SameHeld (readLines limit e k at ls s) (readLines limit e′ k at′ ls t)
+  unfolding readLines
+  readLines-same e e′ k at at′ [] s t h = both-accepted h
+  readLines-same e e′ k at at′ (l ∷ ls) s t h =
+      same-bind (λ next. readLines limit e (suc k) (at + length l + 1) ls next) (λ next. readLines limit e′ (suc k) (at′ + length l + 1) ls next)
+      (readLine-same e e′ k at at′ l s t h) (λ a b r. readLines-same e e′ (suc k) (at + length l + 1) (at′ + length l + 1) ls a b r)
+
+  -- reading a body, wherever it lies
+  readBody : (entry start : ℕ) → Bytes → State → Answer State
+  readBody e at body st = readLines limit e 1 at (lines body) st >>= (λ next. require (malformed e 0) (anyObject (lines body)) >>= (λ _. accepted next))
+
+  readBody-same : (e e′ at at′ : ℕ) (body : Bytes) (s t : State) → SameHeld s t → SameAnswer SameHeld (readBody e at body s) (readBody e′ at′ body t)
+  unfolding readBody
+  readBody-same e e′ at at′ body s t h =
+      same-bind (λ next. require (malformed e 0) (anyObject (lines body)) >>= (λ _. accepted next)) (λ next. require (malformed e′ 0) (anyObject (lines body)) >>= (λ _. accepted next))
+      (readLines-same e e′ 1 at at′ (lines body) s t h)
+      (λ a b r. same-require (malformed e 0) (malformed e′ 0) refl (anyObject (lines body)) (accepted a) (accepted b) (both-accepted r))
+
+  pub readFile-same : (f g : File) (s t : State) → f .body ≡ g .body → SameHeld s t → SameAnswer SameHeld (readFile limit f s) (readFile limit g t)
+  unfolding readBody readFile
+  readFile-same f g s t e h =
+      subst (λ (body : Bytes). SameAnswer SameHeld (readFile limit f s) (readBody (g .entry) (g .start) body t)) e
+      (readBody-same (f .entry) (g .entry) (f .start) (g .start) (f .body) s t h)
+
+-- ---- version 0
+
+zeroLines-same : (e e′ k : ℕ) (ls : List Bytes) (s : Said) → SameAnswer (_≡_ {A = Said}) (zeroLines e k ls s) (zeroLines e′ k ls s)
+unfolding zeroLines
+zeroLines-same e e′ k [] s = both-accepted refl
+zeroLines-same e e′ k ([] ∷ ls) s = zeroLines-same e e′ (suc k) ls s
+zeroLines-same e e′ k ((b ∷ bs) ∷ ls) s =
+    same-orRefuse (malformed e k) (malformed e′ k) refl (action (b ∷ bs)) (λ a. orRefuse (malformed e k) (say a s) >>= (λ next. zeroLines e (suc k) ls next)) (λ a. orRefuse (malformed e′ k) (say a s) >>= (λ next. zeroLines e′ (suc k) ls next))
+    (λ a. same-orRefuse (malformed e k) (malformed e′ k) refl (say a s) (λ next. zeroLines e (suc k) ls next) (λ next. zeroLines e′ (suc k) ls next) (λ next. zeroLines-same e e′ (suc k) ls next))
+
+stateOf : Said → MetaData → State
+stateOf s m = record { table = m; inForce = orUnstated (s .ofProtocol); live = [] }
+
+zeroBody : (entry : ℕ) → Bytes → Answer State
+unfolding stateOf
+zeroBody e body = zeroLines e 1 (lines body) saidNothing >>= (λ s. orRefuse (malformed e 0) (s .ofTable) >>= (λ m. accepted (stateOf s m)))
+
+zeroBody-same : (e e′ : ℕ) (body : Bytes) → SameAnswer SameHeld (zeroBody e body) (zeroBody e′ body)
+unfolding zeroBody
+zeroBody-same e e′ body =
+    same-bind (λ s. orRefuse (malformed e 0) (s .ofTable) >>= (λ m. accepted (stateOf s m))) (λ s. orRefuse (malformed e′ 0) (s .ofTable) >>= (λ m. accepted (stateOf s m)))
+    (zeroLines-same e e′ 1 (lines body) saidNothing)
+    (λ s t q. subst (λ (x : Said). SameAnswer SameHeld (orRefuse (malformed e 0) (s .ofTable) >>= (λ m. accepted (stateOf s m))) (orRefuse (malformed e′ 0) (x .ofTable) >>= (λ m. accepted (stateOf x m)))) q
+    (same-orRefuse (malformed e 0) (malformed e′ 0) refl (s .ofTable) (λ m. accepted (stateOf s m)) (λ m. accepted (stateOf s m)) (λ m. both-accepted (same-held-refl (stateOf s m)))))
+
+pub readZero-same : (f g : File) → f .body ≡ g .body → SameAnswer SameHeld (readZero f) (readZero g)
+unfolding zeroBody stateOf readZero
+readZero-same f g e = subst (λ (body : Bytes). SameAnswer SameHeld (readZero f) (zeroBody (g .entry) body)) e (zeroBody-same (f .entry) (g .entry) (f .body))
+
+-- ---- what a state answers
+
+allAmong-same : (names xs ys : List Bytes) → ((x : Bytes) → holds x xs ≡ holds x ys) → allAmong names xs ≡ allAmong names ys
+allAmong-same names xs ys h =
+    tests-equal (allAmong names xs) (allAmong names ys)
+    (λ e. holds-allAmong names ys (λ x q. allAmong-holds names xs e x (rw (h x) q)))
+    (λ e. holds-allAmong names xs (λ x q. allAmong-holds names ys e x (rw (← h x) q)))
+
+pub gate-same : {p q : Protocol} → SameProtocol p q → gate p ≡ gate q
+unfolding gate
+gate-same {p} {q} h =
+    ap₂ (λ (r : ℕ) (b : Bool). require readerTooHigh (leb r knownReader) >>= (λ _. require unknownFeature b)) (h .minReaderVersion)
+    (allAmong-same readerNames (p .readerFeatures) (q .readerFeatures) (h .readerFeatures))
+
+pub writable-same : {p q : Protocol} → SameProtocol p q → writable p ≡ writable q
+unfolding writable
+writable-same {p} {q} h =
+    ap₂ (λ (r : ℕ) (b : Bool). leb r knownWriter && b) (h .minWriterVersion) (allAmong-same writerNames (p .writerFeatures) (q .writerFeatures) (h .writerFeatures))
+
+meetsAll-same : (cs : List Condition) (f g : Facts) → SameFacts f g → meetsAll cs f ≡ meetsAll cs g
+unfolding meetsAll
+meetsAll-same [] f g h = refl
+meetsAll-same (c ∷ cs) f g h =
+    ap₂ (λ (v : Option (Option Bytes)) (b : Bool). elim (meetsValue c v) [ true ↦ b | false ↦ false ]) (h .partitionValues (c .column)) (meetsAll-same cs f g h)
+
+keepIf-same : (b : Bool) (r s : Row) {rs ss : List Row} → SameFacts (r .facts) (s .facts) → SameRows rs ss → SameRows (keepIf b r rs) (keepIf b s ss)
+unfolding keepIf
+keepIf-same true r s a h = row a h
+keepIf-same false r s a h = h
+
+pub picked-same : (cs : List Condition) {rs ss : List Row} → SameRows rs ss → SameRows (picked cs rs) (picked cs ss)
+unfolding picked
+picked-same cs no-rows = no-rows
+picked-same cs (row {r} {s} {rs} {ss} a h) =
+    subst (λ (b : Bool). SameRows (picked cs (r ∷ rs)) (keepIf b s (picked cs ss))) (meetsAll-same cs (r .facts) (s .facts) a)
+    (keepIf-same (meetsAll cs (r .facts)) r s a (picked-same cs h))
+
+pub listing-same : (cs : List Condition) (v : ℕ) (s t : State) → SameHeld s t → SameAnswer SameListing (listing cs v s) (listing cs v t)
+unfolding listing
+listing-same cs v s t h =
+    same-bind (λ _. require noSuchColumn (known s) >>= (λ _. accepted (listed s))) (λ _. require noSuchColumn (known t) >>= (λ _. accepted (listed t)))
+    (subst (λ (a : Answer (Unit {0})). SameAnswer (_≡_ {A = Unit {0}}) (gate (s .inForce)) a) (gate-same (h .state .inForce)) (same-answer-refl (λ a. refl) (gate (s .inForce))))
+    (λ _ _ _.
+    subst (λ (b : Bool). SameAnswer SameListing (require noSuchColumn (known s) >>= (λ _. accepted (listed s))) (require noSuchColumn b >>= (λ _. accepted (listed t)))) (ap (λ (m : MetaData). allAmong (m .partitionColumns) (map columnOf cs)) (h .table))
+    (same-require noSuchColumn noSuchColumn refl (known s) (accepted (listed s)) (accepted (listed t)) (both-accepted same-listed)))
+  where
+    known : State → Bool
+    known st = allAmong (st .table .partitionColumns) (map columnOf cs)
+
+    listed : State → Listing
+    listed st = record { version = v; table = st .table; inForce = st .inForce; canWrite = writable (st .inForce); rows = picked cs (st .live) }
+
+    same-listed : SameListing (listed s) (listed t)
+    same-listed = record {
+      version = refl;
+      table = h .table;
+      inForce = h .state .inForce;
+      canWrite = writable-same (h .state .inForce);
+      rows = picked-same cs (h .state .live);
+    }
+
+-- ---- the table is version 0's, wherever the way leads
+
+pub table-kept : (limit : ℕ) (m : MetaData) → Kept limit (λ (st : State). st .table ≡ m)
+unfolding effect
+table-kept limit m e k at l st to h q = go (readLine-accepted limit e k at l st to h)
+  where
+    of-effect : (at size : ℕ) (a : Action) → effect at size a st .table ≡ st .table
+    of-effect at size (add f) = refl
+    of-effect at size (remove p) = refl
+    of-effect at size (protocol p) = refl
+    of-effect at size (metaData n) = refl
+    of-effect at size mergeskip = refl
+    of-effect at size other = refl
+
+    go : (st ≡ to) ⊎ Applied limit at l st to → to .table ≡ m
+    go (inl r) = subst (λ (x : State). x .table ≡ m) r q
+    go (inr r) = subst (λ (x : State). x .table ≡ m) (r .reached) (of-effect at (length l) (r .does) ∙ q)
+
+pub follow-table : (limit : ℕ) (z : State) (w : Way) (to : State) → follow limit z w ≡ accepted to → to .table ≡ z .table
+unfolding nothingLive
+follow-table limit z w to h = follow-keeps limit (λ (st : State). st .table ≡ z .table) (table-kept limit (z .table)) z w to h refl refl
