@@ -1,0 +1,8 @@
+-- The laws that the functions of this crate cite.
+pub mod Putting
+pub mod Standing
+pub mod Doing
+pub mod Going
+pub mod Nothing
+pub mod Zeroing
+pub mod Filing

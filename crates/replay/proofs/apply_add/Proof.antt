@@ -1,0 +1,65 @@
+-- `apply_add` puts the row of its line into the table.
+use mathlib.Core.Path.{subst}
+use Rattle.replay.specs.Answers.{PutIs}
+use Rattle.replay.proofs.Doing.{add-fits, add-placed, did-add, did-full}
+use native.Mathlib.Omega.{arith}
+use borrow.Author.Needs.{needs}
+use Rattle.replay.proofs.apply_add.Statement.{statement}
+use Rattle.replay.proofs.apply_add.Tie as tie
+
+add-pack : tie.Need-add-pack
+add-pack c =
+    let s = c .before .before .before in
+    omega (arith, add-fits _ _ _ _ _ _ (s .pre .0 .0) (s .pre .0 .1) (s .pre .0 .2) (s .pre .1), s .pre .0 .2)
+
+pack-requires : tie.Need-pack-requires
+pack-requires c κs =
+    let s = c .before .before .before in
+    (omega (arith, s .pre .0 .1, s .pre .0 .2, s .pre .0 .0 .short), omega (arith, add-fits _ _ _ _ _ _ (s .pre .0 .0) (s .pre .0 .1) (s .pre .0 .2) (s .pre .1), s .pre .0 .2, s .pre .0 .0 .short))
+
+sub-t14 : tie.Need-sub-t14
+sub-t14 c = search needs
+
+put-row-requires : tie.Need-put-row-requires
+put-row-requires c κs =
+    let s = c .before .before .before .before .before .before .before in
+    let w = s .pre .0 .0 in
+    let e = c .before .before .before .pack .ensures in
+    (w .table, rw (e .path) (add-placed _ _ _ _ _ _ w (s .pre .0 .1) (s .pre .0 .2) (s .pre .1) .spelled), w .few, w .room)
+
+enum-known-m : tie.Need-enum-known-m
+enum-known-m c = search needs
+
+enum-told : tie.Need-enum-told
+enum-told c = search needs
+
+same-length : tie.Need-same-length
+same-length c = search needs
+
+returns : tie.Need-returns
+returns c =
+    let s = c .before .before .before .before .before .before .before .before .before .before .before .before .before in
+    did-add _ _ _ _ _ _ (s .pre .0 .0) (s .pre .0 .1) (s .pre .0 .2) (s .pre .1) _ (c .before .before .before .before .before .before .before .before .before .pack .ensures) _ (subst (PutIs _ _ _ _ _ _) (c .before .m .given .1) (c .before .before .before .before .before .put-row .ensures))
+
+same-length-2 : tie.Need-same-length-2
+same-length-2 c = search needs
+
+returns-2 : tie.Need-returns-2
+returns-2 c =
+    let s = c .before .before .before .before .before .before .before .before .before .before .before .before in
+    did-full _ _ _ _ _ _ (s .pre .0 .0) (s .pre .0 .1) (s .pre .0 .2) (s .pre .1) _ (c .before .before .before .before .before .before .before .before .pack .ensures) (subst (PutIs _ _ _ _ _ _) (c .enum-told .given .1) (c .before .before .before .before .put-row .ensures))
+
+pub apply-add-spec : {M : Type 1} → statement M
+apply-add-spec =
+    tie.close
+    (tie.spec
+    add-pack
+    pack-requires
+    sub-t14
+    put-row-requires
+    enum-known-m
+    enum-told
+    same-length
+    returns
+    same-length-2
+    returns-2)

@@ -1,0 +1,131 @@
+// What the reading of a log begins with: the state that version 0 gives by its own rules, and what a checkpoint's lines are applied to.
+use crate::Span;
+use crate::State;
+use actions::Action;
+ghost use Prim.Native.Nat.{_≤_, _<_};
+ghost use lib.ListN.{length};
+ghost use Rattle.facts.specs.Parts.{part};
+ghost use Rattle.rules.specs.History.{readZero};
+ghost use Rattle.bundle.specs.Files.{filesIn, fileIn};
+ghost use Rattle.replay.specs.Views.{saidOf, Stated};
+ghost use Rattle.replay.specs.Answers.{bodyAs, says, SayingIs, ZeroIs, Renewed};
+
+// The lines of version 0 that say its metaData and its protocol.
+struct Said {
+    table: Span,
+    protocol: Span,
+}
+
+// What is said with one line more; or a line that version 0 may not have.
+enum Saying {
+    Next(Said),
+    Bad,
+}
+
+// Adds the line from `from` to `to`, which is not empty, to what version 0 said.
+fn say(src: &[u8], from: usize, to: usize, said: Said) -> Saying
+    requires { ⌜ Stated (now src) said × (from < to) × (to ≤ length (now src)) ⌝ }
+    ensures { λ r. ⌜ SayingIs (now (src .entry)) (says (part (now (src .entry)) from to) (saidOf (now (src .entry)) said)) r ⌝ }
+{
+    let this = Span {
+        at: from,
+        size: to - from,
+    };
+    let table = said.table;
+    let protocol = said.protocol;
+    match actions::classify(&src[from..to]) {
+        Action::Add(_) => Saying::Bad,
+        Action::Remove(_) => Saying::Bad,
+        Action::Protocol(_) => {
+            if protocol.size == 0 {
+                return Saying::Next(Said {
+                    table,
+                    protocol: this,
+                });
+            }
+            Saying::Bad
+        }
+        Action::MetaData(_) => {
+            if table.size == 0 {
+                return Saying::Next(Said {
+                    table: this,
+                    protocol,
+                });
+            }
+            Saying::Bad
+        }
+        Action::Mergeskip => Saying::Bad,
+        Action::Other => Saying::Next(said),
+        Action::Malformed => Saying::Bad,
+    }
+}
+
+// The state that version 0 gives; or where it is malformed, by entry and line.
+pub enum Zero {
+    Says(State),
+    Malformed(usize, usize),
+}
+
+// Reads the lines from `from` to `to` as those of version 0, entry number `entry`.
+fn zero_lines(src: &[u8], entry: usize, from: usize, to: usize) -> Zero
+    requires { ⌜ (from ≤ to) × (to ≤ length (now src)) ⌝ }
+    ensures { λ r. ⌜ ZeroIs (now (src .entry)) (readZero (bodyAs (now (src .entry)) entry from to)) r ⌝ }
+{
+    let mut at = from;
+    let mut said = Said {
+        table: Span { at: 0, size: 0 },
+        protocol: Span { at: 0, size: 0 },
+    };
+    let mut line = 1;
+    while at < to {
+        let end = lines::line_end(src, at, to);
+        let next = end + 1;
+        if at < end {
+            match say(src, at, end, said) {
+                Saying::Next(after) => {
+                    said = after;
+                    at = next;
+                    line += 1;
+                }
+                Saying::Bad => return Zero::Malformed(entry, line),
+            }
+        } else {
+            at = next;
+            line += 1;
+        }
+    }
+    let told = said.table;
+    let protocol = said.protocol;
+    if told.size == 0 {
+        return Zero::Malformed(entry, 0);
+    }
+    Zero::Says(State {
+        table: told,
+        protocol,
+        live: 0,
+    })
+}
+
+// Reads file k of the bundle as version 0.
+pub fn read_zero(src: &[u8], k: usize) -> Zero
+    requires { ⌜ k < length (filesIn (now src)) ⌝ }
+    ensures { λ r. ⌜ ZeroIs (now (src .entry)) (readZero (fileIn (now (src .entry)) k)) r ⌝ }
+{
+    let e = bundle::entry_at(src, k);
+    let from = e.start;
+    let to = from + e.size;
+    zero_lines(src, k, from, to)
+}
+
+// What a checkpoint's lines are applied to where version 0 gave z: its metaData, no protocol and nothing live.
+pub fn nothing_live(z: State) -> State
+    ensures { λ r. ⌜ Renewed z r ⌝ }
+{
+    let table = z.table;
+    let none = Span { at: 0, size: 0 };
+    State {
+        table,
+        protocol: none,
+        live: 0,
+    }
+}

@@ -1,0 +1,205 @@
+// The lines of a log's files, applied in order to a lent table of live rows. Beside the table a state is carried by the
+// places of lines in the bundle: nothing is copied, and a line is read once.
+mod begin;
+
+use actions::Action;
+use actions::Added;
+pub use begin::Zero;
+pub use begin::nothing_live;
+pub use begin::read_zero;
+use live::Found;
+use table::Cells;
+ghost use mathlib.Core.Path.{_≡_};
+ghost use Prim.Native.Nat.{_≤_, _<_};
+ghost use lib.ListN.{length};
+ghost use Rattle.facts.specs.Parts.{part};
+ghost use Rattle.rules.specs.Actions.{action};
+ghost use Rattle.rules.specs.History.{readFile};
+ghost use Rattle.strings.specs.Decoded.{WellSpelled};
+ghost use Rattle.bundle.specs.Files.{filesIn, fileIn};
+ghost use Rattle.table.specs.Table.{Room};
+ghost use Rattle.live.specs.Live.{pathAt, Table};
+ghost use Rattle.actions.specs.Line.{ActionIs};
+ghost use Rattle.actions.specs.declared.line.Action.the-variants.{Add};
+ghost use Rattle.replay.specs.Views.{stateOf, Carries};
+ghost use Rattle.replay.specs.Answers.{bodyAs, PutIs, LineIs, OutcomeIs};
+
+// A line of the bundle; of size 0 where there is none.
+pub struct Span {
+    pub at: usize,
+    pub size: usize,
+}
+
+// What a log says so far: the lines of the metaData and the protocol in force, and how many rows of the table are live.
+pub struct State {
+    pub table: Span,
+    pub protocol: Span,
+    pub live: usize,
+}
+
+// ---- one line
+
+// So many rows there are; or the row is one too many.
+enum Put {
+    Rows(usize),
+    Full,
+}
+
+// Puts the row c into the table of n rows, in place of the row with the same path if there is one, unless it makes more than `limit`.
+fn put_row(src: &[u8], t: &mut [u64], n: usize, limit: usize, c: Cells) -> Put
+    requires { ⌜ Table (now src) n (now t) × WellSpelled (now src) (pathAt c) × (n ≤ limit) × Room limit (now t) ⌝ }
+    ensures { λ r. ⌜ PutIs (now (src .entry)) c n limit (now (t .entry)) (now (t .exit)) r ⌝ }
+{
+    if n < limit {
+        let m = live::store(src, t, n, c);
+        return Put::Rows(m);
+    }
+    let path = (c.head / live::PLACES) as usize;
+    match live::find(src, t, n, path) {
+        Found::Held(k) => {
+            table::set_row(t, k, c);
+            Put::Rows(n)
+        }
+        Found::Place(_) => Put::Full,
+    }
+}
+
+// What a line did: the state now; or it is malformed, or makes one file too many live.
+pub enum Applied {
+    Next(State),
+    Malformed,
+    TooMany,
+}
+
+// Applies the line from `from` to `to`, which is the add a.
+fn apply_add(
+    src: &[u8],
+    from: usize,
+    to: usize,
+    a: Added,
+    st: State,
+    t: &mut [u64],
+    limit: usize,
+) -> Applied
+    requires { ⌜ Carries (now src) limit st (now t) × (from < to) × (to ≤ length (now src)) ⌝ }
+    requires { ⌜ ActionIs (action (part (now src) from to)) (part (now src) from to) (Add a) ⌝ }
+    ensures { λ r. ⌜ LineIs (now (src .entry)) limit from to st (now (t .entry)) (now (t .exit)) r ⌝ }
+{
+    let head = live::pack(from, from + a.path);
+    let c = Cells {
+        head,
+        len: (to - from) as u64,
+        size: a.size,
+        time: a.time,
+    };
+    let n = st.live;
+    let table = st.table;
+    let protocol = st.protocol;
+    match put_row(src, t, n, limit, c) {
+        Put::Rows(m) => Applied::Next(State {
+            table,
+            protocol,
+            live: m,
+        }),
+        Put::Full => Applied::TooMany,
+    }
+}
+
+// Applies the line from `from` to `to`, which is not empty.
+pub fn apply(src: &[u8], from: usize, to: usize, st: State, t: &mut [u64], limit: usize) -> Applied
+    requires { ⌜ Carries (now src) limit st (now t) × (from < to) × (to ≤ length (now src)) ⌝ }
+    ensures { λ r. ⌜ LineIs (now (src .entry)) limit from to st (now (t .entry)) (now (t .exit)) r ⌝ }
+{
+    let n = st.live;
+    let table = st.table;
+    let protocol = st.protocol;
+    match actions::classify(&src[from..to]) {
+        Action::Add(a) => apply_add(src, from, to, a, st, t, limit),
+        Action::Remove(p) => {
+            let rest = live::take_out(src, t, n, from + p);
+            Applied::Next(State {
+                table,
+                protocol,
+                live: rest,
+            })
+        }
+        Action::Protocol(_) => {
+            let here = Span {
+                at: from,
+                size: to - from,
+            };
+            Applied::Next(State {
+                table,
+                protocol: here,
+                live: n,
+            })
+        }
+        Action::MetaData(_) => Applied::Next(st),
+        Action::Mergeskip => Applied::Next(st),
+        Action::Other => Applied::Next(st),
+        Action::Malformed => Applied::Malformed,
+    }
+}
+
+// ---- one file
+
+// What a file did: the state now; or a line, by entry and number, that is malformed or makes one file too many live.
+// The number is 0 where the fault is met at the file's end.
+pub enum Outcome {
+    Done(State),
+    Malformed(usize, usize),
+    TooMany(usize, usize),
+}
+
+// Reads the lines from `from` to `to` as those of entry number `entry`. After a fault the first `limit` rows of the table may hold anything.
+pub fn read_lines(
+    src: &[u8],
+    entry: usize,
+    from: usize,
+    to: usize,
+    st: State,
+    t: &mut [u64],
+    limit: usize,
+) -> Outcome
+    requires { ⌜ Carries (now src) limit st (now t) × (from ≤ to) × (to ≤ length (now src)) ⌝ }
+    ensures { λ r. ⌜ OutcomeIs (now (src .entry)) limit (readFile limit (bodyAs (now (src .entry)) entry from to) (stateOf (now (src .entry)) st (now (t .entry)))) (now (t .entry)) (now (t .exit)) r ⌝ }
+{
+    let mut at = from;
+    let mut state = st;
+    let mut met = false;
+    let mut line = 1;
+    while at < to {
+        let end = lines::line_end(src, at, to);
+        let next = end + 1;
+        if at < end {
+            match apply(src, at, end, state, t, limit) {
+                Applied::Next(after) => {
+                    state = after;
+                    met = true;
+                    at = next;
+                    line += 1;
+                }
+                Applied::Malformed => return Outcome::Malformed(entry, line),
+                Applied::TooMany => return Outcome::TooMany(entry, line),
+            }
+        } else {
+            at = next;
+            line += 1; // an empty line has a number all the same
+        }
+    }
+    if met {
+        return Outcome::Done(state);
+    }
+    Outcome::Malformed(entry, 0)
+}
+
+// Reads file k of the bundle.
+pub fn read_file(src: &[u8], k: usize, st: State, t: &mut [u64], limit: usize) -> Outcome
+    requires { ⌜ Carries (now src) limit st (now t) × (k < length (filesIn (now src))) ⌝ }
+    ensures { λ r. ⌜ OutcomeIs (now (src .entry)) limit (readFile limit (fileIn (now (src .entry)) k) (stateOf (now (src .entry)) st (now (t .entry)))) (now (t .entry)) (now (t .exit)) r ⌝ }
+{
+    let e = bundle::entry_at(src, k);
+    let from = e.start;
+    let to = from + e.size;
+    read_lines(src, k, from, to, st, t, limit)
+}
