@@ -16,7 +16,7 @@ use Rattle.fields.specs.Slots.{textIn, optionalIn, Times}
 use Rattle.actions.specs.Inside.{InsideBy, Inside}
 use Rattle.fields.specs.declared.notes.Slot.{Slot}
 use Rattle.actions.specs.Counts.{recordsIs}
-use Rattle.actions.specs.declared.Records.the-variants.{Number, Missing, Bad}
+use Rattle.actions.specs.declared.slots.Records.the-variants.{Number, Missing, Bad}
 
 -- what a slot says of the values of its field, and where they stand
 pub times-inside : (s : Text) (seen v e : ℕ) (vs : List Text) → Times s seen v e vs → InsideBy s seen v e

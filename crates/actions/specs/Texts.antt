@@ -6,10 +6,10 @@ use lib.ListN.{length, drop}
 use Rattle.rules.specs.Bytes.{Bytes, _>>=_, guard, among}
 use Rattle.rules.specs.Json.Text.{Text}
 use Rattle.strings.specs.Decoded.{decoded, WellSpelled}
-use Rattle.actions.specs.declared.Wording.{Wording}
-use Rattle.actions.specs.declared.Wording.the-variants.{Sized, NoString}
-use Rattle.actions.specs.declared.Path.{Path}
-use Rattle.actions.specs.declared.Path.the-variants.{Spelled, NoPath}
+use Rattle.actions.specs.declared.slots.Wording.{Wording}
+use Rattle.actions.specs.declared.slots.Wording.the-variants.{Sized, NoString}
+use Rattle.actions.specs.declared.slots.Path.{Path}
+use Rattle.actions.specs.declared.slots.Path.the-variants.{Spelled, NoPath}
 
 pub record Read (o : Option Bytes) (s : Text) (p : ℕ) : Type 0 where
   pub spelled : WellSpelled s p

@@ -9,11 +9,11 @@ use Rattle.fields.specs.declared.names.Kind.the-variants.{Remove}
 use Rattle.actions.specs.Texts.{PathIs}
 use Rattle.actions.proofs.Stated.{field-path, each-inside}
 use borrow.Author.Needs.{needs}
-use Rattle.actions.proofs.remove_in.Statement.{statement}
-use Rattle.actions.proofs.remove_in.Tie as tie
-use Rattle.actions.proofs.remove_in.Reads as reads
-use Rattle.actions.proofs.remove_in.Lts as lts
-use Rattle.actions.proofs.path_in.Reads as path-in-reads
+use Rattle.actions.proofs.acts.remove_in.Statement.{statement}
+use Rattle.actions.proofs.acts.remove_in.Tie as tie
+use Rattle.actions.proofs.acts.remove_in.Reads as reads
+use Rattle.actions.proofs.acts.remove_in.Lts as lts
+use Rattle.actions.proofs.slots.path_in.Reads as path-in-reads
 
 -- src/lib.rt:152:16
 element-copy-out-slot : tie.Need-element-copy-out-slot

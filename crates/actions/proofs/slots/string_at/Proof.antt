@@ -9,10 +9,10 @@ use Rattle.strings.specs.Scanned.{Scanned}
 use Rattle.actions.proofs.Strings.{stringOf-none, stringOf-ends, string-read, plain-size}
 use native.Mathlib.Omega.{arith}
 use borrow.Author.Needs.{needs}
-use Rattle.actions.proofs.string_at.Statement.{statement}
-use Rattle.actions.proofs.string_at.Tie as tie
-use Rattle.actions.proofs.string_at.Reads as reads
-use Rattle.actions.proofs.string_at.Lts as lts
+use Rattle.actions.proofs.slots.string_at.Statement.{statement}
+use Rattle.actions.proofs.slots.string_at.Tie as tie
+use Rattle.actions.proofs.slots.string_at.Reads as reads
+use Rattle.actions.proofs.slots.string_at.Lts as lts
 use Rattle.strings.proofs.scan_string.Reads as scan-string-reads
 use Rattle.strings.proofs.decoded_size.Reads as decoded-size-reads
 use Rattle.text.proofs.skip_byte.Reads as skip-byte-reads

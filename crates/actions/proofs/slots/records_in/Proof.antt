@@ -7,10 +7,10 @@ use Rattle.actions.specs.Counts.{recordsIs}
 use Rattle.actions.proofs.Single.{inside-single, optional-missing, optional-single, optional-more, records-null, records-number, records-bad}
 use native.Mathlib.Omega.{arith}
 use borrow.Author.Needs.{needs}
-use Rattle.actions.proofs.records_in.Statement.{statement}
-use Rattle.actions.proofs.records_in.Tie as tie
-use Rattle.actions.proofs.records_in.Reads as reads
-use Rattle.actions.proofs.records_in.Lts as lts
+use Rattle.actions.proofs.slots.records_in.Statement.{statement}
+use Rattle.actions.proofs.slots.records_in.Tie as tie
+use Rattle.actions.proofs.slots.records_in.Reads as reads
+use Rattle.actions.proofs.slots.records_in.Lts as lts
 use Rattle.values.proofs.is_null.Reads as is-null-reads
 use Rattle.values.proofs.whole_of.Reads as whole-of-reads
 

@@ -2,11 +2,11 @@ use mathlib.Core.Path.{sym, _∙_}
 use Rattle.actions.specs.Inside.{wholeIn}
 use Rattle.actions.proofs.Versioned.{version-none, version-below, version-above, version-within}
 use borrow.Author.Needs.{needs}
-use Rattle.actions.proofs.version_in.Statement.{statement}
-use Rattle.actions.proofs.version_in.Tie as tie
-use Rattle.actions.proofs.version_in.Reads as reads
-use Rattle.actions.proofs.version_in.Lts as lts
-use Rattle.actions.proofs.whole_in.Reads as whole-in-reads
+use Rattle.actions.proofs.slots.version_in.Statement.{statement}
+use Rattle.actions.proofs.slots.version_in.Tie as tie
+use Rattle.actions.proofs.slots.version_in.Reads as reads
+use Rattle.actions.proofs.slots.version_in.Lts as lts
+use Rattle.actions.proofs.slots.whole_in.Reads as whole-in-reads
 
 -- src/lib.rt:154:28
 whole-in-requires : tie.Need-whole-in-requires

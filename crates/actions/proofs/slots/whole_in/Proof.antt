@@ -6,10 +6,10 @@ use Rattle.values.specs.Answers.{wholeIs}
 use Rattle.actions.proofs.Single.{inside-single, text-single, text-not-single}
 use native.Mathlib.Omega.{arith}
 use borrow.Author.Needs.{needs}
-use Rattle.actions.proofs.whole_in.Statement.{statement}
-use Rattle.actions.proofs.whole_in.Tie as tie
-use Rattle.actions.proofs.whole_in.Reads as reads
-use Rattle.actions.proofs.whole_in.Lts as lts
+use Rattle.actions.proofs.slots.whole_in.Statement.{statement}
+use Rattle.actions.proofs.slots.whole_in.Tie as tie
+use Rattle.actions.proofs.slots.whole_in.Reads as reads
+use Rattle.actions.proofs.slots.whole_in.Lts as lts
 use Rattle.values.proofs.whole_of.Reads as whole-of-reads
 
 -- src/lib.rt:19:33

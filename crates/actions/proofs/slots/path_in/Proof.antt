@@ -6,11 +6,11 @@ use Rattle.actions.proofs.Single.{inside-single, text-single, text-not-
 use Rattle.actions.proofs.Paths.{path-empty, path-long, path-good}
 use Rattle.rules.specs.Bytes.{Bytes}
 use borrow.Author.Needs.{needs}
-use Rattle.actions.proofs.path_in.Statement.{statement}
-use Rattle.actions.proofs.path_in.Tie as tie
-use Rattle.actions.proofs.path_in.Reads as reads
-use Rattle.actions.proofs.path_in.Lts as lts
-use Rattle.actions.proofs.string_at.Reads as string-at-reads
+use Rattle.actions.proofs.slots.path_in.Statement.{statement}
+use Rattle.actions.proofs.slots.path_in.Tie as tie
+use Rattle.actions.proofs.slots.path_in.Reads as reads
+use Rattle.actions.proofs.slots.path_in.Lts as lts
+use Rattle.actions.proofs.slots.string_at.Reads as string-at-reads
 
 -- src/lib.rt:70:9
 returns : tie.Need-returns

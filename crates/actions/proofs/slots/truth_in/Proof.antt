@@ -6,10 +6,10 @@ use Rattle.values.specs.Answers.{truthIs}
 use Rattle.actions.proofs.Single.{inside-single, text-single, text-not-single}
 use native.Mathlib.Omega.{arith}
 use borrow.Author.Needs.{needs}
-use Rattle.actions.proofs.truth_in.Statement.{statement}
-use Rattle.actions.proofs.truth_in.Tie as tie
-use Rattle.actions.proofs.truth_in.Reads as reads
-use Rattle.actions.proofs.truth_in.Lts as lts
+use Rattle.actions.proofs.slots.truth_in.Statement.{statement}
+use Rattle.actions.proofs.slots.truth_in.Tie as tie
+use Rattle.actions.proofs.slots.truth_in.Reads as reads
+use Rattle.actions.proofs.slots.truth_in.Lts as lts
 use Rattle.values.proofs.truth_of.Reads as truth-of-reads
 
 -- src/lib.rt:32:33
