@@ -1,15 +1,17 @@
--- A path is a string of 1 to 512 decoded bytes.
+-- A path is a string of 1 to 512 decoded bytes, and an id one that is not empty.
 use mathlib.Core.Path.{_≡_, sym, ap, _∙_}
-use mathlib.Core.Bool.{Bool}
+use mathlib.Core.Bool.{Bool, true}
 use mathlib.Core.Option.{Option, none, some}
 use Prim.Native.Nat.{ℕ, _≤_, _<_}
 use native.Mathlib.Omega.{arith}
+use borrow.Author.Tests.{lt-leb, le-leb}
+use lib.Dec.{leb}
 use lib.ListN.{length, drop}
 use Rattle.rules.specs.Bytes.{Bytes, _>>=_, guard, among}
 use Rattle.rules.specs.Json.Text.{Text}
 use Rattle.text.proofs.Ranges.{among-within, among-below, among-above}
 use Rattle.strings.specs.Decoded.{decoded}
-use Rattle.actions.specs.Texts.{Read, pathOf}
+use Rattle.actions.specs.Texts.{Read, pathOf, idOf, Told}
 
 module _ {o : Option Bytes} {s : Text} {p n : ℕ} (r : Read o s p) (size : n ≡ length (decoded (drop p s))) where
   sized : {test : Bool} → among 1 512 n ≡ test → pathOf o ≡ (guard test >>= (λ _. some (decoded (drop p s))))
@@ -23,3 +25,14 @@ module _ {o : Option Bytes} {s : Text} {p n : ℕ} (r : Read o s p) (size : n �
 
   pub path-good : (n ≡ 0 → ⊥) → n ≤ 512 → Read (pathOf o) s p
   path-good z l = record { spelled = r .spelled; says = sized (among-within 1 512 n (omega arith) l) }
+
+  -- an id
+
+  id-by : {test : Bool} → leb 1 n ≡ test → idOf o ≡ (guard test >>= (λ _. some (decoded (drop p s))))
+  id-by {test} e = ap idOf (r .says) ∙ ap (λ (b : Bool). guard b >>= (λ _. some (decoded (drop p s)))) (ap (leb 1) (sym size) ∙ e)
+
+  pub id-empty : n ≡ 0 → idOf o ≡ none
+  id-empty z = id-by (lt-leb 1 n (omega arith))
+
+  pub id-good : (n ≡ 0 → ⊥) → Told (idOf o) true
+  id-good z = (decoded (drop p s), id-by (le-leb 1 n (omega arith)))

@@ -39,14 +39,14 @@ module _ (s : Text) (x : Slot) where
       go (suc zero) f = absurd (f refl)
       go (suc (suc n)) f = refl
 
-  pub optional-missing : {A : Type 0} (of : Option Text → Option (Option A)) → x .seen ≡ 0 → of none ≡ (optionalIn s (x .seen) (x .start) (x .end) >>= of)
+  pub optional-missing : {A : Type 0} (of : Option Text → Option A) → x .seen ≡ 0 → of none ≡ (optionalIn s (x .seen) (x .start) (x .end) >>= of)
   optional-missing of p = sym (ap (λ (n : ℕ). optionalIn s n (x .start) (x .end) >>= of) p)
 
-  pub optional-single : {A : Type 0} (of : Option Text → Option (Option A)) → x .seen ≡ 1
+  pub optional-single : {A : Type 0} (of : Option Text → Option A) → x .seen ≡ 1
       → (soleOrNone (take (x .end - x .start) (drop (x .start) s) ∷ []) >>= of) ≡ (optionalIn s (x .seen) (x .start) (x .end) >>= of)
   optional-single of p = sym (ap (λ (n : ℕ). optionalIn s n (x .start) (x .end) >>= of) p)
 
-  pub optional-more : {A : Type 0} (of : Option Text → Option (Option A)) → (x .seen ≡ 0 → ⊥) → (x .seen ≡ 1 → ⊥) → none ≡ (optionalIn s (x .seen) (x .start) (x .end) >>= of)
+  pub optional-more : {A : Type 0} (of : Option Text → Option A) → (x .seen ≡ 0 → ⊥) → (x .seen ≡ 1 → ⊥) → none ≡ (optionalIn s (x .seen) (x .start) (x .end) >>= of)
   optional-more of f g = go (x .seen) f g
     where
       go : (n : ℕ) → (n ≡ 0 → ⊥) → (n ≡ 1 → ⊥) → none ≡ (optionalIn s n (x .start) (x .end) >>= of)

@@ -6,7 +6,7 @@ use Prim.Native.Nat.{ℕ, _<_}
 use Prim.Native.String.{String}
 use lib.ListN.{length, getD}
 use Rattle.rules.specs.Bytes.{Bytes, ascii, _>>=_}
-use Rattle.rules.specs.Actions.{pathAt, protocolNumberAt}
+use Rattle.rules.specs.Actions.{pathAt, partitionValuesAt, protocolNumberAt, featuresAt}
 use Rattle.rules.specs.Json.Text.{Text}
 use Rattle.rules.specs.Json.Numbers.{whole}
 use Rattle.rules.specs.Json.Values.{Member}
@@ -15,6 +15,7 @@ use Rattle.fields.specs.Slots.{missing, Holds, Each}
 use Rattle.fields.specs.declared.notes.Slot.{Slot}
 use Rattle.fields.proofs.Slots.{slot-once, slot-optional}
 use Rattle.actions.specs.Inside.{Inside, wholeIn, boolIn, stringIn, optionalWholeIn}
+use Rattle.actions.specs.Nested.{valuesOf, valuesIn, featuresOf, featuresIn, columnsOf, columnsIn}
 use Rattle.actions.specs.Texts.{pathOf}
 use Rattle.actions.specs.Versions.{versionOf}
 use Rattle.actions.proofs.Single.{times-inside}
@@ -34,6 +35,13 @@ module _ (s : Text) (x : Slot) (name : String) (ms : List Member) (h : Holds s x
   pub field-optional : (optional name ms >>= ifThere whole) ≡ optionalWholeIn s x
   field-optional = ap (λ (o : Option (Option Text)). o >>= ifThere whole) (slot-optional s name ms (x .seen) (x .start) (x .end) h)
 
+  pub field-columns : (once name ms >>= columnsOf) ≡ columnsIn s x
+  field-columns = ap (λ (o : Option Text). o >>= columnsOf) (slot-once s name ms (x .seen) (x .start) (x .end) h)
+
+  pub field-features : featuresAt name ms ≡ featuresIn s x
+  unfolding featuresAt
+  field-features = ap (λ (o : Option (Option Text)). o >>= featuresOf) (slot-optional s name ms (x .seen) (x .start) (x .end) h)
+
 pub field-version : (s : Text) (x : Slot) (name : String) (ms : List Member) → Holds s x (under (ascii name) ms) → protocolNumberAt name ms ≡ versionOf (wholeIn s x)
 unfolding protocolNumberAt
 field-version s x name ms h = ap versionOf (field-whole s x name ms h)
@@ -41,6 +49,10 @@ field-version s x name ms h = ap versionOf (field-whole s x name ms h)
 pub field-path : (s : Text) (x : Slot) (ms : List Member) → Holds s x (under (ascii "path") ms) → pathAt ms ≡ pathOf (stringIn s x)
 unfolding pathAt
 field-path s x ms h = ap pathOf (field-string s x "path" ms h)
+
+pub field-values : (s : Text) (x : Slot) (ms : List Member) → Holds s x (under (ascii "partitionValues") ms) → partitionValuesAt ms ≡ valuesIn s x
+unfolding partitionValuesAt
+field-values s x ms h = ap (λ (o : Option Text). o >>= valuesOf) (slot-once s "partitionValues" ms (x .seen) (x .start) (x .end) h)
 
 -- the slot of name k stands within the text
 pub each-inside : (s : Text) (names : List Bytes) (ms : List Member) (slots : List Slot) (k : ℕ) → k < length names → Each s names ms slots → Inside s (getD slots k missing)

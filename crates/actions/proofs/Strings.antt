@@ -24,7 +24,7 @@ use Rattle.rules.proofs.Json.Places.{stringOf-place}
 use Rattle.strings.specs.Decoded.{bytesOf, decoded}
 use Rattle.actions.specs.Texts.{Read}
 
-decoded-some : (t : Text) {x : Bytes} {r : Text} → string t ≡ some (x, r) → decoded t ≡ x
+pub decoded-some : (t : Text) {x : Bytes} {r : Text} → string t ≡ some (x, r) → decoded t ≡ x
 unfolding decoded bytesOf
 decoded-some t e = ap bytesOf e
 
@@ -56,7 +56,7 @@ string-extends (suc n) (b ∷ t) u {x} {r} l e = by (eqb b 0x22)
         ∙ ap (λ o. o >>= (λ p. some (c .0 ++ p .0, p .1))) (ih (c .1) u (q .0) (q .1) (omega arith) h)
         ∙ ap (λ (p : Bytes × Text). some (p .0, p .1 ++ u)) (some-same k))
 
-byte-text : (c : ℕ) (t : Text) {u : Text} → byte c t ≡ some u → t ≡ c ∷ u
+pub byte-text : (c : ℕ) (t : Text) {u : Text} → byte c t ≡ some u → t ≡ c ∷ u
 unfolding byte
 byte-text c [] e = apart (cc)
 byte-text c (b ∷ t) {u} e = by (eqb b c)
@@ -72,7 +72,7 @@ unfolding isEmpty
 empty-is [] e = refl
 empty-is (b ∷ t) e = apart (cc)
 
-string-behind : (v u : Text) {x : Bytes} → stringOf v ≡ some x → (byte 0x22 (v ++ u) >>= string) ≡ some (x, u)
+pub string-behind : (v u : Text) {x : Bytes} → stringOf v ≡ some x → (byte 0x22 (v ++ u) >>= string) ≡ some (x, u)
 unfolding stringOf
 string-behind v u {x} e =
     bound (byte 0x22 v) _ e (λ t h k.

@@ -1,6 +1,9 @@
 -- What the functions over the fields of actions promise, in the rules' terms.
 pub mod Inside
+pub mod Valued
 pub mod Counts
 pub mod Texts
-pub mod Found
 pub mod Versions
+pub mod Line
+pub mod Nested
+pub mod Begun

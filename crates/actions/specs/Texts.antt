@@ -1,7 +1,9 @@
 -- The string that the text of a value is, by the position behind its opening quote and the number of bytes that it stands for.
 use mathlib.Core.Path.{_≡_}
+use mathlib.Core.Bool.{Bool, true, false}
 use mathlib.Core.Option.{Option, none, some}
 use Prim.Native.Nat.{ℕ}
+use lib.Dec.{leb}
 use lib.ListN.{length, drop}
 use Rattle.rules.specs.Bytes.{Bytes, _>>=_, guard, among}
 use Rattle.rules.specs.Json.Text.{Text}
@@ -22,6 +24,19 @@ StringIs o s NoString = o ≡ none
 -- 1 to 512 decoded bytes, as the rules ask of a path
 abbrev pub pathOf : Option Bytes → Option Bytes
 pathOf o = o >>= (λ p. guard (among 1 512 (length p)) >>= (λ _. some p))
+
+-- an id is not empty
+abbrev pub idOf : Option Bytes → Option Bytes
+idOf o = o >>= (λ i. guard (leb 1 (length i)) >>= (λ _. some i))
+
+unfoldable pub isSome : {A : Type 0} → Option A → Bool
+isSome none = false
+isSome (some a) = true
+
+-- whether there is an answer
+abbrev pub Told : {A : Type 0} → Option A → Bool → Type 0
+Told {A} o true = (a : A) × (o ≡ some a)
+Told o false = o ≡ none
 
 abbrev pub PathIs : Option Bytes → Text → Path → Type 0
 PathIs o s (Spelled p) = Read o s p

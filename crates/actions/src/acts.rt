@@ -1,19 +1,139 @@
 // Actions by the fields of their objects.
+use crate::line::Action;
+use crate::line::Added;
+use crate::line::Stated;
+use crate::nested::Columns;
+use crate::nested::Features;
+use crate::nested::Values;
+use crate::nested::columns_in;
+use crate::nested::features_in;
+use crate::nested::values_in;
 use crate::slots::Path;
+use crate::slots::Records;
+use crate::slots::id_in;
 use crate::slots::path_in;
+use crate::slots::records_in;
+use crate::slots::truth_in;
+use crate::slots::version_in;
+use crate::slots::whole_in;
 use fields::Fields;
-use fields::Kind;
-ghost use mathlib.Core.List.{List};
-ghost use Rattle.rules.specs.Actions.{pathAt};
-ghost use Rattle.rules.specs.Json.Values.{Member};
-ghost use Rattle.actions.specs.Found.{Found, Holding};
-ghost use Rattle.actions.specs.Texts.{PathIs};
+use values::Truth;
+use values::Whole;
+ghost use mathlib.Core.Path.{_≡_};
+ghost use Rattle.rules.specs.Actions.{action};
+ghost use Rattle.actions.specs.Begun.{Lined};
+ghost use Rattle.actions.specs.Counts.{isBool, isKnown};
+ghost use Rattle.actions.specs.Line.{ActionIs};
+
+fn is_bool(t: Truth) -> bool
+    ensures { λ r. ⌜ r ≡ isBool t ⌝ }
+{
+    match t {
+        Truth::True => true,
+        Truth::False => true,
+        Truth::NotBool => false,
+    }
+}
+
+fn is_known(n: Records) -> bool
+    ensures { λ r. ⌜ r ≡ isKnown n ⌝ }
+{
+    match n {
+        Records::Number(_) => true,
+        Records::Missing => true,
+        Records::Bad => false,
+    }
+}
+
+// The facts of the file that is added.
+pub fn add_in(s: &[u8], f: Fields) -> Action
+    requires { ⌜ Lined (now s) 0 f ⌝ }
+    ensures { λ r. ⌜ ActionIs (action (now (s .entry))) (now (s .entry)) r ⌝ }
+{
+    let place = f.slots[0];
+    let start = place.start;
+    let close = place.end;
+    let Path::Spelled(_) = path_in(s, place) else {
+        return Action::Malformed;
+    };
+    let Whole::Number(size) = whole_in(s, f.slots[1]) else {
+        return Action::Malformed;
+    };
+    let Whole::Number(time) = whole_in(s, f.slots[2]) else {
+        return Action::Malformed;
+    };
+    let change = truth_in(s, f.slots[3]);
+    if is_bool(change) {
+        let Values::Behind(values) = values_in(s, f.slots[4]) else {
+            return Action::Malformed;
+        };
+        let records = records_in(s, f.slots[5]);
+        if is_known(records) {
+            return Action::Add(Added {
+                path: start + 1,
+                end: close - 1,
+                size,
+                time,
+                records,
+                values,
+            });
+        }
+        return Action::Malformed;
+    }
+    Action::Malformed
+}
 
 // The path of the file that is removed.
-pub fn remove_in(s: &[u8], f: Fields) -> Path
-    requires { ⌜ Found (now s) Kind.Remove f ⌝ }
-    ensures { λ r. ⌜ ((ms : List Member) → Holding (now (s .entry)) Kind.Remove ms f → PathIs (pathAt ms) (now (s .entry)) r) ⌝ }
+pub fn remove_in(s: &[u8], f: Fields) -> Action
+    requires { ⌜ Lined (now s) 1 f ⌝ }
+    ensures { λ r. ⌜ ActionIs (action (now (s .entry))) (now (s .entry)) r ⌝ }
 {
-    let slot = f.slots[0];
-    path_in(s, slot)
+    let place = f.slots[0];
+    let Path::Spelled(p) = path_in(s, place) else {
+        return Action::Malformed;
+    };
+    Action::Remove(p)
+}
+
+// The numbers and the features of a protocol.
+pub fn protocol_in(s: &[u8], f: Fields) -> Action
+    requires { ⌜ Lined (now s) 2 f ⌝ }
+    ensures { λ r. ⌜ ActionIs (action (now (s .entry))) (now (s .entry)) r ⌝ }
+{
+    let Whole::Number(reader) = version_in(s, f.slots[0]) else {
+        return Action::Malformed;
+    };
+    let Whole::Number(writer) = version_in(s, f.slots[1]) else {
+        return Action::Malformed;
+    };
+    let Features::Listed(readers, readable) = features_in(s, f.slots[2], false) else {
+        return Action::Malformed;
+    };
+    let Features::Listed(writers, writable) = features_in(s, f.slots[3], true) else {
+        return Action::Malformed;
+    };
+    Action::Protocol(Stated {
+        reader,
+        writer,
+        reader_known: readable,
+        writer_known: writable,
+        reader_features: readers,
+        writer_features: writers,
+    })
+}
+
+// The partition columns of a table.
+pub fn meta_data_in(s: &[u8], f: Fields) -> Action
+    requires { ⌜ Lined (now s) 3 f ⌝ }
+    ensures { λ r. ⌜ ActionIs (action (now (s .entry))) (now (s .entry)) r ⌝ }
+{
+    let id = f.slots[0];
+    if id_in(s, id) {
+        let columns = f.slots[1];
+        let Columns::Within(at) = columns_in(s, columns) else {
+            return Action::Malformed;
+        };
+        return Action::MetaData(at);
+    }
+    Action::Malformed
 }

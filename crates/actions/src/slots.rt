@@ -1,4 +1,5 @@
 // The fields of an action by their slots: strings, paths, numbers and booleans, as the rules read them.
+use crate::QUOTE;
 use fields::Slot;
 use strings::Spelling;
 use text::Next;
@@ -11,10 +12,8 @@ ghost use Rattle.rules.specs.Json.Fields.{stringOf};
 ghost use Rattle.values.specs.Answers.{wholeIs, truthIs};
 ghost use Rattle.actions.specs.Versions.{versionOf};
 ghost use Rattle.actions.specs.Inside.{Inside, wholeIn, boolIn, stringIn, optionalWholeIn};
-ghost use Rattle.actions.specs.Texts.{StringIs, PathIs, pathOf};
+ghost use Rattle.actions.specs.Texts.{StringIs, PathIs, pathOf, idOf, Told};
 ghost use Rattle.actions.specs.Counts.{recordsIs};
-
-const QUOTE: u8 = 0x22;
 
 // A path has so many decoded bytes at most.
 const LONGEST_PATH: usize = 512;
@@ -83,6 +82,25 @@ pub fn path_in(s: &[u8], slot: Slot) -> Path
         return Path::NoPath;
     }
     Path::Spelled(p)
+}
+
+// Whether a field that stands once is an id.
+pub fn id_in(s: &[u8], slot: Slot) -> bool
+    requires { ⌜ Inside (now s) slot ⌝ }
+    ensures { λ r. ⌜ Told (idOf (stringIn (now (s .entry)) slot)) r ⌝ }
+{
+    let start = slot.start;
+    let end = slot.end;
+    if slot.seen != 1 {
+        return false;
+    }
+    let Wording::Sized(_, n) = string_at(s, start, end) else {
+        return false;
+    };
+    if n == 0 {
+        return false;
+    }
+    true
 }
 
 // The whole number of a field that stands once.

@@ -1,0 +1,173 @@
+-- `add_in` meets its contract. Its fields, one after another.
+use mathlib.Core.Path.{sym, ap, subst, _∙_}
+use Prim.Native.Nat.{_+_, _≤_}
+use lib.ListN.{length}
+use Rattle.fields.specs.Kinds.{namesOf}
+use Rattle.fields.specs.declared.names.Kind.the-variants.{Add}
+use Rattle.values.proofs.Back.{whole-number, whole-not}
+use Rattle.actions.specs.Counts.{isBool, isKnown, recordsIs}
+use Rattle.actions.specs.Texts.{PathIs, Told}
+use Rattle.actions.specs.Nested.{ValuesIs}
+use Rattle.actions.proofs.Stated.{each-inside}
+use Rattle.actions.proofs.Valued.{each-proper}
+use Rattle.actions.proofs.Assembled.{slot, path-placed, add-no-path, add-no-size, add-no-time, add-no-change, add-no-values, add-no-records, add-there, truth-told, records-told}
+use native.Mathlib.Omega.{arith}
+use borrow.Author.Needs.{needs}
+use Rattle.actions.proofs.acts.add_in.Statement.{statement}
+use Rattle.actions.proofs.acts.add_in.Tie as tie
+
+element-copy-out-place : tie.Need-element-copy-out-place
+element-copy-out-place c = search needs
+
+path-in-requires : tie.Need-path-in-requires
+unfolding namesOf
+path-in-requires c κs = each-inside (c .before .before .args .s .now) (namesOf Add) (c .before .before .pre .ms) (c .before .before .args .t2 .slots) 0 (omega arith) (c .before .before .pre .each)
+
+enum-told : tie.Need-enum-told
+enum-told c = search needs
+
+enum-told-2 : tie.Need-enum-told-2
+enum-told-2 c = search needs
+
+returns : tie.Need-returns
+returns c = add-no-path (c .before .before .before .before .before .args .s .now) (c .before .before .before .before .before .args .t2) (c .before .before .before .before .before .pre) (subst (PathIs _ _) (c .enum-told2 .given .1) (c .before .before .path-in .ensures))
+
+element-copy-out-whole-in : tie.Need-element-copy-out-whole-in
+element-copy-out-whole-in c = search needs
+
+whole-in-requires : tie.Need-whole-in-requires
+unfolding namesOf
+whole-in-requires c κs = each-inside (c .before .before .before .before .before .before .args .s .now) (namesOf Add) (c .before .before .before .before .before .before .pre .ms) (c .before .before .before .before .before .before .args .t2 .slots) 1 (omega arith) (c .before .before .before .before .before .before .pre .each)
+
+enum-known-size : tie.Need-enum-known-size
+enum-known-size c = search needs
+
+enum-told-3 : tie.Need-enum-told-3
+enum-told-3 c = search needs
+
+returns-2 : tie.Need-returns-2
+returns-2 c = add-no-size (c .before .before .before .before .before .before .before .before .before .args .s .now) (c .before .before .before .before .before .before .before .before .before .args .t2) (c .before .before .before .before .before .before .before .before .before .pre) (whole-not _ (sym (c .enum-told3 .given .1) ∙ c .before .before .whole-in .ensures))
+
+element-copy-out-whole-in-2 : tie.Need-element-copy-out-whole-in-2
+element-copy-out-whole-in-2 c = search needs
+
+whole-in-requires-2 : tie.Need-whole-in-requires-2
+unfolding namesOf
+whole-in-requires-2 c κs = each-inside (c .before .before .before .before .before .before .before .before .before .before .before .args .s .now) (namesOf Add) (c .before .before .before .before .before .before .before .before .before .before .before .pre .ms) (c .before .before .before .before .before .before .before .before .before .before .before .args .t2 .slots) 2 (omega arith) (c .before .before .before .before .before .before .before .before .before .before .before .pre .each)
+
+enum-known-time : tie.Need-enum-known-time
+enum-known-time c = search needs
+
+enum-told-4 : tie.Need-enum-told-4
+enum-told-4 c = search needs
+
+returns-3 : tie.Need-returns-3
+returns-3 c = add-no-time (c .before .before .before .before .before .before .before .before .before .before .before .before .before .before .args .s .now) (c .before .before .before .before .before .before .before .before .before .before .before .before .before .before .args .t2) (c .before .before .before .before .before .before .before .before .before .before .before .before .before .before .pre) (whole-not _ (sym (c .enum-told4 .given .1) ∙ c .before .before .whole-in2 .ensures))
+
+element-copy-out-truth-in : tie.Need-element-copy-out-truth-in
+element-copy-out-truth-in c = search needs
+
+truth-in-requires : tie.Need-truth-in-requires
+unfolding namesOf
+truth-in-requires c κs = each-inside (c .before .before .before .before .before .before .before .before .before .before .before .before .before .before .before .before .args .s .now) (namesOf Add) (c .before .before .before .before .before .before .before .before .before .before .before .before .before .before .before .before .pre .ms) (c .before .before .before .before .before .before .before .before .before .before .before .before .before .before .before .before .args .t2 .slots) 3 (omega arith) (c .before .before .before .before .before .before .before .before .before .before .before .before .before .before .before .before .pre .each)
+
+is-bool-requires : tie.Need-is-bool-requires
+is-bool-requires c κs = search needs
+
+element-copy-out-values-in : tie.Need-element-copy-out-values-in
+element-copy-out-values-in c = search needs
+
+values-in-requires : tie.Need-values-in-requires
+unfolding namesOf
+values-in-requires c κs = each-proper (c .before .before .before .before .before .before .before .before .before .before .before .before .before .before .before .before .before .before .before .before .args .s .now) (namesOf Add) (c .before .before .before .before .before .before .before .before .before .before .before .before .before .before .before .before .before .before .before .before .pre .ms) (c .before .before .before .before .before .before .before .before .before .before .before .before .before .before .before .before .before .before .before .before .args .t2 .slots) 4 (omega arith) (c .before .before .before .before .before .before .before .before .before .before .before .before .before .before .before .before .before .before .before .before .pre .each) (c .before .before .before .before .before .before .before .before .before .before .before .before .before .before .before .before .before .before .before .before .pre .valued)
+
+enum-known-values : tie.Need-enum-known-values
+enum-known-values c = search needs
+
+enum-told-5 : tie.Need-enum-told-5
+enum-told-5 c = search needs
+
+returns-4 : tie.Need-returns-4
+returns-4 c = add-no-values (c .before .before .before .before .before .before .before .before .before .before .before .before .before .before .before .before .before .before .before .before .before .before .before .args .s .now) (c .before .before .before .before .before .before .before .before .before .before .before .before .before .before .before .before .before .before .before .before .before .before .before .args .t2) (c .before .before .before .before .before .before .before .before .before .before .before .before .before .before .before .before .before .before .before .before .before .before .before .pre) (subst (ValuesIs _ _) (c .enum-told5 .given .1) (c .before .before .values-in .ensures))
+
+element-copy-out-records-in : tie.Need-element-copy-out-records-in
+element-copy-out-records-in c = search needs
+
+records-in-requires : tie.Need-records-in-requires
+unfolding namesOf
+records-in-requires c κs = each-inside (c .before .before .before .before .before .before .before .before .before .before .before .before .before .before .before .before .before .before .before .before .before .before .before .before .before .args .s .now) (namesOf Add) (c .before .before .before .before .before .before .before .before .before .before .before .before .before .before .before .before .before .before .before .before .before .before .before .before .before .pre .ms) (c .before .before .before .before .before .before .before .before .before .before .before .before .before .before .before .before .before .before .before .before .before .before .before .before .before .args .t2 .slots) 5 (omega arith) (c .before .before .before .before .before .before .before .before .before .before .before .before .before .before .before .before .before .before .before .before .before .before .before .before .before .pre .each)
+
+is-known-requires : tie.Need-is-known-requires
+is-known-requires c κs = search needs
+
+add-t32 : tie.Need-add-t32
+unfolding namesOf
+add-t32 c =
+    let r = subst (PathIs _ _) (c .before .before .before .before .before .before .before .before .before .before .before .before .before .before .before .before .before .before .before .before .before .before .before .enum-told .given .1) (c .before .before .before .before .before .before .before .before .before .before .before .before .before .before .before .before .before .before .before .before .before .before .before .before .before .path-in .ensures) in
+    let p = path-placed (c .before .before .before .before .before .before .before .before .before .before .before .before .before .before .before .before .before .before .before .before .before .before .before .before .before .before .before .before .args .s .now) (slot (c .before .before .before .before .before .before .before .before .before .before .before .before .before .before .before .before .before .before .before .before .before .before .before .before .before .before .before .before .args .t2) 0) _ (each-inside (c .before .before .before .before .before .before .before .before .before .before .before .before .before .before .before .before .before .before .before .before .before .before .before .before .before .before .before .before .args .s .now) (namesOf Add) (c .before .before .before .before .before .before .before .before .before .before .before .before .before .before .before .before .before .before .before .before .before .before .before .before .before .before .before .before .pre .ms) (c .before .before .before .before .before .before .before .before .before .before .before .before .before .before .before .before .before .before .before .before .before .before .before .before .before .before .before .before .args .t2 .slots) 0 (omega arith) (c .before .before .before .before .before .before .before .before .before .before .before .before .before .before .before .before .before .before .before .before .before .before .before .before .before .before .before .before .pre .each)) (r .says) in
+    let far : slot (c .before .before .before .before .before .before .before .before .before .before .before .before .before .before .before .before .before .before .before .before .before .before .before .before .before .before .before .before .args .t2) 0 .start + 2 ≤ slot (c .before .before .before .before .before .before .before .before .before .before .before .before .before .before .before .before .before .before .before .before .before .before .before .before .before .before .before .before .args .t2) 0 .end = p .further in
+    let fits : slot (c .before .before .before .before .before .before .before .before .before .before .before .before .before .before .before .before .before .before .before .before .before .before .before .before .before .before .before .before .args .t2) 0 .end ≤ length (c .before .before .before .before .before .before .before .before .before .before .before .before .before .before .before .before .before .before .before .before .before .before .before .before .before .before .before .before .args .s .now) = p .within in
+    search needs
+
+sub-t33 : tie.Need-sub-t33
+unfolding namesOf
+sub-t33 c =
+    let r = subst (PathIs _ _) (c .before .before .before .before .before .before .before .before .before .before .before .before .before .before .before .before .before .before .before .before .before .before .before .enum-told .given .1) (c .before .before .before .before .before .before .before .before .before .before .before .before .before .before .before .before .before .before .before .before .before .before .before .before .before .path-in .ensures) in
+    let p = path-placed (c .before .before .before .before .before .before .before .before .before .before .before .before .before .before .before .before .before .before .before .before .before .before .before .before .before .before .before .before .args .s .now) (slot (c .before .before .before .before .before .before .before .before .before .before .before .before .before .before .before .before .before .before .before .before .before .before .before .before .before .before .before .before .args .t2) 0) _ (each-inside (c .before .before .before .before .before .before .before .before .before .before .before .before .before .before .before .before .before .before .before .before .before .before .before .before .before .before .before .before .args .s .now) (namesOf Add) (c .before .before .before .before .before .before .before .before .before .before .before .before .before .before .before .before .before .before .before .before .before .before .before .before .before .before .before .before .pre .ms) (c .before .before .before .before .before .before .before .before .before .before .before .before .before .before .before .before .before .before .before .before .before .before .before .before .before .before .before .before .args .t2 .slots) 0 (omega arith) (c .before .before .before .before .before .before .before .before .before .before .before .before .before .before .before .before .before .before .before .before .before .before .before .before .before .before .before .before .pre .each)) (r .says) in
+    let far : slot (c .before .before .before .before .before .before .before .before .before .before .before .before .before .before .before .before .before .before .before .before .before .before .before .before .before .before .before .before .args .t2) 0 .start + 2 ≤ slot (c .before .before .before .before .before .before .before .before .before .before .before .before .before .before .before .before .before .before .before .before .before .before .before .before .before .before .before .before .args .t2) 0 .end = p .further in
+    omega arith
+
+returns-5 : tie.Need-returns-5
+unfolding namesOf
+returns-5 c =
+    let r = subst (PathIs _ _) (c .before .before .before .before .before .before .before .before .before .before .before .before .before .before .before .before .before .before .before .before .before .before .before .enum-told .given .1) (c .before .before .before .before .before .before .before .before .before .before .before .before .before .before .before .before .before .before .before .before .before .before .before .before .before .path-in .ensures) in
+    let vs = subst (ValuesIs _ _) (c .before .before .before .before .before .values .given .1) (c .before .before .before .before .before .before .before .values-in .ensures) in
+    let b = subst (Told _) (c .before .before .before .before .before .before .before .before .before .if1 .taken) (truth-told _ (c .before .before .before .before .before .before .before .before .before .before .is-bool .result) (c .before .before .before .before .before .before .before .before .before .before .is-bool .ensures ∙ ap isBool (c .before .before .before .before .before .before .before .before .before .before .before .truth-in .ensures))) in
+    let n = subst (Told _) (c .if2 .taken) (records-told _ (c .before .is-known .result) (c .before .is-known .ensures ∙ ap isKnown (c .before .before .records-in .ensures))) in
+    add-there (c .before .before .before .before .before .before .before .before .before .before .before .before .before .before .before .before .before .before .before .before .before .before .before .before .before .before .before .before .args .s .now) (c .before .before .before .before .before .before .before .before .before .before .before .before .before .before .before .before .before .before .before .before .before .before .before .before .before .before .before .before .args .t2) (c .before .before .before .before .before .before .before .before .before .before .before .before .before .before .before .before .before .before .before .before .before .before .before .before .before .before .before .before .pre) _ (c .before .before .before .before .before .before .before .before .before .before .before .before .before .before .before .before .before .before .before .size .given .0 .0) (c .before .before .before .before .before .before .before .before .before .before .before .before .before .before .time .given .0 .0) (c .before .before .before .before .before .values .given .0 .0) (b .0) (vs .0) (n .0) (c .before .before .records-in .result)
+    (each-inside (c .before .before .before .before .before .before .before .before .before .before .before .before .before .before .before .before .before .before .before .before .before .before .before .before .before .before .before .before .args .s .now) (namesOf Add) (c .before .before .before .before .before .before .before .before .before .before .before .before .before .before .before .before .before .before .before .before .before .before .before .before .before .before .before .before .pre .ms) (c .before .before .before .before .before .before .before .before .before .before .before .before .before .before .before .before .before .before .before .before .before .before .before .before .before .before .before .before .args .t2 .slots) 0 (omega arith) (c .before .before .before .before .before .before .before .before .before .before .before .before .before .before .before .before .before .before .before .before .before .before .before .before .before .before .before .before .pre .each)) (r .says)
+    (whole-number _ (sym (c .before .before .before .before .before .before .before .before .before .before .before .before .before .before .before .before .before .before .before .size .given .1) ∙ c .before .before .before .before .before .before .before .before .before .before .before .before .before .before .before .before .before .before .before .before .before .whole-in .ensures)) (whole-number _ (sym (c .before .before .before .before .before .before .before .before .before .before .before .before .before .before .time .given .1) ∙ c .before .before .before .before .before .before .before .before .before .before .before .before .before .before .before .before .whole-in2 .ensures)) (b .1) (vs .1) (vs .2) (n .1) (c .before .before .records-in .ensures ∙ ap recordsIs (n .1))
+
+returns-6 : tie.Need-returns-6
+returns-6 c =
+    add-no-records (c .before .before .before .before .before .before .before .before .before .before .before .before .before .before .before .before .before .before .before .before .before .before .before .before .before .before .before .before .args .s .now) (c .before .before .before .before .before .before .before .before .before .before .before .before .before .before .before .before .before .before .before .before .before .before .before .before .before .before .before .before .args .t2) (c .before .before .before .before .before .before .before .before .before .before .before .before .before .before .before .before .before .before .before .before .before .before .before .before .before .before .before .before .pre) (subst (Told _) (c .if2 .left) (records-told _ (c .before .is-known .result) (c .before .is-known .ensures ∙ ap isKnown (c .before .before .records-in .ensures))))
+
+returns-7 : tie.Need-returns-7
+returns-7 c =
+    add-no-change (c .before .before .before .before .before .before .before .before .before .before .before .before .before .before .before .before .before .before .before .args .s .now) (c .before .before .before .before .before .before .before .before .before .before .before .before .before .before .before .before .before .before .before .args .t2) (c .before .before .before .before .before .before .before .before .before .before .before .before .before .before .before .before .before .before .before .pre) (subst (Told _) (c .if1 .left) (truth-told _ (c .before .is-bool .result) (c .before .is-bool .ensures ∙ ap isBool (c .before .before .truth-in .ensures))))
+
+pub add-in-spec : {M : Type 1} → statement M
+add-in-spec =
+    tie.close
+    (tie.spec
+    element-copy-out-place
+    path-in-requires
+    enum-told
+    enum-told-2
+    returns
+    element-copy-out-whole-in
+    whole-in-requires
+    enum-known-size
+    enum-told-3
+    returns-2
+    element-copy-out-whole-in-2
+    whole-in-requires-2
+    enum-known-time
+    enum-told-4
+    returns-3
+    element-copy-out-truth-in
+    truth-in-requires
+    is-bool-requires
+    element-copy-out-values-in
+    values-in-requires
+    enum-known-values
+    enum-told-5
+    returns-4
+    element-copy-out-records-in
+    records-in-requires
+    is-known-requires
+    add-t32
+    sub-t33
+    returns-5
+    returns-6
+    returns-7)
