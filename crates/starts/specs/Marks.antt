@@ -3,6 +3,7 @@ use mathlib.Core.Path.{_≡_}
 use mathlib.Core.Bool.{Bool, true, false}
 use mathlib.Core.Option.{Option, none, some}
 use mathlib.Core.List.{List}
+use Prim.Native.Nat.{ℕ}
 use Rattle.rules.specs.Bytes.{Bytes, _>>=_}
 use Rattle.rules.specs.Json.Text.{Text}
 use Rattle.rules.specs.Json.Values.{Member}
@@ -13,6 +14,8 @@ use Rattle.fields.specs.Slots.{Each, optionalIn}
 use Rattle.fields.specs.declared.names.Kind.{Kind}
 use Rattle.fields.specs.declared.notes.Slot.{Slot}
 use Rattle.fields.specs.declared.notes.Fields.{Fields}
+use Rattle.starts.specs.declared.Mark.{Mark}
+use Rattle.starts.specs.declared.Mark.the-variants.{At, Nothing}
 
 -- o is what the rules say of the text s as one object: its members are in the slots
 abbrev pub ObjectBy : Option (List Member) → Text → Kind → (good : Bool) → List Slot → Type 0
@@ -31,3 +34,9 @@ formatIn s x = optionalIn s (x .seen) (x .start) (x .end) >>= ifThere stringOf
 abbrev pub fits : Option (Option Bytes) → Bool
 fits none = false
 fits (some f) = isJson f
+
+-- ---- the version that it names
+
+unfoldable pub markIs : Option ℕ → Mark
+markIs none = Nothing
+markIs (some n) = At (record { 0 = n })
