@@ -10,3 +10,4 @@ pub mod Reading
 pub mod Naming
 pub mod Answering
 pub mod Large
+pub mod Titles

@@ -1,0 +1,23 @@
+-- A promised place is the only one: a file has the number of its entry.
+use mathlib.Core.Path.{_≡_, refl, sym, ap, _∙_}
+use mathlib.Core.Option.{Option}
+use Prim.Native.Nat.{ℕ, _<_}
+use lib.ListN.{length}
+use Rattle.rules.specs.Bytes.{Bytes}
+use Rattle.rules.specs.Bundle.{File}
+use Rattle.rules.proofs.Tests.{apart}
+use Rattle.bundle.specs.Files.{filesIn, fileIn}
+use Rattle.bundle.proofs.Choices.{some-is}
+use Rattle.bundle.proofs.Reading.{found}
+use Rattle.logs.specs.Logs.{PlaceIs}
+use Rattle.logs.specs.declared.Place.{Place}
+use Rattle.logs.specs.declared.Place.the-variants.{At, Nowhere}
+
+pub number-unique : (s : Bytes) (j k : ℕ) → j < length (filesIn s) → k < length (filesIn s) → fileIn s j ≡ fileIn s k → j ≡ k
+number-unique s j k l m e = sym (found s j l .file .number) ∙ ap (λ (f : File). f .entry) e ∙ found s k m .file .number
+
+pub place-unique : (s : Bytes) (o : Option File) (p q : Place) → PlaceIs s o p → PlaceIs s o q → p ≡ q
+place-unique s o (At j) (At k) h g = ap At (number-unique s j k (h .0) (g .0) (some-is (sym (h .1) ∙ g .1)))
+place-unique s o (At j) Nowhere h g = apart (cc)
+place-unique s o Nowhere (At k) h g = apart (cc)
+place-unique s o Nowhere Nowhere h g = refl

@@ -1,0 +1,116 @@
+// The files of a log in a well-formed bundle, found by what their names say. Names ascend, so that each look halves what is left.
+use names::Version;
+use values::Order;
+ghost use mathlib.Core.Path.{_≡_};
+ghost use mathlib.Core.Bool.{true};
+ghost use mathlib.Core.List.{_++_};
+ghost use Prim.Native.Nat.{_≤_, _<_};
+ghost use lib.ListN.{length, drop, getD};
+ghost use Rattle.rules.specs.Bundle.{bundle as rBundle};
+ghost use Rattle.rules.specs.Starts.{logOf};
+ghost use Rattle.rules.proofs.Live.{lookup};
+ghost use Rattle.bundle.specs.Files.{isSome, filesIn};
+ghost use Rattle.logs.specs.Logs.{title, twenty, PlaceIs};
+
+// 2^63 - 1, the highest version.
+const MOST: u64 = 9223372036854775807;
+
+// So many digits a name begins with.
+const DIGITS: usize = 20;
+
+// Where a file stands among the entries.
+pub enum Place {
+    At(usize),
+    Nowhere,
+}
+
+fn byte_at(s: &[u8], i: usize) -> usize
+    requires { ⌜ i < length (now s) ⌝ }
+    ensures { λ r. ⌜ (r ≡ getD (now (s .entry)) i 0) × (r < 256) ⌝ }
+{
+    s[i] as usize
+}
+
+// How many files the well-formed bundle s has.
+pub fn count(s: &[u8]) -> usize
+    requires { ⌜ isSome (rBundle (now s)) ≡ true ⌝ }
+    ensures { λ r. ⌜ r ≡ length (filesIn (now (s .entry))) ⌝ }
+{
+    let a = byte_at(s, 0);
+    let b = byte_at(s, 1);
+    let c = byte_at(s, 2);
+    let d = byte_at(s, 3);
+    a + 256 * (b + 256 * (c + 256 * d))
+}
+
+// Where the file of this name stands.
+fn find(s: &[u8], name: &[u8]) -> Place
+    requires { ⌜ isSome (rBundle (now s)) ≡ true ⌝ }
+    ensures { λ r. ⌜ PlaceIs (now (s .entry)) (lookup title (now (name .entry)) (filesIn (now (s .entry)))) r ⌝ }
+{
+    let mut lo = 0;
+    let mut hi = count(s);
+    while lo < hi {
+        let mid = lo + (hi - lo) / 2;
+        match values::order_bytes(bundle::name_in(s, mid), name) {
+            Order::Less => {
+                lo = mid + 1;
+            }
+            Order::Equal => {
+                return Place::At(mid);
+            }
+            Order::More => {
+                hi = mid;
+            }
+        }
+    }
+    Place::Nowhere
+}
+
+// Writes v in twenty digits over the front of t.
+fn write_digits(t: &mut [u8], v: u64)
+    requires { ⌜ 20 ≤ length (now t) ⌝ }
+    ensures { λ _. ⌜ now (t .exit) ≡ twenty v ++ drop 20 (now (t .entry)) ⌝ }
+{
+    let mut i = DIGITS;
+    let mut left = v;
+    while 0 < i {
+        i -= 1;
+        t[i] = b'0' + (left % 10) as u8;
+        left = left / 10;
+    }
+}
+
+// Where the version file of v stands.
+pub fn version_file(s: &[u8], v: Version) -> Place
+    requires { ⌜ isSome (rBundle (now s)) ≡ true ⌝ }
+    ensures { λ r. ⌜ PlaceIs (now (s .entry)) (logOf (filesIn (now (s .entry))) .versionFile (v .0)) r ⌝ }
+{
+    if MOST < v.0 {
+        return Place::Nowhere;
+    }
+    let mut name = *b"00000000000000000000.json";
+    write_digits(&mut name, v.0);
+    find(s, &name)
+}
+
+// Where the checkpoint at v stands.
+pub fn checkpoint_file(s: &[u8], v: Version) -> Place
+    requires { ⌜ isSome (rBundle (now s)) ≡ true ⌝ }
+    ensures { λ r. ⌜ PlaceIs (now (s .entry)) (logOf (filesIn (now (s .entry))) .checkpointFile (v .0)) r ⌝ }
+{
+    if MOST < v.0 {
+        return Place::Nowhere;
+    }
+    let mut name = *b"00000000000000000000.checkpoint.json";
+    write_digits(&mut name, v.0);
+    find(s, &name)
+}
+
+// Where the marker stands.
+pub fn marker_file(s: &[u8]) -> Place
+    requires { ⌜ isSome (rBundle (now s)) ≡ true ⌝ }
+    ensures { λ r. ⌜ PlaceIs (now (s .entry)) (logOf (filesIn (now (s .entry))) .markerFile) r ⌝ }
+{
+    find(s, b"_last_checkpoint")
+}

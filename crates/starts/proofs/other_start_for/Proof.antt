@@ -1,0 +1,50 @@
+-- Below c the start is the highest there; what follows it is the version file of c.
+use mathlib.Core.Path.{subst}
+use Rattle.rules.specs.Starts.{logOf}
+use Rattle.bundle.specs.Files.{filesIn}
+use Rattle.logs.specs.Logs.{PlaceIs}
+use Rattle.starts.proofs.Starting.{other-zero, other-gap, other-falling, start-onward}
+use native.Mathlib.Omega.{arith}
+use borrow.Author.Needs.{needs}
+use Rattle.starts.proofs.other_start_for.Statement.{statement}
+use Rattle.starts.proofs.other_start_for.Tie as tie
+
+returns : tie.Need-returns
+returns c = other-zero (logOf (filesIn (c .before .before .before .args .s .now))) (c .before .before .before .args .c .0) (c .if1 .taken)
+
+version-file-requires : tie.Need-version-file-requires
+version-file-requires c κs = search needs
+
+enum-told : tie.Need-enum-told
+enum-told c = search needs
+
+enum-told-2 : tie.Need-enum-told-2
+enum-told-2 c = search needs
+
+returns-2 : tie.Need-returns-2
+returns-2 c = other-gap (logOf (filesIn (c .before .before .before .before .before .before .args .s .now))) (c .before .before .before .before .before .before .args .c .0) (c .before .before .before .if1 .left) (subst (PlaceIs _ _) (c .enum-told2 .given .1) (c .before .before .version-file .ensures))
+
+sub-t5 : tie.Need-sub-t5
+sub-t5 c = search needs
+
+start-for-requires : tie.Need-start-for-requires
+start-for-requires c κs = search needs
+
+returns-3 : tie.Need-returns-3
+returns-3 c =
+    let a = c .before .before .before .before .before .before .before .before .args in
+    let f = other-falling (logOf (filesIn (c .before .before .before .before .before .before .before .before .args .s .now))) (a .c .0) (c .before .before .before .before .before .if1 .left) (subst (PlaceIs _ _) (c .before .before .enum-told .given .1) (c .before .before .before .before .version-file .ensures) .1) in
+    start-onward (a .s .now) _ (a .c .0) _ (c .start-for .result) f (c .start-for .ensures)
+
+pub other-start-for-spec : {M : Type 1} → statement M
+other-start-for-spec =
+    tie.close
+    (tie.spec
+    returns
+    version-file-requires
+    enum-told
+    enum-told-2
+    returns-2
+    sub-t5
+    start-for-requires
+    returns-3)

@@ -1,0 +1,234 @@
+// The start from which a version is read, the marker, and the latest version, in a well-formed bundle.
+use fields::Fields;
+use fields::Kind;
+use fields::Name;
+use fields::Slot;
+use logs::Place;
+use names::Version;
+use text::Next;
+use values::Whole;
+ghost use mathlib.Core.Path.{_≡_};
+ghost use mathlib.Core.Bool.{true};
+ghost use Rattle.rules.specs.Numbers.{most};
+ghost use Rattle.rules.specs.Bundle.{bundle as rBundle};
+ghost use Rattle.rules.specs.Starts.{logOf, startAt, wayTo, otherWayTo, wellFormed};
+ghost use Rattle.rules.specs.Json.Values.{objectOf};
+ghost use Rattle.rules.specs.Actions.{inLine};
+ghost use Rattle.rules.specs.Marker.{markerVersion, marked as rMarked, climb as rClimb, latest as rLatest};
+ghost use Rattle.values.specs.Answers.{wholeIs};
+ghost use Rattle.bundle.specs.Files.{isSome, filesIn};
+ghost use Rattle.logs.specs.Logs.{PlaceIs};
+ghost use Rattle.actions.specs.Inside.{Inside};
+ghost use Rattle.starts.specs.Marks.{ObjectIs, formatIn, fits, markIs};
+ghost use Rattle.starts.specs.Ways.{StartIs};
+
+// 2^63 - 1, the highest version.
+const MOST: u64 = 9223372036854775807;
+
+const OPEN_BRACE: u8 = 0x7B;
+
+// How deep values nest inside of a line's object, and of the marker's.
+const IN_LINE: usize = 31;
+
+// ---- the marker's text
+
+// The fields of a text that is one object.
+fn object_in(t: &[u8], kind: Kind) -> Fields
+    ensures { λ r. ⌜ ObjectIs (objectOf inLine (now (t .entry))) (now (t .entry)) kind r ⌝ }
+{
+    let none = Fields {
+        good: false,
+        end: 0,
+        slots: [Slot {
+            seen: 0,
+            start: 0,
+            end: 0,
+        }; 8],
+    };
+    let Next::At(i) = text::skip_byte(t, text::skip_ws(t, 0), OPEN_BRACE) else {
+        return none;
+    };
+    let f = fields::scan(t, i, kind, IN_LINE);
+    if f.good {
+        let end = f.end;
+        if text::skip_ws(t, end) < t.len() {
+            return none;
+        }
+        return f;
+    }
+    none
+}
+
+// Whether a format is missing, null or "json".
+fn format_fits(t: &[u8], slot: Slot) -> bool
+    requires { ⌜ Inside (now t) slot ⌝ }
+    ensures { λ r. ⌜ r ≡ fits (formatIn (now (t .entry)) slot) ⌝ }
+{
+    let start = slot.start;
+    let end = slot.end;
+    if slot.seen == 0 {
+        return true;
+    }
+    if slot.seen != 1 {
+        return false;
+    }
+    if values::is_null(&t[start..end]) {
+        return true;
+    }
+    let Name::Of(n) = fields::read_name(t, start) else {
+        return false;
+    };
+    if n.end != end {
+        return false;
+    }
+    fields::name_is(t, n, b"json")
+}
+
+// The version of a marker with this text.
+pub fn marker_version(t: &[u8]) -> Whole
+    ensures { λ r. ⌜ r ≡ wholeIs (markerVersion (now (t .entry))) ⌝ }
+{
+    let f = object_in(t, Kind::Marker);
+    if f.good {
+        let version = f.slots[0];
+        let parts = f.slots[1];
+        let format = f.slots[2];
+        if parts.seen != 0 {
+            return Whole::NotWhole;
+        }
+        if format_fits(t, format) {
+            return actions::whole_in(t, version);
+        }
+    }
+    Whole::NotWhole
+}
+
+// ---- starts
+
+// Whether a body has an object and every line of it is well formed.
+pub fn well_formed(body: &[u8]) -> bool
+    ensures { λ r. ⌜ r ≡ wellFormed (now (body .entry)) ⌝ }
+{
+    let mut from = 0;
+    let mut any = false;
+    while from < body.len() {
+        let end = lines::line_end(body, from, body.len());
+        if from < end {
+            if actions::is_action(&body[from..end]) {
+                any = true;
+                from = end + 1;
+            } else {
+                return false;
+            }
+        } else {
+            from = end + 1;
+        }
+    }
+    any
+}
+
+// Where the checkpoint at v stands, if it is a start.
+pub fn start_at(s: &[u8], v: Version) -> Place
+    requires { ⌜ isSome (rBundle (now s)) ≡ true ⌝ }
+    ensures { λ r. ⌜ PlaceIs (now (s .entry)) (startAt (logOf (filesIn (now (s .entry)))) (v .0)) r ⌝ }
+{
+    let Place::At(k) = logs::checkpoint_file(s, v) else {
+        return Place::Nowhere;
+    };
+    if well_formed(bundle::body_in(s, k)) {
+        return Place::At(k);
+    }
+    Place::Nowhere
+}
+
+// From where a version is read: from version file 0, from the checkpoint of entry k at a version, or from nowhere.
+pub enum Start {
+    Zero,
+    Checkpoint(usize, Version),
+    NoStart,
+}
+
+// The highest start that reaches v, on equal versions the checkpoint.
+pub fn start_for(s: &[u8], v: Version) -> Start
+    requires { ⌜ isSome (rBundle (now s)) ≡ true ⌝ }
+    ensures { λ r. ⌜ StartIs (now (s .entry)) (v .0) (wayTo (logOf (filesIn (now (s .entry)))) (v .0)) r ⌝ }
+{
+    let mut w = v.0;
+    loop {
+        if let Place::At(k) = start_at(s, Version(w)) {
+            return Start::Checkpoint(k, Version(w));
+        }
+        if w == 0 {
+            return Start::Zero;
+        }
+        let Place::At(_) = logs::version_file(s, Version(w)) else {
+            return Start::NoStart;
+        };
+        w -= 1;
+    }
+}
+
+// The highest start that reaches c, other than the checkpoint at c.
+pub fn other_start_for(s: &[u8], c: Version) -> Start
+    requires { ⌜ isSome (rBundle (now s)) ≡ true ⌝ }
+    ensures { λ r. ⌜ StartIs (now (s .entry)) (c .0) (otherWayTo (logOf (filesIn (now (s .entry)))) (c .0)) r ⌝ }
+{
+    if c.0 == 0 {
+        return Start::Zero;
+    }
+    let Place::At(_) = logs::version_file(s, c) else {
+        return Start::NoStart;
+    };
+    start_for(s, Version(c.0 - 1))
+}
+
+// ---- the latest version
+
+// The version that the marker names, if the marker is usable.
+pub enum Mark {
+    At(Version),
+    Nothing,
+}
+
+// What the marker of the log names.
+pub fn marked(s: &[u8]) -> Mark
+    requires { ⌜ isSome (rBundle (now s)) ≡ true ⌝ }
+    ensures { λ r. ⌜ r ≡ markIs (rMarked (logOf (filesIn (now (s .entry))))) ⌝ }
+{
+    let Place::At(m) = logs::marker_file(s) else {
+        return Mark::Nothing;
+    };
+    let Whole::Number(n) = marker_version(bundle::body_in(s, m)) else {
+        return Mark::Nothing;
+    };
+    match start_at(s, Version(n)) {
+        Place::At(_) => Mark::At(Version(n)),
+        Place::Nowhere => Mark::Nothing,
+    }
+}
+
+// Up from v as far as there is no gap.
+fn climb(s: &[u8], v: Version) -> Version
+    requires { ⌜ isSome (rBundle (now s)) ≡ true ⌝ }
+    ensures { λ r. ⌜ r .0 ≡ rClimb most (logOf (filesIn (now (s .entry)))) (v .0) ⌝ }
+{
+    let mut w = v.0;
+    while w < MOST {
+        let Place::At(_) = logs::version_file(s, Version(w + 1)) else {
+            return Version(w);
+        };
+        w += 1;
+    }
+    Version(w)
+}
+
+// The latest version: up from what the marker names, or from version 0.
+pub fn latest(s: &[u8]) -> Version
+    requires { ⌜ isSome (rBundle (now s)) ≡ true ⌝ }
+    ensures { λ r. ⌜ r .0 ≡ rLatest (logOf (filesIn (now (s .entry)))) ⌝ }
+{
+    match marked(s) {
+        Mark::At(v) => climb(s, v),
+        Mark::Nothing => climb(s, Version(0)),
+    }
+}
