@@ -7,7 +7,7 @@ use lib.ListN.{length}
 use Rattle.rules.specs.Bytes.{ascii, same, holds, distinct}
 use Rattle.fields.specs.Kinds.{namesOf}
 use Rattle.fields.specs.declared.names.Kind.{Kind}
-use Rattle.fields.specs.declared.names.Kind.the-variants.{Line, Add, Remove, Protocol, MetaData, Marker, State, Manifest, Bounds}
+use Rattle.fields.specs.declared.names.Kind.the-variants.{Line, Add, Remove, Protocol, MetaData, Marker, State, Manifest, Bounds, Condition}
 
 pub names-few : (k : Kind) → length (namesOf k) ≤ 8
 unfolding namesOf
@@ -20,6 +20,7 @@ names-few Marker = omega arith
 names-few State = omega arith
 names-few Manifest = omega arith
 names-few Bounds = omega arith
+names-few Condition = omega arith
 
 pub names-distinct : (k : Kind) → distinct (namesOf k) ≡ true
 unfolding namesOf ascii same holds distinct
@@ -32,3 +33,4 @@ names-distinct Marker = refl
 names-distinct State = refl
 names-distinct Manifest = refl
 names-distinct Bounds = refl
+names-distinct Condition = refl

@@ -4,7 +4,7 @@ use mathlib.Core.List.{List, [], _∷_}
 use Prim.Native.Nat.{ℕ, suc}
 use Rattle.rules.specs.Bytes.{Bytes, ascii, same}
 use Rattle.fields.specs.declared.names.Kind.{Kind}
-use Rattle.fields.specs.declared.names.Kind.the-variants.{Line, Add, Remove, Protocol, MetaData, Marker, State, Manifest, Bounds}
+use Rattle.fields.specs.declared.names.Kind.the-variants.{Line, Add, Remove, Protocol, MetaData, Marker, State, Manifest, Bounds, Condition}
 
 unfoldable pub namesOf : Kind → List Bytes
 namesOf Line = ascii "add" ∷ ascii "remove" ∷ ascii "protocol" ∷ ascii "metaData" ∷ ascii "mergeskip" ∷ []
@@ -16,6 +16,7 @@ namesOf Marker = ascii "version" ∷ ascii "parts" ∷ ascii "format" ∷ []
 namesOf State = ascii "manifests" ∷ []
 namesOf Manifest = ascii "path" ∷ ascii "partitionBounds" ∷ []
 namesOf Bounds = ascii "min" ∷ ascii "max" ∷ []
+namesOf Condition = ascii "column" ∷ ascii "as" ∷ ascii "op" ∷ ascii "value" ∷ []
 
 -- the place of the first that is the name; their number where none is
 unfoldable pub seek : Bytes → List Bytes → ℕ

@@ -15,6 +15,7 @@ pub enum Kind {
     State,
     Manifest,
     Bounds,
+    Condition,
 }
 
 // A name as it stands: behind its opening quote, behind its closing quote, and whether it is spelled as the bytes that it stands for.
@@ -164,6 +165,22 @@ fn which_bounds(s: &[u8], n: Spell) -> usize
     if name_is(s, n, b"max") { 1 } else { 2 }
 }
 
+fn which_condition(s: &[u8], n: Spell) -> usize
+    requires { ⌜ Named (now s) n ⌝ }
+    ensures { λ r. ⌜ r ≡ seek (nameIn (now (s .entry)) n) (namesOf Kind.Condition) ⌝ }
+{
+    if name_is(s, n, b"column") {
+        return 0;
+    }
+    if name_is(s, n, b"as") {
+        return 1;
+    }
+    if name_is(s, n, b"op") {
+        return 2;
+    }
+    if name_is(s, n, b"value") { 3 } else { 4 }
+}
+
 // The place of the name among those of the kind; their number where it is none of them.
 pub fn which(s: &[u8], n: Spell, kind: Kind) -> usize
     requires { ⌜ Named (now s) n ⌝ }
@@ -179,5 +196,6 @@ pub fn which(s: &[u8], n: Spell, kind: Kind) -> usize
         Kind::State => which_state(s, n),
         Kind::Manifest => which_manifest(s, n),
         Kind::Bounds => which_bounds(s, n),
+        Kind::Condition => which_condition(s, n),
     }
 }

@@ -67,6 +67,12 @@ enum-told-9 c = search needs
 which-bounds-requires : tie.Need-which-bounds-requires
 which-bounds-requires c κs = search needs
 
+enum-told-10 : tie.Need-enum-told-10
+enum-told-10 c = search needs
+
+which-condition-requires : tie.Need-which-condition-requires
+which-condition-requires c κs = search needs
+
 returns : tie.Need-returns
 returns c = told (nameIn (c .before .before .before .before .args .s .now) (c .before .before .before .before .args .n)) (c .before .enum-told .given .1) (c .which-line .ensures)
 
@@ -94,6 +100,9 @@ returns-8 c = told (nameIn (c .before .before .before .before .args .s .now) (c 
 returns-9 : tie.Need-returns-9
 returns-9 c = told (nameIn (c .before .before .before .before .args .s .now) (c .before .before .before .before .args .n)) (c .before .enum-told9 .given .1) (c .which-bounds .ensures)
 
+returns-10 : tie.Need-returns-10
+returns-10 c = told (nameIn (c .before .before .before .before .args .s .now) (c .before .before .before .before .args .n)) (c .before .enum-told10 .given .1) (c .which-condition .ensures)
+
 pub which-spec : {M : Type 1} → statement M
 which-spec =
     tie.close
@@ -116,6 +125,8 @@ which-spec =
     which-manifest-requires
     enum-told-9
     which-bounds-requires
+    enum-told-10
+    which-condition-requires
     returns
     returns-2
     returns-3
@@ -124,4 +135,5 @@ which-spec =
     returns-6
     returns-7
     returns-8
-    returns-9)
+    returns-9
+    returns-10)
