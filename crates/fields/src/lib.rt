@@ -15,7 +15,9 @@ pub use names::name_is;
 pub use names::which;
 pub use notes::Fields;
 pub use notes::Slot;
+pub use objects::Met;
 pub use objects::distinct_names;
+pub use objects::read_member;
 pub use objects::scan;
 
 pub const QUOTE: u8 = 0x22;

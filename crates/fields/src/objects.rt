@@ -58,7 +58,7 @@ pub enum Met {
 }
 
 // The member at `at`, whose value nests at most `depth` deep.
-fn read_member(s: &[u8], at: usize, depth: usize) -> Met
+pub fn read_member(s: &[u8], at: usize, depth: usize) -> Met
     requires { ⌜ at ≤ length (now s) ⌝ }
     ensures { λ r. ⌜ MetIs (member (rValue depth) (drop at (now (s .entry)))) (now (s .entry)) at r ⌝ }
 {

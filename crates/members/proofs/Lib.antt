@@ -1,0 +1,2 @@
+-- Laws of members by their names.
+pub mod Going
