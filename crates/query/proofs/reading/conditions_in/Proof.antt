@@ -1,0 +1,141 @@
+-- `conditions_in` meets its contract. The loop holds the conditions that went by, and what is left gets shorter.
+use Rattle.query.proofs.Gathering.{Going, opened-neither, opened-closed, going-start, going-none, going-full, going-neither, going-closed, going-more}
+use Rattle.query.specs.declared.conditions.Condition.{Condition}
+use Rattle.query.specs.Reading.{fewOf, Array}
+use Rattle.query.specs.Conditions.{conditionRead, ElementIs}
+use Rattle.json.specs.Follows.{Follows}
+use Rattle.rules.specs.Json.Values.{list}
+use lib.ListN.{length, drop, replicate}
+use Prim.Native.Nat.{_+_, _-_, _≤_, _<_}
+use mathlib.Core.Path.{sym, subst}
+use native.Mathlib.Omega.{arith}
+use borrow.Author.Needs.{needs}
+use Rattle.query.proofs.reading.conditions_in.Statement.{statement}
+use Rattle.query.proofs.reading.conditions_in.Tie as tie
+
+abbrev Inv-loop : tie.InvT-loop
+Inv-loop q at conditions₀ first i₀ n₀ conditions i n = Going q at i n conditions
+
+abbrev μ-loop : tie.MeasureT-loop
+μ-loop q at conditions₀ first i₀ n₀ conditions i n = length q - i
+
+no-condition-requires : tie.Need-no-condition-requires Inv-loop μ-loop
+no-condition-requires c κs = search needs
+
+opening-requires : tie.Need-opening-requires Inv-loop μ-loop
+opening-requires c κs = search needs
+
+enum-told : tie.Need-enum-told Inv-loop μ-loop
+enum-told c = search needs
+
+enum-known-end : tie.Need-enum-known-end Inv-loop μ-loop
+enum-known-end c = search needs
+
+enum-known-first : tie.Need-enum-known-first Inv-loop μ-loop
+enum-known-first c = search needs
+
+loop-holds : tie.Need-loop-holds Inv-loop μ-loop
+loop-holds c = subst (λ (x : Condition). Going (c .before .before .before .before .before .before .args .q .now) (c .before .before .before .before .before .before .args .at) (c .before .first .given .0 .0) 0 (replicate 8 x)) (sym (c .before .before .before .before .no-condition .ensures)) (going-start (c .before .before .before .before .before .before .args .q .now) (c .before .before .before .before .before .before .args .at) (c .before .first .given .0 .0) (subst (Follows _ _ _) (c .before .first .given .1) (c .before .before .before .opening .ensures)))
+
+returns : tie.Need-returns Inv-loop μ-loop
+returns c = going-full (c .before .before .before .before .before .before .before .before .args .q .now) (c .before .before .before .before .before .before .before .before .args .at) (c .before .loop .i) (c .before .loop .n) (c .before .loop .conditions) (c .before .loop .inv) (c .if1 .taken)
+
+condition-at-requires : tie.Need-condition-at-requires Inv-loop μ-loop
+condition-at-requires c κs = c .before .loop .inv .passed .within
+
+enum-known-c : tie.Need-enum-known-c Inv-loop μ-loop
+enum-known-c c = search needs
+
+enum-told-2 : tie.Need-enum-told-2 Inv-loop μ-loop
+enum-told-2 c = search needs
+
+returns-2 : tie.Need-returns-2 Inv-loop μ-loop
+returns-2 c = going-none (c .before .before .before .before .before .before .before .before .before .before .before .args .q .now) (c .before .before .before .before .before .before .before .before .before .before .before .args .at) (c .before .before .before .before .loop .i) (c .before .before .before .before .loop .n) (c .before .before .before .before .loop .conditions) (c .before .before .before .before .loop .inv) (subst (ElementIs _ _ _) (c .enum-told2 .given .1) (c .before .before .condition-at .ensures))
+
+mul-conditions : tie.Need-mul-conditions Inv-loop μ-loop
+mul-conditions c =
+    let few : c .before .before .before .before .before .loop .n ≤ 8 = c .before .before .before .before .before .loop .inv .held .sounds .few in
+    search needs
+
+array-set-from-conditions : tie.Need-array-set-from-conditions Inv-loop μ-loop
+array-set-from-conditions c =
+    let few : c .before .before .before .before .before .loop .n ≤ 8 = c .before .before .before .before .before .loop .inv .held .sounds .few in
+    search needs
+
+add-n : tie.Need-add-n Inv-loop μ-loop
+add-n c =
+    let few : c .before .before .before .before .before .loop .n ≤ 8 = c .before .before .before .before .before .loop .inv .held .sounds .few in
+    search needs
+
+closing-requires : tie.Need-closing-requires Inv-loop μ-loop
+closing-requires c κs = (subst (ElementIs _ _ _) (c .before .c .given .1) (c .before .before .before .condition-at .ensures)) .within
+
+enum-told-3 : tie.Need-enum-told-3 Inv-loop μ-loop
+enum-told-3 c = search needs
+
+returns-3 : tie.Need-returns-3 Inv-loop μ-loop
+returns-3 c = going-neither (c .before .before .before .before .before .before .before .before .before .before .before .before .before .before .before .args .q .now) (c .before .before .before .before .before .before .before .before .before .before .before .before .before .before .before .args .at) (c .before .before .before .before .before .before .before .before .loop .i) (c .before .before .before .before .before .before .before .before .loop .n) (c .before .before .before .before .before .before .before .before .loop .conditions) (c .before .before .before .before .before .before .before .before .loop .inv) (c .before .before .before .before .c .given .0 .0) (c .before .before .before .before .c .given .0 .1 .0) (subst (ElementIs _ _ _) (c .before .before .before .before .c .given .1) (c .before .before .before .before .before .before .condition-at .ensures)) (subst (Follows _ _ _) (c .enum-told3 .given .1) (c .before .before .closing .ensures))
+
+enum-known-end-2 : tie.Need-enum-known-end-2 Inv-loop μ-loop
+enum-known-end-2 c = search needs
+
+returns-4 : tie.Need-returns-4 Inv-loop μ-loop
+returns-4 c =
+    let few : c .before .before .before .before .before .before .before .before .before .loop .n ≤ 8 = c .before .before .before .before .before .before .before .before .before .loop .inv .held .sounds .few in
+    let room : c .before .before .before .before .before .before .before .before .before .loop .n < 8 = omega arith in
+    going-closed (c .before .before .before .before .before .before .before .before .before .before .before .before .before .before .before .before .args .q .now) (c .before .before .before .before .before .before .before .before .before .before .before .before .before .before .before .before .args .at) (c .before .before .before .before .before .before .before .before .before .loop .i) (c .before .before .before .before .before .before .before .before .before .loop .n) (c .before .before .before .before .before .before .before .before .before .loop .conditions) (c .before .before .before .before .before .before .before .before .before .loop .inv) (c .before .before .before .before .before .c .given .0 .0) (c .before .before .before .before .before .c .given .0 .1 .0) (subst (ElementIs _ _ _) (c .before .before .before .before .before .c .given .1) (c .before .before .before .before .before .before .before .condition-at .ensures)) room (c .before .end2 .given .0 .0) (subst (Follows _ _ _) (c .before .end2 .given .1) (c .before .before .before .closing .ensures))
+
+enum-known-j : tie.Need-enum-known-j Inv-loop μ-loop
+enum-known-j c = search needs
+
+loop-less : tie.Need-loop-less Inv-loop μ-loop
+loop-less c =
+    let st = (subst (ElementIs _ _ _) (c .before .before .before .before .before .c .given .1) (c .before .before .before .before .before .before .before .condition-at .ensures)) in
+    let low : (c .before .before .before .before .before .before .before .before .before .loop .i) + 1 ≤ c .before .before .before .before .before .c .given .0 .1 .0 = st .from in
+    let f = (subst (Follows _ _ _) (c .before .j .given .1) (c .before .before .before .closing .ensures)) in
+    let after : (c .before .before .before .before .before .c .given .0 .1 .0) + 1 ≤ c .before .j .given .0 .0 = f .1 in
+    let within : c .before .j .given .0 .0 ≤ length (c .before .before .before .before .before .before .before .before .before .before .before .before .before .before .before .before .args .q .now) = f .2 in
+    omega arith
+
+loop-again : tie.Need-loop-again Inv-loop μ-loop
+loop-again c =
+    let few : c .before .before .before .before .before .before .before .before .before .loop .n ≤ 8 = c .before .before .before .before .before .before .before .before .before .loop .inv .held .sounds .few in
+    let room : c .before .before .before .before .before .before .before .before .before .loop .n < 8 = omega arith in
+    going-more (c .before .before .before .before .before .before .before .before .before .before .before .before .before .before .before .before .args .q .now) (c .before .before .before .before .before .before .before .before .before .before .before .before .before .before .before .before .args .at) (c .before .before .before .before .before .before .before .before .before .loop .i) (c .before .before .before .before .before .before .before .before .before .loop .n) (c .before .before .before .before .before .before .before .before .before .loop .conditions) (c .before .before .before .before .before .before .before .before .before .loop .inv) (c .before .before .before .before .before .c .given .0 .0) (c .before .before .before .before .before .c .given .0 .1 .0) (subst (ElementIs _ _ _) (c .before .before .before .before .before .c .given .1) (c .before .before .before .before .before .before .before .condition-at .ensures)) room (c .before .j .given .0 .0) (subst (Follows _ _ _) (c .before .j .given .1) (c .before .before .before .closing .ensures))
+
+returns-5 : tie.Need-returns-5 Inv-loop μ-loop
+returns-5 c = opened-neither (c .before .before .before .before .before .args .q .now) (c .before .before .before .before .before .args .at) (subst (Follows _ _ _) (c .enum-told .given .1) (c .before .before .opening .ensures))
+
+returns-6 : tie.Need-returns-6 Inv-loop μ-loop
+returns-6 c = subst (λ (x : Condition). Array (fewOf (list conditionRead 0x5D (drop (c .before .before .before .before .before .before .args .at) (c .before .before .before .before .before .before .args .q .now)))) (c .before .before .before .before .before .before .args .q .now) (c .before .end .given .0 .0) 0 (replicate 8 x)) (sym (c .before .before .before .before .no-condition .ensures)) (opened-closed (c .before .before .before .before .before .before .args .q .now) (c .before .before .before .before .before .before .args .at) (c .before .end .given .0 .0) (subst (Follows _ _ _) (c .before .end .given .1) (c .before .before .before .opening .ensures)))
+
+pub conditions-in-spec : {M : Type 1} → statement M
+conditions-in-spec =
+    tie.close
+    (tie.spec
+    Inv-loop
+    μ-loop
+    no-condition-requires
+    opening-requires
+    enum-told
+    enum-known-end
+    enum-known-first
+    loop-holds
+    returns
+    condition-at-requires
+    enum-known-c
+    enum-told-2
+    returns-2
+    mul-conditions
+    array-set-from-conditions
+    add-n
+    closing-requires
+    enum-told-3
+    returns-3
+    enum-known-end-2
+    returns-4
+    enum-known-j
+    loop-less
+    loop-again
+    returns-5
+    returns-6)

@@ -1,0 +1,105 @@
+-- `read` meets its contract: each test of the code is one of the rules', and all else is answered alike.
+use Rattle.query.proofs.Fusing.{behind-none, behind-more, behind-apart, behind-twice, query-long, query-no-array, query-array}
+use Rattle.query.specs.Reading.{columnsOf, fewOf, GatheredBy, QueryIs}
+use Rattle.query.specs.Conditions.{conditionRead}
+use Rattle.text.proofs.Places.{here, ended}
+use Rattle.text.specs.Answers.{Answer}
+use Rattle.rules.specs.Query.{mostQuery}
+use Rattle.rules.specs.Json.Values.{list}
+use Rattle.rules.specs.Json.Text.{byte}
+use lib.ListN.{length, drop}
+use borrow.Author.Tests.{le-leb, lt-leb, not-true, not-false}
+use mathlib.Core.Bool.{Bool}
+use mathlib.Core.Path.{refl, sym, ap, _∙_, subst}
+use borrow.Author.Needs.{needs}
+use Rattle.query.proofs.reading.read.Statement.{statement}
+use Rattle.query.proofs.reading.read.Tie as tie
+
+malformed-requires : tie.Need-malformed-requires
+malformed-requires c κs = search needs
+
+returns : tie.Need-returns
+unfolding mostQuery
+returns c = subst (QueryIs (c .before .before .before .args .q .now)) (sym (c .malformed .ensures)) (query-long (c .before .before .before .args .q .now) (lt-leb (length (c .before .before .before .args .q .now)) 4096 (c .before .if1 .taken)), refl)
+
+skip-ws-requires : tie.Need-skip-ws-requires
+skip-ws-requires c κs = search needs
+
+skip-byte-requires : tie.Need-skip-byte-requires
+skip-byte-requires c κs = c .skip-ws .ensures .within
+
+enum-known-at : tie.Need-enum-known-at
+enum-known-at c = search needs
+
+enum-told : tie.Need-enum-told
+enum-told c = search needs
+
+malformed-requires-2 : tie.Need-malformed-requires-2
+malformed-requires-2 c κs = search needs
+
+returns-2 : tie.Need-returns-2
+unfolding mostQuery
+returns-2 c = subst (QueryIs (c .before .before .before .before .before .before .before .args .q .now)) (sym (c .malformed2 .ensures)) (query-no-array (c .before .before .before .before .before .before .before .args .q .now) (le-leb (length (c .before .before .before .before .before .before .before .args .q .now)) 4096 (c .before .before .before .before .before .if1 .left)) (ap (byte 0x5B) (c .before .before .before .before .skip-ws .ensures .left) ∙ subst (Answer _ _ _) (c .before .enum-told .given .1) (c .before .before .before .skip-byte .ensures)), refl)
+
+conditions-in-requires : tie.Need-conditions-in-requires
+conditions-in-requires c κs = (subst (Answer _ _ _) (c .before .at .given .1) (c .before .before .before .skip-byte .ensures)) .2
+
+malformed-requires-3 : tie.Need-malformed-requires-3
+malformed-requires-3 c κs = search needs
+
+returns-3 : tie.Need-returns-3
+unfolding mostQuery
+returns-3 c = subst (QueryIs (c .before .before .before .before .before .before .before .before .before .before .before .args .q .now)) (sym (c .malformed3 .ensures)) (query-array (c .before .before .before .before .before .before .before .before .before .before .before .args .q .now) (le-leb (length (c .before .before .before .before .before .before .before .before .before .before .before .args .q .now)) 4096 (c .before .before .before .before .before .before .before .before .before .if1 .left)) (ap (byte 0x5B) (c .before .before .before .before .before .before .before .before .skip-ws .ensures .left) ∙ (subst (Answer _ _ _) (c .before .before .before .before .before .at .given .1) (c .before .before .before .before .before .before .before .skip-byte .ensures)) .0) ∙ behind-none (list conditionRead 0x5D (drop (c .before .before .before .before .before .at .given .0 .0) (c .before .before .before .before .before .before .before .before .before .before .before .args .q .now))) (subst (λ (b : Bool). GatheredBy (fewOf (list conditionRead 0x5D (drop (c .before .before .before .before .before .at .given .0 .0) (c .before .before .before .before .before .before .before .before .before .before .before .args .q .now)))) (c .before .before .before .before .before .before .before .before .before .before .before .args .q .now) b (c .before .before .before .conditions-in .result .end) (c .before .before .before .conditions-in .result .count) (c .before .before .before .conditions-in .result .conditions)) (not-true (c .before .before .before .conditions-in .result .good) (c .before .if2 .taken)) (c .before .before .before .conditions-in .ensures)), refl)
+
+skip-ws-requires-2 : tie.Need-skip-ws-requires-2
+skip-ws-requires-2 c κs = let a = (subst (λ (b : Bool). GatheredBy (fewOf (list conditionRead 0x5D (drop (c .before .before .before .before .at .given .0 .0) (c .before .before .before .before .before .before .before .before .before .before .args .q .now)))) (c .before .before .before .before .before .before .before .before .before .before .args .q .now) b (c .before .before .conditions-in .result .end) (c .before .before .conditions-in .result .count) (c .before .before .conditions-in .result .conditions)) (not-false (c .before .before .conditions-in .result .good) (c .if2 .left)) (c .before .before .conditions-in .ensures)) in a .within
+
+malformed-requires-4 : tie.Need-malformed-requires-4
+malformed-requires-4 c κs = search needs
+
+returns-4 : tie.Need-returns-4
+unfolding mostQuery
+returns-4 c =
+    let a = (subst (λ (b : Bool). GatheredBy (fewOf (list conditionRead 0x5D (drop (c .before .before .before .before .before .before .before .at .given .0 .0) (c .before .before .before .before .before .before .before .before .before .before .before .before .before .args .q .now)))) (c .before .before .before .before .before .before .before .before .before .before .before .before .before .args .q .now) b (c .before .before .before .before .before .conditions-in .result .end) (c .before .before .before .before .before .conditions-in .result .count) (c .before .before .before .before .before .conditions-in .result .conditions)) (not-false (c .before .before .before .before .before .conditions-in .result .good) (c .before .before .before .if2 .left)) (c .before .before .before .before .before .conditions-in .ensures)) in
+    subst (QueryIs (c .before .before .before .before .before .before .before .before .before .before .before .before .before .args .q .now)) (sym (c .malformed4 .ensures)) (query-array (c .before .before .before .before .before .before .before .before .before .before .before .before .before .args .q .now) (le-leb (length (c .before .before .before .before .before .before .before .before .before .before .before .before .before .args .q .now)) 4096 (c .before .before .before .before .before .before .before .before .before .before .before .if1 .left)) (ap (byte 0x5B) (c .before .before .before .before .before .before .before .before .before .before .skip-ws .ensures .left) ∙ (subst (Answer _ _ _) (c .before .before .before .before .before .before .before .at .given .1) (c .before .before .before .before .before .before .before .before .before .skip-byte .ensures)) .0) ∙ behind-more (list conditionRead 0x5D (drop (c .before .before .before .before .before .before .before .at .given .0 .0) (c .before .before .before .before .before .before .before .before .before .before .before .before .before .args .q .now))) (a .all) (c .before .before .skip-ws2 .ensures .left ∙ here (c .before .before .before .before .before .before .before .before .before .before .before .before .before .args .q .now) (c .before .before .skip-ws2 .result) (c .before .if3 .taken)), refl)
+
+columns-differ-requires : tie.Need-columns-differ-requires
+columns-differ-requires c κs = let a = (subst (λ (b : Bool). GatheredBy (fewOf (list conditionRead 0x5D (drop (c .before .before .before .before .before .before .before .at .given .0 .0) (c .before .before .before .before .before .before .before .before .before .before .before .before .before .args .q .now)))) (c .before .before .before .before .before .before .before .before .before .before .before .before .before .args .q .now) b (c .before .before .before .before .before .conditions-in .result .end) (c .before .before .before .before .before .conditions-in .result .count) (c .before .before .before .before .before .conditions-in .result .conditions)) (not-false (c .before .before .before .before .before .conditions-in .result .good) (c .before .before .before .if2 .left)) (c .before .before .before .before .before .conditions-in .ensures)) in a .held .sounds
+
+returns-5 : tie.Need-returns-5
+unfolding mostQuery columnsOf
+returns-5 c =
+    let a = (subst (λ (b : Bool). GatheredBy (fewOf (list conditionRead 0x5D (drop (c .before .before .before .before .before .before .before .before .before .at .given .0 .0) (c .before .before .before .before .before .before .before .before .before .before .before .before .before .before .before .args .q .now)))) (c .before .before .before .before .before .before .before .before .before .before .before .before .before .before .before .args .q .now) b (c .before .before .before .before .before .before .before .conditions-in .result .end) (c .before .before .before .before .before .before .before .conditions-in .result .count) (c .before .before .before .before .before .before .before .conditions-in .result .conditions)) (not-false (c .before .before .before .before .before .before .before .conditions-in .result .good) (c .before .before .before .before .before .if2 .left)) (c .before .before .before .before .before .before .before .conditions-in .ensures)) in
+    record { held = a .held; says = query-array (c .before .before .before .before .before .before .before .before .before .before .before .before .before .before .before .args .q .now) (le-leb (length (c .before .before .before .before .before .before .before .before .before .before .before .before .before .before .before .args .q .now)) 4096 (c .before .before .before .before .before .before .before .before .before .before .before .before .before .if1 .left)) (ap (byte 0x5B) (c .before .before .before .before .before .before .before .before .before .before .before .before .skip-ws .ensures .left) ∙ (subst (Answer _ _ _) (c .before .before .before .before .before .before .before .before .before .at .given .1) (c .before .before .before .before .before .before .before .before .before .before .before .skip-byte .ensures)) .0) ∙ behind-apart (list conditionRead 0x5D (drop (c .before .before .before .before .before .before .before .before .before .at .given .0 .0) (c .before .before .before .before .before .before .before .before .before .before .before .before .before .before .before .args .q .now))) (a .all) (c .before .before .before .before .skip-ws2 .ensures .left ∙ ended (c .before .before .before .before .before .before .before .before .before .before .before .before .before .before .before .args .q .now) (c .before .before .before .before .skip-ws2 .result) (c .before .before .before .if3 .left)) (sym (c .before .columns-differ .ensures) ∙ c .if4 .taken) }
+
+malformed-requires-5 : tie.Need-malformed-requires-5
+malformed-requires-5 c κs = search needs
+
+returns-6 : tie.Need-returns-6
+unfolding mostQuery columnsOf
+returns-6 c =
+    let a = (subst (λ (b : Bool). GatheredBy (fewOf (list conditionRead 0x5D (drop (c .before .before .before .before .before .before .before .before .before .before .at .given .0 .0) (c .before .before .before .before .before .before .before .before .before .before .before .before .before .before .before .before .args .q .now)))) (c .before .before .before .before .before .before .before .before .before .before .before .before .before .before .before .before .args .q .now) b (c .before .before .before .before .before .before .before .before .conditions-in .result .end) (c .before .before .before .before .before .before .before .before .conditions-in .result .count) (c .before .before .before .before .before .before .before .before .conditions-in .result .conditions)) (not-false (c .before .before .before .before .before .before .before .before .conditions-in .result .good) (c .before .before .before .before .before .before .if2 .left)) (c .before .before .before .before .before .before .before .before .conditions-in .ensures)) in
+    subst (QueryIs (c .before .before .before .before .before .before .before .before .before .before .before .before .before .before .before .before .args .q .now)) (sym (c .malformed5 .ensures)) (query-array (c .before .before .before .before .before .before .before .before .before .before .before .before .before .before .before .before .args .q .now) (le-leb (length (c .before .before .before .before .before .before .before .before .before .before .before .before .before .before .before .before .args .q .now)) 4096 (c .before .before .before .before .before .before .before .before .before .before .before .before .before .before .if1 .left)) (ap (byte 0x5B) (c .before .before .before .before .before .before .before .before .before .before .before .before .before .skip-ws .ensures .left) ∙ (subst (Answer _ _ _) (c .before .before .before .before .before .before .before .before .before .before .at .given .1) (c .before .before .before .before .before .before .before .before .before .before .before .before .skip-byte .ensures)) .0) ∙ behind-twice (list conditionRead 0x5D (drop (c .before .before .before .before .before .before .before .before .before .before .at .given .0 .0) (c .before .before .before .before .before .before .before .before .before .before .before .before .before .before .before .before .args .q .now))) (a .all) (c .before .before .before .before .before .skip-ws2 .ensures .left ∙ ended (c .before .before .before .before .before .before .before .before .before .before .before .before .before .before .before .before .args .q .now) (c .before .before .before .before .before .skip-ws2 .result) (c .before .before .before .before .if3 .left)) (sym (c .before .before .columns-differ .ensures) ∙ c .before .if4 .left), refl)
+
+pub read-spec : {M : Type 1} → statement M
+read-spec =
+    tie.close
+    (tie.spec
+    malformed-requires
+    returns
+    skip-ws-requires
+    skip-byte-requires
+    enum-known-at
+    enum-told
+    malformed-requires-2
+    returns-2
+    conditions-in-requires
+    malformed-requires-3
+    returns-3
+    skip-ws-requires-2
+    malformed-requires-4
+    returns-4
+    columns-differ-requires
+    returns-5
+    malformed-requires-5
+    returns-6)
