@@ -6,3 +6,7 @@ pub mod Bounded
 pub mod Gathering
 pub mod Tabling
 pub mod Stating
+pub mod Excluding
+pub mod Noting
+pub mod Listing
+pub mod Answering

@@ -4,3 +4,5 @@ pub mod Objects
 pub mod Ranges
 pub mod Tables
 pub mod States
+pub mod Verdicts
+pub mod Rooms

@@ -34,6 +34,9 @@ pub record Columns (t : Text) (at : ℕ) (columns : Table) : Type 0 where
   pub each : columnsIn ms ≡ some columns
   pub within : at ≤ length t
 
+abbrev pub HasColumns : Text → (at : ℕ) → Type 0
+HasColumns t at = (columns : Table) × Columns t at columns
+
 pub record Standing (o : Option Table) (t : Text) (at : ℕ) : Type 0 where
   pub columns : Table
   pub says : o ≡ some columns
