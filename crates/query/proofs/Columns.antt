@@ -22,11 +22,14 @@ module _ (q : Text) (n : ℕ) (cs : List Condition) (l : n ≤ length cs) where
   unfolding conditionsOf
   conditions-length = length-map (take n cs) (conditionOf q) ∙ length-take-le n cs l
 
-  conditions-here : (k : ℕ) → k < n → drop k (conditionsOf q n cs) ≡ conditionOf q (getD cs k noCondition) ∷ drop (k + 1) (conditionsOf q n cs)
+  pub conditions-here : (k : ℕ) → k < n → drop k (conditionsOf q n cs) ≡ conditionOf q (getD cs k noCondition) ∷ drop (k + 1) (conditionsOf q n cs)
   unfolding conditionsOf
   conditions-here k h =
       drop-here (conditionsOf q n cs) k (conditionOf q noCondition) (omega (arith, conditions-length))
       ∙ ap (λ (c : rCondition). c ∷ drop (k + 1) (conditionsOf q n cs)) (List·getD-map (conditionOf q) (take n cs) k noCondition ∙ ap (conditionOf q) (getD-take n cs k noCondition h))
+
+  pub conditions-end : (k : ℕ) → n ≤ k → drop k (conditionsOf q n cs) ≡ []
+  conditions-end k h = drop-of-length-le (conditionsOf q n cs) {i = k} (omega (arith, conditions-length))
 
   columns-end : (k : ℕ) → n ≤ k → drop k (columnsOf q n cs) ≡ []
   unfolding columnsOf
