@@ -41,7 +41,7 @@ module _ (o : Option (List Member × Text)) (t : Text) (at : ℕ) (names : List 
   scanned-good g = subst (λ (b : Bool). ScannedBy o t at names b (r .end) (r .slots)) g s
 
   pub scanned-none : r .good ≡ false → o ≡ none
-  scanned-none g = subst (λ (b : Bool). ScannedBy o t at names b (r .end) (r .slots)) g s
+  scanned-none g = (subst (λ (b : Bool). ScannedBy o t at names b (r .end) (r .slots)) g s) .0
 
 module _ (o : Option (List Member)) (t : Text) (names : List Bytes) (r : Fields) (s : ObjectIs o t names r) where
   pub object-good : r .good ≡ true → Object o t names (r .slots)

@@ -30,7 +30,7 @@ module _ (d : ℕ) (s : Text) {w : ℕ} (before : Skips (ws s) s 0 w) where
 
       pub object-bad : f .good ≡ false → objectOf d s ≡ none
       object-bad g =
-          let e : contents (value d) (drop i s) ≡ none = subst (λ (b : Bool). ScannedBy (contents (value d) (drop i s)) s i (namesOf kind) b (f .end) (f .slots)) g scanned in
+          let e : contents (value d) (drop i s) ≡ none = subst (λ (b : Bool). ScannedBy (contents (value d) (drop i s)) s i (namesOf kind) b (f .end) (f .slots)) g scanned .0 in
           objectOf-contents d s opened ∙ alone-none e
 
       module _ (g : f .good ≡ true) {r : ℕ} (behind : Skips (ws (drop (f .end) s)) s (f .end) r) where

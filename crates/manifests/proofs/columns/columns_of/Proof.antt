@@ -5,6 +5,7 @@ use lib.ListN.{drop}
 use Rattle.rules.specs.Bytes.{firsts}
 use Rattle.rules.specs.Json.Values.{contents, value as rValue}
 use Rattle.text.specs.Answers.{Answer}
+use Rattle.fields.proofs.Meeting.{contents-object}
 use Rattle.manifests.specs.Tables.{TabledIs}
 use Rattle.manifests.proofs.Whole.{alone-whole, alone-trailing, object-unopened, object-opened}
 use Rattle.manifests.proofs.Tabling.{columns-none, columns-malformed, columns-twice, columns-stand}
@@ -56,7 +57,8 @@ returns-3 c =
 distinct-names-requires : tie.Need-distinct-names-requires
 distinct-names-requires c κs =
     let a = subst (Answer _ _ _) (c .before .before .before .before .before .before .before .at .given .1) (c .before .before .before .before .before .before .before .before .before .skip-byte .ensures) in
-    a .2
+    let w = subst (TabledIs _ _) (c .before .before .before .end .given .1) (c .before .before .before .before .before .columns-in .ensures) in
+    (a .2, contents-object 28 _ _ (w .all))
 
 returns-4 : tie.Need-returns-4
 returns-4 c =

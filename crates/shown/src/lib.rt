@@ -1,0 +1,64 @@
+// What is shown of one line: the path as its add writes it, and the add's number of records. Every byte string has an answer.
+use actions::Action;
+use actions::Records;
+ghost use mathlib.Core.Path.{_≡_};
+ghost use Rattle.rules.specs.Actions.{pathShown, recordsShown};
+ghost use Rattle.shown.specs.Shown.{shownIs, AddingIs};
+
+// From where to where an add writes its path, and its number of records; or that there is no add.
+enum Adding {
+    Writes(usize, usize, Records),
+    Nothing,
+}
+
+// What is shown of the line's action.
+fn judge(line: &[u8]) -> Adding
+    ensures { λ r. ⌜ AddingIs (now (line .entry)) r ⌝ }
+{
+    if !lines::is_line(line) {
+        return Adding::Nothing;
+    }
+    match actions::classify(line) {
+        Action::Add(a) => {
+            let records = a.records;
+            Adding::Writes(a.path, a.end, records)
+        }
+        Action::Remove(_) => Adding::Nothing,
+        Action::Protocol(_) => Adding::Nothing,
+        Action::MetaData(_) => Adding::Nothing,
+        Action::Mergeskip => Adding::Nothing,
+        Action::Other => Adding::Nothing,
+        Action::Malformed => Adding::Nothing,
+    }
+}
+
+// The raw path between its quotes, as a part of the line; an empty part if the line is no well-formed add.
+pub fn path_of<'a>(line: &'a [u8]) -> &'a [u8]
+    ensures { λ r. ⌜ now r ≡ pathShown (now (line .entry)) ⌝ }
+{
+    match judge(line) {
+        Adding::Writes(from, to, _) => &line[from..to],
+        Adding::Nothing => &line[..0],
+    }
+}
+
+// The number of records of a line: a number, none stated, or that the line is no well-formed add.
+pub enum Shown {
+    Number(u64),
+    Missing,
+    NoAdd,
+}
+
+// The number of records of the line's add.
+pub fn records_of(line: &[u8]) -> Shown
+    ensures { λ r. ⌜ r ≡ shownIs (recordsShown (now (line .entry))) ⌝ }
+{
+    match judge(line) {
+        Adding::Writes(_, _, records) => match records {
+            Records::Number(n) => Shown::Number(n),
+            Records::Missing => Shown::Missing,
+            Records::Bad => Shown::NoAdd,
+        },
+        Adding::Nothing => Shown::NoAdd,
+    }
+}
