@@ -1,0 +1,4 @@
+-- Laws of picking.
+pub mod Values
+pub mod Each
+pub mod Adds

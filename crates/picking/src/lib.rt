@@ -1,0 +1,69 @@
+// Which live files a query picks: each by the partition values in the line of its add.
+use actions::Action;
+use actions::Wording;
+use members::Found;
+use query::Condition;
+use query::Query;
+use table::Cells;
+ghost use mathlib.Core.Path.{_≡_};
+ghost use Rattle.rules.specs.Actions.{Facts, Pairs};
+ghost use Rattle.rules.specs.Picking.{valueAt, meetsValue, meetsAll};
+ghost use Rattle.actions.specs.Line.{Pairing};
+ghost use Rattle.query.specs.Conditions.{conditionOf, Sound};
+ghost use Rattle.query.specs.Reading.{conditionsOf, Sounds};
+ghost use Rattle.replay.specs.Views.{factsAt, Stands};
+ghost use Rattle.picking.specs.Pairs.{Paired};
+
+// How deep values may nest inside of a field of an action.
+const IN_FIELD: usize = 29;
+
+// Whether the partition values behind whose brace `at` is meet the condition c of the query q.
+fn meets_one(line: &[u8], at: usize, q: &[u8], c: Condition) -> bool
+    requires { ⌜ Paired (now line) at × Sound (now q) c ⌝ }
+    ensures { λ r. ⌜ ((ps : Pairs) → Pairing (now (line .entry)) at ps → r ≡ meetsValue (conditionOf (now (q .entry)) c) (valueAt (conditionOf (now (q .entry)) c .column) ps)) ⌝ }
+{
+    let column = c.column;
+    let Found::At(v, e) = members::find_name(line, at, IN_FIELD, q, column) else {
+        return false;
+    };
+    let Wording::Sized(p, _) = actions::string_at(line, v, e) else {
+        return false;
+    };
+    query::meets_at(q, c, line, p)
+}
+
+// Whether they meet each of the first n conditions.
+fn meets_each(line: &[u8], at: usize, q: &[u8], conditions: [Condition; 8], n: usize) -> bool
+    requires { ⌜ Paired (now line) at × Sounds (now q) n conditions ⌝ }
+    ensures { λ r. ⌜ ((f : Facts) → Pairing (now (line .entry)) at (f .partitionValues) → r ≡ meetsAll (conditionsOf (now (q .entry)) n conditions) f) ⌝ }
+{
+    let mut k = 0;
+    while k < n {
+        let c = conditions[k];
+        if meets_one(line, at, q, c) {
+            k += 1;
+        } else {
+            return false;
+        }
+    }
+    true
+}
+
+// Whether the file of a row is picked.
+pub fn picks(src: &[u8], c: Cells, q: &[u8], asked: Query) -> bool
+    requires { ⌜ Stands (now src) c × Sounds (now q) (asked .count) (asked .conditions) ⌝ }
+    ensures { λ r. ⌜ r ≡ meetsAll (conditionsOf (now (q .entry)) (asked .count) (asked .conditions)) (factsAt (now (src .entry)) c) ⌝ }
+{
+    let at = (c.head % live::PLACES) as usize;
+    let end = at + c.len as usize;
+    let conditions = asked.conditions;
+    match actions::classify(&src[at..end]) {
+        Action::Add(a) => meets_each(&src[at..end], a.values, q, conditions, asked.count),
+        Action::Remove(_) => false,
+        Action::Protocol(_) => false,
+        Action::MetaData(_) => false,
+        Action::Mergeskip => false,
+        Action::Other => false,
+        Action::Malformed => false,
+    }
+}
