@@ -6,11 +6,11 @@ use native.Mathlib.Omega.{arith}
 use lib.ListN.{length, getD, length-replicate}
 use Rattle.rules.specs.Bytes.{Bytes, ascii}
 use Rattle.rules.specs.Rooms.{Room, rowsRoom}
-use Rattle.rules.specs.Reading.{Asked, theLatest, theVersion, reading, roomAfterReading}
+use Rattle.rules.specs.Reading.{Asked, theLatest, theVersion, Told, told, reading, roomAfterReading}
 use Rattle.rules.specs.Refusals.{Answer, accepted, refused, notKept}
 use Rattle.rules.proofs.Opened.{rules}
 use Rattle.rules.proofs.Tests.{apart}
-use Rattle.demands.specs.WrongPrograms.{Told, told, Reader, KeepsPromise, RefusesEverything, SameTableForAll, WritesNothing, AppliesTheFirstOnly, InventsTheCount, NoneKeepsThePromise, removedAndAdded, addedAndRemoved, removedLater, sevens}
+use Rattle.demands.specs.WrongPrograms.{Reader, KeepsPromise, RefusesEverything, SameTableForAll, WritesNothing, AppliesTheFirstOnly, InventsTheCount, NoneKeepsThePromise, removedAndAdded, addedAndRemoved, removedLater, sevens}
 
 -- ---- what is looked at
 

@@ -1,35 +1,16 @@
 -- The wrong programs that the paper lists: none of them keeps the promise of reading.
 use mathlib.Core.Path.{_≡_}
-use mathlib.Core.Bool.{Bool}
 use mathlib.Core.List.{[], _∷_}
 use Prim.Native.Nat.{ℕ, suc}
 use lib.ListN.{length, replicate}
 use Rattle.rules.specs.Bytes.{Bytes}
 use Rattle.rules.specs.Rooms.{Room, rowsRoom}
-use Rattle.rules.specs.Reading.{Asked, theVersion, Listing, reading, roomAfterReading}
+use Rattle.rules.specs.Reading.{Asked, theVersion, Told, told, reading, roomAfterReading}
 use Rattle.rules.specs.Samples.{file, bundleOf}
 use Rattle.rules.specs.Edges.{addOf, removeOf, v0}
 use Rattle.rules.specs.Refusals.{Refusal, Answer, accepted, refused, notKept}
 
 -- ---- readers, and the promise
-
--- the answer gives version, row count, protocol numbers, writable
-pub record Told : Type 0 where
-  pub version : ℕ
-  pub count : ℕ
-  pub reader : ℕ
-  pub writer : ℕ
-  pub canWrite : Bool
-
-unfoldable pub told : Answer Listing → Answer Told
-told (accepted l) = accepted (record {
-  version = l .version;
-  count = length (l .rows);
-  reader = l .inForce .minReaderVersion;
-  writer = l .inForce .minWriterVersion;
-  canWrite = l .canWrite;
-})
-told (refused r) = refused r
 
 -- what a program answers, and what it leaves in the room
 pub record Reader : Type 0 where

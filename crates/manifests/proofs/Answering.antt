@@ -12,7 +12,7 @@ use Rattle.facts.specs.Moves.{zeroed}
 use Rattle.rules.specs.Bytes.{Bytes}
 use Rattle.rules.specs.Query.{Condition, query}
 use Rattle.rules.specs.Manifests.{Manifest, manifests, mostManifests, keptFrom}
-use Rattle.rules.specs.Rooms.{Room, keptRoom, filled}
+use Rattle.rules.specs.Rooms.{Room, keptRoom, filled, counted}
 use Rattle.rules.specs.Refusals.{Answer, accepted, refused, roomTooShort, queryMalformed, stateMalformed, tooManyManifests}
 use Rattle.rules.specs.Keeping.{keeping, roomAfterKeeping}
 use Rattle.rules.proofs.Tests.{apart}
@@ -23,7 +23,7 @@ use Rattle.refusals.specs.Numbered.{numbered}
 use Rattle.refusals.specs.declared.Refusal.{Refusal}
 use Rattle.refusals.specs.declared.Refusal.the-variants.{RoomTooShort}
 use Rattle.refusals.proofs.Alone.{numbered-alone}
-use Rattle.manifests.specs.Rooms.{Beyond, Noted, refusedBy, keptIs, counted, KeepIs}
+use Rattle.manifests.specs.Rooms.{Beyond, Noted, refusedBy, keptIs, KeepIs}
 use Rattle.manifests.specs.declared.keeping.Kept.{Kept}
 use Rattle.manifests.specs.declared.keeping.Kept.the-variants.{Numbers, Refused}
 

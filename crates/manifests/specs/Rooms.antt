@@ -10,7 +10,7 @@ use Rattle.rules.specs.Bytes.{Bytes, _>>=_}
 use Rattle.rules.specs.Json.Text.{Text}
 use Rattle.rules.specs.Query.{Condition}
 use Rattle.rules.specs.Manifests.{Manifest, manifestsIn, dropped, keptFrom}
-use Rattle.rules.specs.Rooms.{Room}
+use Rattle.rules.specs.Rooms.{Room, counted}
 use Rattle.rules.specs.Refusals.{Answer, accepted, refused}
 use Rattle.rules.specs.Keeping.{keeping, roomAfterKeeping}
 use Rattle.refusals.specs.Numbered.{numbered}
@@ -74,10 +74,6 @@ refusedBy x = Refused x
 unfoldable pub keptIs : Kept → Answer ℕ
 keptIs (Numbers n) = accepted n
 keptIs (Refused x) = refused (numbered x)
-
-unfoldable pub counted : Answer (List ℕ) → Answer ℕ
-counted (accepted ks) = accepted (length ks)
-counted (refused r) = refused r
 
 pub record KeepIs (state q : Bytes) (room after : Room) (r : Kept) : Type 0 where
   pub answer : keptIs r ≡ counted (keeping (length room) state q)

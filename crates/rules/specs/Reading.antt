@@ -4,6 +4,7 @@ use mathlib.Core.Option.{Option}
 use mathlib.Core.List.{List, map}
 use Prim.Native.Nat.{ℕ}
 use lib.Dec.{leb}
+use lib.ListN.{length}
 use Rattle.rules.specs.Bytes.{Bytes, allAmong}
 use Rattle.rules.specs.Bundle.{bundle}
 use Rattle.rules.specs.Names.{anyTooLarge}
@@ -16,7 +17,7 @@ use Rattle.rules.specs.Gate.{gate, writable}
 use Rattle.rules.specs.Query.{Condition, columnOf, query}
 use Rattle.rules.specs.Picking.{picked}
 use Rattle.rules.specs.Rooms.{Room, rowsRoom, leaves, rowsNumbers}
-use Rattle.rules.specs.Refusals.{Answer, accepted, _>>=_, orRefuse, require, roomTooShort, bundleMalformed, versionTooLarge, noVersionZero, notKept, queryMalformed, noSuchColumn}
+use Rattle.rules.specs.Refusals.{Answer, accepted, refused, _>>=_, orRefuse, require, roomTooShort, bundleMalformed, versionTooLarge, noVersionZero, notKept, queryMalformed, noSuchColumn}
 
 pub data Asked : Type 0 where
   theLatest : Asked
@@ -29,6 +30,24 @@ pub record Listing : Type 0 where
   pub inForce : Protocol
   pub canWrite : Bool
   pub rows : List Row
+
+-- the answer gives version, row count, protocol numbers, writable
+pub record Told : Type 0 where
+  pub version : ℕ
+  pub count : ℕ
+  pub reader : ℕ
+  pub writer : ℕ
+  pub canWrite : Bool
+
+unfoldable pub told : Answer Listing → Answer Told
+told (accepted l) = accepted (record {
+  version = l .version;
+  count = length (l .rows);
+  reader = l .inForce .minReaderVersion;
+  writer = l .inForce .minWriterVersion;
+  canWrite = l .canWrite;
+})
+told (refused r) = refused r
 
 unfoldable pub versionAsked : Asked → Log → ℕ
 versionAsked theLatest log = latest log

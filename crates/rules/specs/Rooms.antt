@@ -29,6 +29,11 @@ unfoldable pub leaves : {A : Type 0} → (n : ℕ) → (A → List ℕ) → Answ
 leaves n numbers (accepted a) room = filled n (numbers a) room
 leaves n numbers (refused r) room = elim (eqb (r .number) 1) [ true ↦ room | false ↦ filled n [] room ]
 
+-- manifests kept and entries named: both answers give their count
+unfoldable pub counted : Answer (List ℕ) → Answer ℕ
+counted (accepted ns) = accepted (length ns)
+counted (refused r) = refused r
+
 -- ---- rows
 
 -- position in the bundle and length of the add's line, size, modificationTime
