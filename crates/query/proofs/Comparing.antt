@@ -8,11 +8,13 @@ use Rattle.rules.specs.Query.{Number as rNumber, number, outOfRange, notNumber,
 use Rattle.rules.specs.Picking.{meets, orderOfNumbers, meetsNumber, meetsAs}
 use Rattle.rules.specs.Manifests.{outside, outsideNumbers, outsideAs}
 use Rattle.rules.proofs.Tests.{apart}
-use Rattle.values.specs.Answers.{orderIs, orderOf, signedIs, signedOf, numeralIs}
+use Rattle.values.specs.Answers.{orderIs, orderOf}
+use Rattle.numerals.specs.Answers.{signedIs, signedOf, numeralIs}
 use Rattle.values.specs.declared.Order.{Order}
-use Rattle.values.specs.declared.Signed.{Signed}
-use Rattle.values.specs.declared.Numeral.{Numeral}
-use Rattle.values.proofs.Back.{order-back, signed-back}
+use Rattle.numerals.specs.declared.Signed.{Signed}
+use Rattle.numerals.specs.declared.Numeral.{Numeral}
+use Rattle.values.proofs.Back.{order-back}
+use Rattle.numerals.proofs.Back.{signed-back}
 use Rattle.strings.specs.Decoded.{decoded}
 use Rattle.query.specs.Words.{asIs, fitBy, fitIs}
 use Rattle.query.specs.Conditions.{Sound}

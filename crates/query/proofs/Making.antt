@@ -5,10 +5,10 @@ use mathlib.Core.Option.{Option, none, some}
 use Rattle.rules.specs.Bytes.{Bytes}
 use Rattle.rules.specs.Query.{Number, number, outOfRange, notNumber, numberOf, isNumber, As as rAs, asText, asNumber, Op as rOp, eq, lt, le, gt, ge, asOf, opOf, fits}
 use Rattle.rules.proofs.Tests.{apart}
-use Rattle.values.specs.Answers.{opIs}
-use Rattle.values.specs.declared.Op.{Op}
-use Rattle.values.specs.declared.Op.the-variants.{Eq, Lt, Le, Gt, Ge}
-use Rattle.values.specs.declared.Signed.{Signed}
+use Rattle.numerals.specs.Answers.{opIs}
+use Rattle.numerals.specs.declared.Op.{Op}
+use Rattle.numerals.specs.declared.Op.the-variants.{Eq, Lt, Le, Gt, Ge}
+use Rattle.numerals.specs.declared.Signed.{Signed}
 use Rattle.query.specs.Words.{asIs, kindIs, operatorIs, fitBy, fitIs}
 use Rattle.query.specs.Conditions.{conditionFrom, conditionBy}
 use Rattle.query.specs.declared.words.As.{As}

@@ -5,9 +5,9 @@ use mathlib.Core.Option.{none, some}
 use Rattle.rules.specs.Bytes.{Bytes, ascii, first, same}
 use Rattle.rules.specs.Query.{Number as rNumber, number, outOfRange, notNumber, asText, asNumber, eq, lt, le, gt, ge, asOf, opOf}
 use Rattle.rules.proofs.Tests.{apart}
-use Rattle.values.specs.Answers.{numeralIs}
-use Rattle.values.specs.declared.Signed.{Signed}
-use Rattle.values.specs.declared.Numeral.the-variants.{Number, OutOfRange, NotNumber}
+use Rattle.numerals.specs.Answers.{numeralIs}
+use Rattle.numerals.specs.declared.Signed.{Signed}
+use Rattle.numerals.specs.declared.Numeral.the-variants.{Number, OutOfRange, NotNumber}
 use Rattle.query.specs.Words.{fitBy}
 use Rattle.query.specs.declared.words.Fit.the-variants.{Fits, Unfit}
 

@@ -10,7 +10,7 @@ use Rattle.rules.specs.Json.Values.{contents, value}
 use Rattle.rules.specs.Query.{Condition as rCondition, asOf, opOf, fits, conditionIn}
 use Rattle.text.specs.declared.Next.{Next}
 use Rattle.text.specs.declared.Next.the-variants.{At, Bad as NotThere}
-use Rattle.values.specs.Answers.{opIs}
+use Rattle.numerals.specs.Answers.{opIs}
 use Rattle.strings.specs.Decoded.{decoded, WellSpelled}
 use Rattle.actions.specs.Texts.{Read}
 use Rattle.query.specs.Words.{asIs, fitIs}

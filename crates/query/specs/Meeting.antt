@@ -4,10 +4,10 @@ use Rattle.rules.specs.Bytes.{Order, isMore}
 use Rattle.rules.specs.Query.{Op}
 use Rattle.rules.specs.Picking.{orderOfNumbers}
 use Rattle.rules.specs.Manifests.{noneMeets, outside}
-use Rattle.values.specs.Answers.{signedIs}
-use Rattle.values.specs.declared.Signed.{Signed}
-use Rattle.values.specs.declared.Numeral.{Numeral}
-use Rattle.values.specs.declared.Numeral.the-variants.{Number, OutOfRange, NotNumber}
+use Rattle.numerals.specs.Answers.{signedIs}
+use Rattle.numerals.specs.declared.Signed.{Signed}
+use Rattle.numerals.specs.declared.Numeral.{Numeral}
+use Rattle.numerals.specs.declared.Numeral.the-variants.{Number, OutOfRange, NotNumber}
 
 -- how the least stands to the greatest, and each of the two to the condition's own value
 unfoldable pub outsideBy : Op → (between least greatest : Order) → Bool

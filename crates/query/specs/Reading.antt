@@ -9,7 +9,7 @@ use lib.ListN.{length, take, drop, getD, replicate}
 use Rattle.rules.specs.Bytes.{Bytes, _>>=_, guard}
 use Rattle.rules.specs.Json.Text.{Text}
 use Rattle.rules.specs.Query.{Condition as rCondition, columnOf, mostConditions, query}
-use Rattle.values.specs.declared.Op.the-variants.{Eq}
+use Rattle.numerals.specs.declared.Op.the-variants.{Eq}
 use Rattle.query.specs.Words.{zero}
 use Rattle.query.specs.Conditions.{conditionOf, Sound}
 use Rattle.query.specs.declared.words.As.the-variants.{Text as AsText}

@@ -3,9 +3,9 @@ use mathlib.Core.Bool.{false}
 use mathlib.Core.Option.{Option, none, some}
 use Rattle.rules.specs.Bytes.{Bytes}
 use Rattle.rules.specs.Query.{Number as rNumber, number, outOfRange, notNumber, numberOf, As as rAs, asText, asNumber, Op as rOp, eq, lt, le, gt, ge}
-use Rattle.values.specs.Answers.{signedOf}
-use Rattle.values.specs.declared.Op.the-variants.{Eq, Lt, Le, Gt, Ge}
-use Rattle.values.specs.declared.Signed.{Signed}
+use Rattle.numerals.specs.Answers.{signedOf}
+use Rattle.numerals.specs.declared.Op.the-variants.{Eq, Lt, Le, Gt, Ge}
+use Rattle.numerals.specs.declared.Signed.{Signed}
 use Rattle.query.specs.declared.words.As.{As}
 use Rattle.query.specs.declared.words.As.the-variants.{Text, Number}
 use Rattle.query.specs.declared.words.Kind.{Kind}

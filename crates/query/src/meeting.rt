@@ -1,15 +1,16 @@
 // What a condition says of values: whether one meets it, and whether none between two bounds does.
 use crate::conditions::Condition;
 use crate::words::As;
-use values::Numeral;
-use values::Op;
+use numerals::Numeral;
+use numerals::Op;
+use numerals::Signed;
 use values::Order;
-use values::Signed;
 ghost use mathlib.Core.Path.{_≡_};
 ghost use lib.ListN.{drop};
 ghost use Rattle.rules.specs.Picking.{meetsAs};
 ghost use Rattle.rules.specs.Manifests.{noneMeets, outsideAs};
-ghost use Rattle.values.specs.Answers.{orderOf, opIs};
+ghost use Rattle.values.specs.Answers.{orderOf};
+ghost use Rattle.numerals.specs.Answers.{opIs};
 ghost use Rattle.strings.specs.Decoded.{decoded, WellSpelled};
 ghost use Rattle.query.specs.Words.{asIs};
 ghost use Rattle.query.specs.Conditions.{Sound};
@@ -25,9 +26,9 @@ pub fn meets_at(q: &[u8], c: Condition, s: &[u8], at: usize) -> bool
     let number = c.number;
     let bound = c.bound;
     match kind {
-        As::Text => values::meets(op, strings::order_strings(s, at, q, bound)),
+        As::Text => numerals::meets(op, strings::order_strings(s, at, q, bound)),
         As::Number => match strings::numeral_in(s, at) {
-            Numeral::Number(n) => values::meets(op, values::order_numbers(n, number)),
+            Numeral::Number(n) => numerals::meets(op, numerals::order_numbers(n, number)),
             Numeral::OutOfRange => false,
             Numeral::NotNumber => false,
         },
@@ -40,15 +41,15 @@ fn none_meets(op: Op, least: Order, greatest: Order) -> bool
 {
     match op {
         Op::Eq => {
-            if values::meets(Op::Gt, least) {
+            if numerals::meets(Op::Gt, least) {
                 return true;
             }
-            values::meets(Op::Lt, greatest)
+            numerals::meets(Op::Lt, greatest)
         }
-        Op::Lt => !values::meets(op, least),
-        Op::Le => !values::meets(op, least),
-        Op::Gt => !values::meets(op, greatest),
-        Op::Ge => !values::meets(op, greatest),
+        Op::Lt => !numerals::meets(op, least),
+        Op::Le => !numerals::meets(op, least),
+        Op::Gt => !numerals::meets(op, greatest),
+        Op::Ge => !numerals::meets(op, greatest),
     }
 }
 
@@ -71,9 +72,9 @@ fn outside_numbers(op: Op, bound: Signed, lo: Numeral, hi: Numeral) -> bool
         Numeral::Number(least) => match hi {
             Numeral::Number(greatest) => outside(
                 op,
-                values::order_numbers(least, greatest),
-                values::order_numbers(least, bound),
-                values::order_numbers(greatest, bound),
+                numerals::order_numbers(least, greatest),
+                numerals::order_numbers(least, bound),
+                numerals::order_numbers(greatest, bound),
             ),
             Numeral::OutOfRange => false,
             Numeral::NotNumber => false,

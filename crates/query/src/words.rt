@@ -1,7 +1,7 @@
 // The words of a condition: what it compares as, how a value must stand to its own, and its own value under what it compares as.
-use values::Numeral;
-use values::Op;
-use values::Signed;
+use numerals::Numeral;
+use numerals::Op;
+use numerals::Signed;
 ghost use mathlib.Core.Path.{_≡_};
 ghost use lib.ListN.{drop};
 ghost use Rattle.rules.specs.Query.{asOf, opOf};

@@ -5,15 +5,15 @@ use crate::steps::Cursor;
 use crate::steps::Step;
 use crate::steps::next;
 use crate::steps::utf8_size;
+use numerals::Numeral;
 use text::Code;
-use values::Numeral;
 ghost use mathlib.Core.Path.{_≡_};
 ghost use mathlib.Core.List.{[]};
 ghost use Prim.Native.Nat.{_≤_};
 ghost use lib.ListN.{length, drop};
 ghost use Rattle.rules.specs.Bytes.{same};
 ghost use Rattle.rules.specs.Query.{numberOf};
-ghost use Rattle.values.specs.Answers.{numeralIs};
+ghost use Rattle.numerals.specs.Answers.{numeralIs};
 ghost use Rattle.strings.specs.Ahead.{Sound, ahead};
 ghost use Rattle.strings.specs.Decoded.{decoded, WellSpelled};
 ghost use Rattle.strings.specs.Flat.{flat};
@@ -123,7 +123,7 @@ pub fn numeral_in(s: &[u8], at: usize) -> Numeral
     let mut n = 0;
     while n <= MOST_BYTES {
         let Step::Byte(b, d) = next(s, c) else {
-            return values::numeral_of(&digits[..n]);
+            return numerals::numeral_of(&digits[..n]);
         };
         digits[n] = b;
         c = d;

@@ -3,9 +3,11 @@ use Rattle.query.proofs.Comparing.{bound-number, number-meets, number-o
 use Rattle.query.specs.declared.words.As.{As}
 use Rattle.query.specs.Words.{asIs}
 use Rattle.strings.specs.Decoded.{decoded}
-use Rattle.values.proofs.Back.{order-back, numeral-number, numeral-out, numeral-not}
+use Rattle.values.proofs.Back.{order-back}
+use Rattle.numerals.proofs.Back.{numeral-number, numeral-out, numeral-not}
 use Rattle.values.specs.declared.Order.{Order}
-use Rattle.values.specs.Answers.{opIs, orderOf, signedIs}
+use Rattle.numerals.specs.Answers.{opIs, signedIs}
+use Rattle.values.specs.Answers.{orderOf}
 use Rattle.rules.specs.Picking.{meets, meetsAs, orderOfNumbers}
 use Rattle.rules.specs.Query.{numberOf}
 use Rattle.rules.specs.Bytes.{order}

@@ -1,6 +1,7 @@
 -- `none_meets` meets its contract: the lowest is the nearest to meeting lt and le, the highest to meeting gt and ge.
-use Rattle.values.specs.declared.Op.{Op}
-use Rattle.values.specs.Answers.{opIs, orderOf}
+use Rattle.numerals.specs.declared.Op.{Op}
+use Rattle.numerals.specs.Answers.{opIs}
+use Rattle.values.specs.Answers.{orderOf}
 use Rattle.rules.proofs.Tests.{or-left}
 use Rattle.rules.specs.Manifests.{noneMeets}
 use Rattle.rules.specs.Picking.{meets}

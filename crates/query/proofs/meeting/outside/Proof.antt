@@ -1,7 +1,8 @@
 -- `outside` meets its contract.
 use Rattle.query.specs.Meeting.{outsideBy}
 use Rattle.values.specs.declared.Order.{Order}
-use Rattle.values.specs.Answers.{opIs, orderOf}
+use Rattle.numerals.specs.Answers.{opIs}
+use Rattle.values.specs.Answers.{orderOf}
 use Rattle.rules.specs.Bytes.{isMore}
 use mathlib.Core.Path.{sym, ap, _∙_}
 use borrow.Author.Needs.{needs}

@@ -4,7 +4,7 @@ use Rattle.query.specs.declared.words.As.{As}
 use Rattle.query.specs.Meeting.{outsideBy}
 use Rattle.query.specs.Words.{asIs}
 use Rattle.strings.specs.Decoded.{decoded}
-use Rattle.values.specs.Answers.{opIs}
+use Rattle.numerals.specs.Answers.{opIs}
 use Rattle.rules.specs.Manifests.{outside, outsideAs}
 use Rattle.rules.specs.Bytes.{order}
 use lib.ListN.{drop}

@@ -1,9 +1,9 @@
 -- `outside_numbers` meets its contract: by the order of the numbers, where there are numbers.
 use Rattle.query.proofs.Comparing.{outside-signed}
 use Rattle.query.specs.Meeting.{outsideNumerals}
-use Rattle.values.specs.declared.Numeral.the-variants.{Number}
-use Rattle.values.specs.declared.Numeral.{Numeral}
-use Rattle.values.specs.Answers.{opIs}
+use Rattle.numerals.specs.declared.Numeral.the-variants.{Number}
+use Rattle.numerals.specs.declared.Numeral.{Numeral}
+use Rattle.numerals.specs.Answers.{opIs}
 use mathlib.Core.Path.{sym, ap, _∙_}
 use borrow.Author.Needs.{needs}
 use Rattle.query.proofs.meeting.outside_numbers.Statement.{statement}

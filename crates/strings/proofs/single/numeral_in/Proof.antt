@@ -8,7 +8,7 @@ use mathlib.Core.Path.{_≡_, refl, sym, ap, subst, _∙_}
 use native.Mathlib.Omega.{arith}
 use Rattle.rules.specs.Bytes.{Bytes}
 use Rattle.rules.specs.Query.{numberOf}
-use Rattle.values.specs.Answers.{numeralIs}
+use Rattle.numerals.specs.Answers.{numeralIs}
 use Rattle.strings.specs.Ahead.{Sound, Stepped, ahead, fresh}
 use Rattle.strings.specs.Decoded.{decoded}
 use Rattle.strings.proofs.Ahead.{ahead-fresh, sound-fresh}

@@ -1,13 +1,13 @@
 -- `capped_digits`: each answer by the length.
 use mathlib.Core.Path.{sym, ap, _∙_}
 use Rattle.rules.specs.Query.{mostDigits}
-use Rattle.values.specs.Readings.{cappedIs}
-use Rattle.values.proofs.Cuts.{value-digits, no-digits}
-use Rattle.values.proofs.Queries.{digits-many, digits-few}
+use Rattle.numerals.specs.Capping.{cappedIs}
+use Rattle.values.proofs.Back.{value-digits, no-digits}
+use Rattle.numerals.proofs.Queries.{digits-many, digits-few}
 use native.Mathlib.Omega.{arith}
 use borrow.Author.Needs.{needs}
-use Rattle.values.proofs.capped_digits.Statement.{statement}
-use Rattle.values.proofs.capped_digits.Tie as tie
+use Rattle.numerals.proofs.capped_digits.Statement.{statement}
+use Rattle.numerals.proofs.capped_digits.Tie as tie
 
 returns : tie.Need-returns
 unfolding cappedIs

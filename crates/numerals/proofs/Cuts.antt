@@ -1,4 +1,4 @@
--- The answers of the readers of digits, back in the rules' terms, and twenty digits by the first of them.
+-- Digits cut off above 2^63, back in the rules' terms, and twenty digits by the first of them.
 use mathlib.Core.Path.{_≡_, refl, sym, ap, subst, _∙_}
 use mathlib.Core.Bool.{Bool, true, false}
 use mathlib.Core.List.{[], _∷_}
@@ -12,22 +12,9 @@ use borrow.Author.Tests.{lt-leb, leb-true, leb-false}
 use Rattle.rules.specs.Bytes.{Bytes}
 use Rattle.rules.specs.Numbers.{isDigit, decimal, decimalFrom, most}
 use Rattle.rules.proofs.Tests.{apart}
-use Rattle.values.specs.Readings.{digitsIs, capped, cappedIs}
-use Rattle.values.specs.declared.Digits.the-variants.{Value, NotDigits}
-use Rattle.values.specs.declared.Capped.the-variants.{Below, TooBig, NoDigits}
+use Rattle.numerals.specs.Capping.{capped, cappedIs}
+use Rattle.numerals.specs.declared.Capped.the-variants.{Below, TooBig, NoDigits}
 use Rattle.values.proofs.Decimals.{digit-between, decimal-start, decimal-digit, decimal-other, decimal-none, decimal-large}
-
--- ---- answers of the readers, back
-
-pub value-digits : (o : Option ℕ) {n : ℕ} → digitsIs o ≡ Value n → o ≡ some n
-unfolding digitsIs
-value-digits none e = apart (cc)
-value-digits (some m) e = cc
-
-pub no-digits : (o : Option ℕ) → digitsIs o ≡ NotDigits → o ≡ none
-unfolding digitsIs
-no-digits none e = refl
-no-digits (some m) e = apart (cc)
 
 -- above 2^63
 pub cut-above : (n : ℕ) → suc most < n → cappedIs (some n) ≡ TooBig

@@ -1,13 +1,14 @@
 -- `twenty_digits`: each answer by the first digit and what the others stand for.
 use mathlib.Core.Path.{sym, ap, _∙_}
 use Rattle.rules.specs.Query.{mostDigits}
-use Rattle.values.specs.Readings.{cappedIs}
+use Rattle.numerals.specs.Capping.{cappedIs}
 use Rattle.values.proofs.Decimals.{digit-between, digit-below, digit-above}
-use Rattle.values.proofs.Cuts.{value-digits, no-digits, rest-length, twenty-other, twenty-none, twenty-zero, twenty-large}
+use Rattle.values.proofs.Back.{value-digits, no-digits}
+use Rattle.numerals.proofs.Cuts.{rest-length, twenty-other, twenty-none, twenty-zero, twenty-large}
 use native.Mathlib.Omega.{arith}
 use borrow.Author.Needs.{needs}
-use Rattle.values.proofs.twenty_digits.Statement.{statement}
-use Rattle.values.proofs.twenty_digits.Tie as tie
+use Rattle.numerals.proofs.twenty_digits.Statement.{statement}
+use Rattle.numerals.proofs.twenty_digits.Tie as tie
 
 shared-slice-read-b : tie.Need-shared-slice-read-b
 unfolding mostDigits

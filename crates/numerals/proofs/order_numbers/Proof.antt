@@ -1,10 +1,10 @@
 -- `order_numbers`: each answer by the signs; a zero with a minus is zero.
 use mathlib.Core.Path.{sym, ap, _∙_}
 use Rattle.values.specs.Answers.{orderIs}
-use Rattle.values.proofs.Signs.{numbers-negative, numbers-positive, numbers-less, numbers-more, numbers-first-zero, numbers-second-zero}
+use Rattle.numerals.proofs.Signs.{numbers-negative, numbers-positive, numbers-less, numbers-more, numbers-first-zero, numbers-second-zero}
 use borrow.Author.Needs.{needs}
-use Rattle.values.proofs.order_numbers.Statement.{statement}
-use Rattle.values.proofs.order_numbers.Tie as tie
+use Rattle.numerals.proofs.order_numbers.Statement.{statement}
+use Rattle.numerals.proofs.order_numbers.Tie as tie
 
 order-sizes-requires : tie.Need-order-sizes-requires
 order-sizes-requires c κs = search needs

@@ -3,9 +3,9 @@ use mathlib.Core.Path.{sym, ap}
 use mathlib.Core.Bool.{Bool}
 use borrow.Author.Tests.{le-leb, lt-leb}
 use Rattle.rules.specs.Numbers.{most}
-use Rattle.values.specs.Readings.{capped, cappedIs}
-use Rattle.values.proofs.cap.Statement.{statement}
-use Rattle.values.proofs.cap.Tie as tie
+use Rattle.numerals.specs.Capping.{capped, cappedIs}
+use Rattle.numerals.proofs.cap.Statement.{statement}
+use Rattle.numerals.proofs.cap.Tie as tie
 
 returns : tie.Need-returns
 unfolding cappedIs capped most

@@ -9,8 +9,8 @@ use borrow.Author.Tests.{lt-ltb, le-ltb}
 use Rattle.rules.specs.Bytes.{less, equal, more}
 use Rattle.rules.specs.Picking.{orderOfNumbers}
 use Rattle.rules.proofs.Order.{trichotomy}
-use Rattle.values.specs.Answers.{signedAs, signedIs}
-use Rattle.values.specs.declared.Signed.{Signed}
+use Rattle.numerals.specs.Answers.{signedAs, signedIs}
+use Rattle.numerals.specs.declared.Signed.{Signed}
 
 -- ---- sizes
 

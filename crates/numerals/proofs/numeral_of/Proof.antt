@@ -1,10 +1,10 @@
 -- `numeral_of`: each answer by the first byte.
 use mathlib.Core.Path.{sym, ap, _∙_}
-use Rattle.values.specs.Answers.{numeralIs}
-use Rattle.values.proofs.Queries.{number-empty, number-minus, number-plain}
+use Rattle.numerals.specs.Answers.{numeralIs}
+use Rattle.numerals.proofs.Queries.{number-empty, number-minus, number-plain}
 use borrow.Author.Needs.{needs}
-use Rattle.values.proofs.numeral_of.Statement.{statement}
-use Rattle.values.proofs.numeral_of.Tie as tie
+use Rattle.numerals.proofs.numeral_of.Statement.{statement}
+use Rattle.numerals.proofs.numeral_of.Tie as tie
 
 returns : tie.Need-returns
 unfolding numeralIs

@@ -1,11 +1,11 @@
 -- `negative_of`: each answer by what the digits stand for.
 use mathlib.Core.Path.{sym, ap, _∙_}
-use Rattle.values.specs.Answers.{numeralIs}
-use Rattle.values.specs.declared.Numeral.the-variants.{Number}
-use Rattle.values.proofs.Queries.{negative-none, negative-large, negative-in, signed-minus}
+use Rattle.numerals.specs.Answers.{numeralIs}
+use Rattle.numerals.specs.declared.Numeral.the-variants.{Number}
+use Rattle.numerals.proofs.Queries.{negative-none, negative-large, negative-in, signed-minus}
 use borrow.Author.Needs.{needs}
-use Rattle.values.proofs.negative_of.Statement.{statement}
-use Rattle.values.proofs.negative_of.Tie as tie
+use Rattle.numerals.proofs.negative_of.Statement.{statement}
+use Rattle.numerals.proofs.negative_of.Tie as tie
 
 capped-digits-requires : tie.Need-capped-digits-requires
 capped-digits-requires c κs = search needs

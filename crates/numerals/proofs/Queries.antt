@@ -12,10 +12,10 @@ use borrow.Author.Tests.{le-leb, lt-leb, lt-ltb, eq-eqb, ne-eqb}
 use Rattle.rules.specs.Bytes.{Bytes}
 use Rattle.rules.specs.Numbers.{decimal, most}
 use Rattle.rules.specs.Query.{number, outOfRange, notNumber, mostDigits, inRange, positive, negative, digitsIn, numberOf}
-use Rattle.values.specs.Answers.{signedOf}
-use Rattle.values.specs.Readings.{cappedIs}
-use Rattle.values.specs.declared.Capped.the-variants.{Below, TooBig, NoDigits}
-use Rattle.values.proofs.Cuts.{cut-below, cut-large, cut-none, rest, rest-cons}
+use Rattle.numerals.specs.Answers.{signedOf}
+use Rattle.numerals.specs.Capping.{cappedIs}
+use Rattle.numerals.specs.declared.Capped.the-variants.{Below, TooBig, NoDigits}
+use Rattle.numerals.proofs.Cuts.{cut-below, cut-large, cut-none, rest, rest-cons}
 
 -- ---- the digits of a query's number
 

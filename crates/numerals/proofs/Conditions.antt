@@ -4,7 +4,7 @@ use mathlib.Core.Bool.{true, false}
 use Rattle.rules.specs.Bytes.{Order, less, equal, more, isLess, isEqual, isMore}
 use Rattle.rules.specs.Query.{eq, lt, le, gt, ge}
 use Rattle.rules.specs.Picking.{meets}
-use Rattle.values.specs.Answers.{byOrder}
+use Rattle.numerals.specs.Answers.{byOrder}
 
 pub meets-eq : (o : Order) → meets eq o ≡ byOrder o false true false
 unfolding meets isEqual byOrder

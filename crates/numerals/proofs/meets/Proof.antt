@@ -1,12 +1,13 @@
 -- `meets`: each answer by its variant.
 use mathlib.Core.Path.{sym, ap, _∙_}
 use Rattle.rules.specs.Picking.{meets}
-use Rattle.values.specs.Answers.{opIs, orderOf}
-use Rattle.values.specs.declared.Op.{Op}
-use Rattle.values.proofs.Conditions.{meets-eq, meets-lt, meets-le, meets-gt, meets-ge}
+use Rattle.numerals.specs.Answers.{opIs}
+use Rattle.values.specs.Answers.{orderOf}
+use Rattle.numerals.specs.declared.Op.{Op}
+use Rattle.numerals.proofs.Conditions.{meets-eq, meets-lt, meets-le, meets-gt, meets-ge}
 use borrow.Author.Needs.{needs}
-use Rattle.values.proofs.meets.Statement.{statement}
-use Rattle.values.proofs.meets.Tie as tie
+use Rattle.numerals.proofs.meets.Statement.{statement}
+use Rattle.numerals.proofs.meets.Tie as tie
 
 enum-told : tie.Need-enum-told
 enum-told c = search needs

@@ -1,10 +1,11 @@
 -- `by_order`: each answer by its variant.
 use mathlib.Core.Path.{sym, ap}
-use Rattle.values.specs.Answers.{orderOf, byOrder}
+use Rattle.values.specs.Answers.{orderOf}
+use Rattle.numerals.specs.Answers.{byOrder}
 use Rattle.values.specs.declared.Order.{Order}
 use borrow.Author.Needs.{needs}
-use Rattle.values.proofs.by_order.Statement.{statement}
-use Rattle.values.proofs.by_order.Tie as tie
+use Rattle.numerals.proofs.by_order.Statement.{statement}
+use Rattle.numerals.proofs.by_order.Tie as tie
 
 enum-told : tie.Need-enum-told
 enum-told c = search needs

@@ -1,9 +1,9 @@
 -- `order_sizes`: each answer by its tests.
 use mathlib.Core.Path.{sym, ap}
 use Rattle.values.specs.Answers.{orderIs}
-use Rattle.values.proofs.Signs.{sizes-less, sizes-more, sizes-equal}
-use Rattle.values.proofs.order_sizes.Statement.{statement}
-use Rattle.values.proofs.order_sizes.Tie as tie
+use Rattle.numerals.proofs.Signs.{sizes-less, sizes-more, sizes-equal}
+use Rattle.numerals.proofs.order_sizes.Statement.{statement}
+use Rattle.numerals.proofs.order_sizes.Tie as tie
 
 returns : tie.Need-returns
 unfolding orderIs

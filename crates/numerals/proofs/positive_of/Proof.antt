@@ -2,11 +2,11 @@
 use mathlib.Core.Path.{sym, ap, _∙_}
 use native.Mathlib.Omega.{arith}
 use Rattle.rules.specs.Numbers.{most}
-use Rattle.values.specs.Answers.{numeralIs, signedOf}
-use Rattle.values.proofs.Queries.{positive-none, positive-large, positive-out, positive-in}
+use Rattle.numerals.specs.Answers.{numeralIs, signedOf}
+use Rattle.numerals.proofs.Queries.{positive-none, positive-large, positive-out, positive-in}
 use borrow.Author.Needs.{needs}
-use Rattle.values.proofs.positive_of.Statement.{statement}
-use Rattle.values.proofs.positive_of.Tie as tie
+use Rattle.numerals.proofs.positive_of.Statement.{statement}
+use Rattle.numerals.proofs.positive_of.Tie as tie
 
 capped-digits-requires : tie.Need-capped-digits-requires
 capped-digits-requires c κs = search needs
