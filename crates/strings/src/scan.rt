@@ -1,8 +1,8 @@
 // The way from behind an opening quote to behind the closing one.
 use crate::BACKSLASH;
 use crate::QUOTE;
+use characters::is_plain;
 use text::Next;
-use text::is_plain;
 ghost use mathlib.Core.Path.{_≡_};
 ghost use Prim.Native.Nat.{_≤_};
 ghost use lib.ListN.{length};
@@ -31,12 +31,12 @@ pub fn scan_string(s: &[u8], at: usize) -> Spelling
                 return Spelling::Plain(i + 1);
             }
             if b == BACKSLASH {
-                let Next::At(j) = text::skip_string(s, i) else {
+                let Next::At(j) = characters::skip_string(s, i) else {
                     return Spelling::Bad;
                 };
                 return Spelling::Escaped(j);
             }
-            let Next::At(k) = text::skip_unescaped(s, i) else {
+            let Next::At(k) = characters::skip_unescaped(s, i) else {
                 return Spelling::Bad;
             };
             i = k;

@@ -5,8 +5,8 @@ use crate::steps::Cursor;
 use crate::steps::Step;
 use crate::steps::next;
 use crate::steps::utf8_size;
+use escapes::Code;
 use numerals::Numeral;
-use text::Code;
 ghost use mathlib.Core.Path.{_≡_};
 ghost use mathlib.Core.List.{[]};
 ghost use Prim.Native.Nat.{_≤_};
@@ -96,7 +96,7 @@ pub fn decoded_size(s: &[u8], at: usize) -> usize
             return n;
         }
         if first == BACKSLASH {
-            let Code::Point(code, j) = text::escape(s, i + 1) else {
+            let Code::Point(code, j) = escapes::escape(s, i + 1) else {
                 return n;
             };
             n += utf8_size(code);

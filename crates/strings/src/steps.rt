@@ -1,7 +1,7 @@
 // Byte after byte of what a string stands for, by a cursor.
 use crate::BACKSLASH;
 use crate::QUOTE;
-use text::Code;
+use escapes::Code;
 ghost use mathlib.Core.Path.{_≡_};
 ghost use mathlib.Core.List.{_∷_};
 ghost use Prim.Native.Nat.{_-_, _≤_, _<_};
@@ -78,7 +78,7 @@ fn next_escaped(s: &[u8], at: usize) -> Step
     requires { ⌜ (at < length (now s)) × (getD (now s) at 0 ≡ 0x5C) ⌝ }
     ensures { λ r. ⌜ Stepped (now (s .entry)) (fresh at) r ⌝ }
 {
-    let Code::Point(code, i) = text::escape(s, at + 1) else {
+    let Code::Point(code, i) = escapes::escape(s, at + 1) else {
         return Step::End;
     };
     let left = utf8_size(code);

@@ -5,7 +5,7 @@ use lib.ListN.{length}
 use mathlib.Core.Path.{_≡_, refl, subst, _∙_}
 use native.Mathlib.Omega.{arith}
 use Rattle.rules.specs.Json.Strings.{utf8}
-use Rattle.text.specs.Codes.{Taken}
+use Rattle.escapes.specs.Codes.{Taken}
 use Rattle.strings.specs.Ahead.{fresh}
 use Rattle.strings.proofs.Ahead.{ahead-fresh, flat-at-none, went-escape}
 use Rattle.strings.proofs.Widths.{size-bounds}
