@@ -1,7 +1,7 @@
 // The fields of an action by their slots: strings, paths, numbers and booleans, as the rules read them.
 use crate::QUOTE;
 use fields::Slot;
-use strings::Spelling;
+use spellings::Spelling;
 use text::Next;
 use values::Truth;
 use values::Whole;
@@ -37,7 +37,7 @@ pub fn string_at(s: &[u8], v: usize, e: usize) -> Wording
     let Next::At(i) = text::skip_byte(s, v, QUOTE) else {
         return Wording::NoString;
     };
-    match strings::scan_string(s, i) {
+    match spellings::scan_string(s, i) {
         Spelling::Plain(end) => {
             if end != e {
                 return Wording::NoString;

@@ -11,7 +11,7 @@ use crate::notes::Slot;
 use crate::notes::no_fields;
 use crate::notes::noted;
 use json::Tail;
-use strings::Spelling;
+use spellings::Spelling;
 use text::Next;
 ghost use mathlib.Core.Path.{_≡_};
 ghost use mathlib.Core.List.{List};
@@ -38,7 +38,7 @@ pub fn read_name(s: &[u8], at: usize) -> Name
     let Next::At(i) = text::skip_byte(s, at, QUOTE) else {
         return Name::NoName;
     };
-    match strings::scan_string(s, i) {
+    match spellings::scan_string(s, i) {
         Spelling::Plain(end) => Name::Of(Spell {
             at: i,
             end,

@@ -3,7 +3,7 @@
 // and, where it is a string, how many bytes it stands for and how it stands to "m".
 use numerals::Numeral;
 use numerals::Signed;
-use strings::Spelling;
+use spellings::Spelling;
 use values::Order;
 use values::Whole;
 ghost use Prim.Native.Nat.{_<_};
@@ -71,7 +71,7 @@ fn print_string(t: &[u8]) {
     if t[0] != QUOTE {
         return;
     }
-    match strings::scan_string(t, 1) {
+    match spellings::scan_string(t, 1) {
         Spelling::Plain(_) => print_spelled(t),
         Spelling::Escaped(_) => print_spelled(t),
         Spelling::Bad => (),

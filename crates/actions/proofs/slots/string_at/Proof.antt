@@ -5,7 +5,7 @@ use Rattle.rules.specs.Bytes.{_>>=_}
 use Rattle.rules.specs.Json.Text.{Text, behind}
 use Rattle.rules.specs.Json.Strings.{string}
 use Rattle.text.specs.Answers.{Answer}
-use Rattle.strings.specs.Scanned.{Scanned}
+use Rattle.spellings.specs.Scanned.{Scanned}
 use Rattle.actions.proofs.Strings.{stringOf-none, stringOf-ends, string-read, plain-size}
 use native.Mathlib.Omega.{arith}
 use borrow.Author.Needs.{needs}
@@ -13,7 +13,7 @@ use Rattle.actions.proofs.slots.string_at.Statement.{statement}
 use Rattle.actions.proofs.slots.string_at.Tie as tie
 use Rattle.actions.proofs.slots.string_at.Reads as reads
 use Rattle.actions.proofs.slots.string_at.Lts as lts
-use Rattle.strings.proofs.scan_string.Reads as scan-string-reads
+use Rattle.spellings.proofs.scan_string.Reads as scan-string-reads
 use Rattle.strings.proofs.decoded_size.Reads as decoded-size-reads
 use Rattle.text.proofs.skip_byte.Reads as skip-byte-reads
 

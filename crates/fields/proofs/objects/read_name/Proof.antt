@@ -6,7 +6,7 @@ use Rattle.rules.specs.Bytes.{_>>=_}
 use Rattle.rules.specs.Json.Text.{Text}
 use Rattle.rules.specs.Json.Strings.{string}
 use Rattle.text.specs.Answers.{Answer}
-use Rattle.strings.specs.Scanned.{Scanned}
+use Rattle.spellings.specs.Scanned.{Scanned}
 use Rattle.fields.proofs.Members.{named-plain, named-escaped}
 use Rattle.fields.proofs.objects.read_name.Statement.{statement}
 use Rattle.fields.proofs.objects.read_name.Tie as tie
