@@ -15,8 +15,8 @@ use Rattle.rules.specs.Json.Values.{elements, value, arrayOf}
 use Rattle.rules.specs.Json.Fields.{isNull, soleOrNone, ifThere, strings, stringsOf}
 use Rattle.rules.proofs.Json.Suffix.{value-same}
 use Rattle.fields.specs.Slots.{optionalIn}
-use Rattle.fields.specs.Strung.{StringsIs, Listed as Lists, knownNames}
-use Rattle.fields.specs.declared.arrays.Strings.the-variants.{Good, NotStrings}
+use Rattle.lists.specs.Strung.{StringsIs, Listed as Lists, knownNames}
+use Rattle.lists.specs.declared.Strings.the-variants.{Good, NotStrings}
 use Rattle.fields.specs.declared.notes.Slot.{Slot}
 use Rattle.actions.specs.Line.{FeaturesAt}
 use Rattle.actions.specs.Nested.{Strung, featuresOf, featuresIn, Known, columnsOf, columnsIn, ColumnsIs}

@@ -25,7 +25,7 @@ use Rattle.rules.proofs.Json.Places.{unquoted-place}
 use Rattle.values.specs.Answers.{truthIs}
 use Rattle.strings.specs.Decoded.{decoded}
 use Rattle.strings.proofs.Decoding.{decoded-some}
-use Rattle.fields.specs.Kinds.{namesOf}
+use Rattle.kinds.specs.Kinds.{namesOf}
 use Rattle.fields.specs.Slots.{missing, textIn}
 use Rattle.fields.specs.declared.notes.Slot.{Slot}
 use Rattle.fields.specs.declared.notes.Fields.{Fields}

@@ -21,11 +21,11 @@ use Rattle.rules.proofs.Json.ValueReads.{value-reads, member-reads}
 use Rattle.json.specs.Follows.{Follows}
 use Rattle.json.specs.declared.Tail.the-variants.{Closed, More, Neither}
 use Rattle.fields.specs.Namings.{Object}
-use Rattle.fields.specs.Spelled.{nameIn, Stands}
-use Rattle.fields.specs.declared.names.Spell.{Spell}
+use Rattle.keys.specs.Spelled.{nameIn}
+use Rattle.fields.specs.Standing.{Stands}
+use Rattle.keys.specs.declared.Spell.{Spell}
 use Rattle.fields.specs.declared.notes.Slot.{Slot}
-use Rattle.fields.proofs.Passing.{Passed, passed-start, passed-none, passed-neither, passed-closed, passed-more}
-use Rattle.fields.proofs.Walking.{items-first}
+use Rattle.fields.proofs.Passing.{Passed, passed-start, passed-none, passed-neither, passed-closed, passed-more, items-first}
 use Rattle.actions.specs.Line.{Pairing}
 use Rattle.actions.specs.Valued.{Proper}
 use Rattle.actions.specs.Texts.{Told}

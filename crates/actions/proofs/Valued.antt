@@ -18,7 +18,7 @@ use Rattle.rules.proofs.Json.Steps.{contents-list}
 use Rattle.rules.proofs.Json.Fields.{under-hit, under-miss}
 use Rattle.fields.specs.Slots.{missing, Times, Each}
 use Rattle.fields.specs.declared.notes.Slot.{Slot}
-use Rattle.fields.proofs.Walking.{andThen-some}
+use Rattle.fields.proofs.Passing.{andThen-some}
 use Rattle.actions.specs.Valued.{Valued, ProperBy, Proper}
 use Rattle.actions.specs.Inside.{InsideBy, Inside}
 

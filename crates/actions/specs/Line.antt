@@ -12,7 +12,7 @@ use Rattle.rules.specs.Gate.{readerNames, writerNames}
 use Rattle.rules.specs.Json.Text.{Text}
 use Rattle.rules.specs.Json.Values.{Member, contents, value}
 use Rattle.strings.specs.Decoded.{decoded, WellSpelled}
-use Rattle.fields.specs.Strung.{Listed}
+use Rattle.lists.specs.Strung.{Listed}
 use Rattle.actions.specs.Counts.{recordsIs}
 use Rattle.actions.specs.declared.line.Added.{Added}
 use Rattle.actions.specs.declared.line.Stated.{Stated}

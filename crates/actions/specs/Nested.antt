@@ -12,7 +12,7 @@ use Rattle.rules.specs.Json.Text.{Text}
 use Rattle.rules.specs.Json.Values.{Member, contents, value, objectOf}
 use Rattle.rules.specs.Json.Fields.{ifThere, stringsOf}
 use Rattle.fields.specs.Slots.{textIn, optionalIn}
-use Rattle.fields.specs.Strung.{Listed as Lists, knownNames}
+use Rattle.lists.specs.Strung.{Listed as Lists, knownNames}
 use Rattle.fields.specs.declared.notes.Slot.{Slot}
 use Rattle.actions.specs.Line.{Pairing, FeaturesAt}
 use Rattle.actions.specs.declared.nested.Values.{Values}

@@ -6,9 +6,9 @@ use crate::acts::protocol_in;
 use crate::acts::remove_in;
 use crate::slots::Records;
 use fields::Fields;
-use fields::Kind;
-use fields::Name;
 use json::Tail;
+use keys::Name;
+use kinds::Kind;
 use text::Next;
 ghost use mathlib.Core.Path.{_≡_};
 ghost use Prim.Native.Nat.{_≤_, _<_};
@@ -81,14 +81,14 @@ fn key_at(line: &[u8], j: usize) -> Keyed
     requires { ⌜ Braced (now line) j ⌝ }
     ensures { λ r. ⌜ KeyedIs (now (line .entry)) r ⌝ }
 {
-    let Name::Of(n) = fields::read_name(line, j) else {
+    let Name::Of(n) = keys::read_name(line, j) else {
         return Keyed::NoKey;
     };
     let end = n.end;
     let Next::At(v) = json::skip_colon(line, end) else {
         return Keyed::NoKey;
     };
-    let k = fields::which(line, n, Kind::Line);
+    let k = kinds::which(line, n, Kind::Line);
     Keyed::Value(k, v)
 }
 

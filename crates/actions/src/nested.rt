@@ -3,8 +3,8 @@ use crate::OPEN_BRACE;
 use crate::QUOTE;
 use fields::Met;
 use fields::Slot;
-use fields::Strings;
 use json::Tail;
+use lists::Strings;
 use text::Next;
 ghost use mathlib.Core.Path.{_≡_};
 ghost use mathlib.Core.Option.{some};
@@ -112,7 +112,7 @@ fn array_at(s: &[u8], v: usize, e: usize) -> Array
     let Next::At(at) = text::skip_byte(s, v, OPEN_BRACKET) else {
         return Array::NoArray;
     };
-    let Strings::Good(n, _) = fields::strings_in(s, at) else {
+    let Strings::Good(n, _) = lists::strings_in(s, at) else {
         return Array::NoArray;
     };
     Array::Of(at, n)
@@ -143,7 +143,7 @@ pub fn features_in(s: &[u8], slot: Slot, writer: bool) -> Features
     let Array::Of(at, _) = array_at(s, start, end) else {
         return Features::NoFeatures;
     };
-    let known = fields::all_known(s, at, writer);
+    let known = lists::all_known(s, at, writer);
     Features::Listed(at, known)
 }
 
@@ -169,7 +169,7 @@ pub fn columns_in(s: &[u8], slot: Slot) -> Columns
     if MOST_COLUMNS < n {
         return Columns::NoColumns;
     }
-    if fields::distinct_strings(s, at) {
+    if lists::distinct_strings(s, at) {
         return Columns::Within(at);
     }
     Columns::NoColumns

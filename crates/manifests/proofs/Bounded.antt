@@ -12,9 +12,9 @@ use Rattle.rules.specs.Manifests.{Bounds, inColumn, boundsOf, bothThere}
 use Rattle.rules.specs.Json.Text.{Text}
 use Rattle.rules.specs.Json.Values.{Member, objectOf}
 use Rattle.rules.specs.Json.Fields.{isNull, soleOrNone, optional, ifThere, stringOf}
-use Rattle.fields.specs.Kinds.{namesOf}
+use Rattle.kinds.specs.Kinds.{namesOf}
 use Rattle.fields.specs.Slots.{missing, Each, optionalIn}
-use Rattle.fields.specs.declared.names.Kind.the-variants.{Bounds as OfBounds}
+use Rattle.kinds.specs.declared.Kind.the-variants.{Bounds as OfBounds}
 use Rattle.fields.specs.declared.notes.Slot.{Slot}
 use Rattle.fields.proofs.Slots.{slot-optional}
 use Rattle.strings.specs.Decoded.{decoded, WellSpelled}

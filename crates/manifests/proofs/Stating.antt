@@ -15,9 +15,9 @@ use Rattle.rules.specs.Json.Values.{Member, objectOf}
 use Rattle.rules.specs.Json.Fields.{ifThere}
 use Rattle.rules.proofs.Tests.{apart}
 use Rattle.strings.specs.Decoded.{decoded}
-use Rattle.fields.specs.Kinds.{namesOf}
+use Rattle.kinds.specs.Kinds.{namesOf}
 use Rattle.fields.specs.Slots.{missing, Each, textIn}
-use Rattle.fields.specs.declared.names.Kind.the-variants.{State, Manifest as OfManifest}
+use Rattle.kinds.specs.declared.Kind.the-variants.{State, Manifest as OfManifest}
 use Rattle.fields.specs.declared.notes.Slot.{Slot}
 use Rattle.fields.proofs.Slots.{slot-once, slot-optional}
 use Rattle.actions.specs.Inside.{stringIn}

@@ -1,13 +1,13 @@
 // A text that is one JSON object, and nothing more; and a field of it that may be missing.
 use crate::OPEN_BRACE;
 use fields::Fields;
-use fields::Kind;
 use fields::Slot;
+use kinds::Kind;
 use text::Next;
 ghost use mathlib.Core.Path.{_≡_};
 ghost use mathlib.Core.Bool.{false};
 ghost use Rattle.rules.specs.Json.Values.{objectOf};
-ghost use Rattle.fields.specs.Kinds.{namesOf};
+ghost use Rattle.kinds.specs.Kinds.{namesOf};
 ghost use Rattle.actions.specs.Inside.{Inside};
 ghost use Rattle.manifests.specs.Objects.{ObjectIs, optionalOf, OptionalIs};
 

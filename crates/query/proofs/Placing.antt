@@ -13,9 +13,9 @@ use Rattle.rules.specs.Json.Values.{Member, contents, value}
 use Rattle.rules.specs.Json.Fields.{stringAt}
 use Rattle.rules.specs.Query.{Condition as rCondition, stands, conditionIn}
 use Rattle.rules.proofs.Tests.{by, and-left, and-right}
-use Rattle.fields.specs.Kinds.{namesOf}
+use Rattle.kinds.specs.Kinds.{namesOf}
 use Rattle.fields.specs.Slots.{missing, Each}
-use Rattle.fields.specs.declared.names.Kind.the-variants.{Condition}
+use Rattle.kinds.specs.declared.Kind.the-variants.{Condition}
 use Rattle.fields.specs.declared.notes.Slot.{Slot}
 use Rattle.actions.specs.Inside.{stringIn}
 use Rattle.actions.proofs.Stated.{field-string}

@@ -108,7 +108,7 @@ pub fn condition_at(q: &[u8], at: usize) -> Element
     let Next::At(i) = text::skip_byte(q, at, OPEN_BRACE) else {
         return Element::Bad;
     };
-    let f = fields::scan(q, i, fields::Kind::Condition, IN_CONDITION);
+    let f = fields::scan(q, i, kinds::Kind::Condition, IN_CONDITION);
     if !f.good {
         return Element::Bad;
     }

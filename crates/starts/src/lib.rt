@@ -1,8 +1,8 @@
 // The start from which a version is read, the marker, and the latest version, in a well-formed bundle.
 use fields::Fields;
-use fields::Kind;
-use fields::Name;
 use fields::Slot;
+use keys::Name;
+use kinds::Kind;
 use logs::Place;
 use names::Version;
 use text::Next;
@@ -75,13 +75,13 @@ fn format_fits(t: &[u8], slot: Slot) -> bool
     if values::is_null(&t[start..end]) {
         return true;
     }
-    let Name::Of(n) = fields::read_name(t, start) else {
+    let Name::Of(n) = keys::read_name(t, start) else {
         return false;
     };
     if n.end != end {
         return false;
     }
-    fields::name_is(t, n, b"json")
+    keys::name_is(t, n, b"json")
 }
 
 // The version of a marker with this text.

@@ -2,8 +2,8 @@
 use mathlib.Core.Path.{sym, ap, subst, _∙_}
 use Prim.Native.Nat.{_+_, _≤_}
 use lib.ListN.{length}
-use Rattle.fields.specs.Kinds.{namesOf}
-use Rattle.fields.specs.declared.names.Kind.the-variants.{Add}
+use Rattle.kinds.specs.Kinds.{namesOf}
+use Rattle.kinds.specs.declared.Kind.the-variants.{Add}
 use Rattle.values.proofs.Back.{whole-number, whole-not}
 use Rattle.actions.specs.Counts.{isBool, isKnown, recordsIs}
 use Rattle.actions.specs.Texts.{PathIs, Told}

@@ -1,7 +1,7 @@
 -- `meta_data_in` meets its contract. Its two fields.
 use mathlib.Core.Path.{subst}
-use Rattle.fields.specs.Kinds.{namesOf}
-use Rattle.fields.specs.declared.names.Kind.the-variants.{MetaData}
+use Rattle.kinds.specs.Kinds.{namesOf}
+use Rattle.kinds.specs.declared.Kind.the-variants.{MetaData}
 use Rattle.actions.specs.Texts.{Told}
 use Rattle.actions.specs.Nested.{ColumnsIs}
 use Rattle.actions.proofs.Stated.{each-inside}

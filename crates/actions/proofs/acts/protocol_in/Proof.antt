@@ -1,8 +1,8 @@
 -- `protocol_in` meets its contract. Its fields, one after another.
 use mathlib.Core.Path.{sym, subst, _∙_}
 use mathlib.Core.Bool.{true, false}
-use Rattle.fields.specs.Kinds.{namesOf}
-use Rattle.fields.specs.declared.names.Kind.the-variants.{Protocol}
+use Rattle.kinds.specs.Kinds.{namesOf}
+use Rattle.kinds.specs.declared.Kind.the-variants.{Protocol}
 use Rattle.values.proofs.Back.{whole-number, whole-not}
 use Rattle.actions.specs.Nested.{FeaturesIs}
 use Rattle.actions.proofs.Stated.{each-inside}

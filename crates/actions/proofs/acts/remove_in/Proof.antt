@@ -1,7 +1,7 @@
 -- `remove_in` meets its contract. The path of its field.
 use mathlib.Core.Path.{subst}
-use Rattle.fields.specs.Kinds.{namesOf}
-use Rattle.fields.specs.declared.names.Kind.the-variants.{Remove}
+use Rattle.kinds.specs.Kinds.{namesOf}
+use Rattle.kinds.specs.declared.Kind.the-variants.{Remove}
 use Rattle.actions.specs.Texts.{PathIs}
 use Rattle.actions.proofs.Stated.{each-inside}
 use Rattle.actions.proofs.Assembled.{remove-no-path, remove-there}

@@ -2,7 +2,7 @@
 use mathlib.Core.Path.{subst}
 use Rattle.rules.specs.Actions.{inField}
 use Rattle.text.specs.Answers.{Answer}
-use Rattle.fields.specs.Strung.{StringsIs}
+use Rattle.lists.specs.Strung.{StringsIs}
 use Rattle.actions.proofs.Arrays.{array-missing, array-refused, array-strung}
 use borrow.Author.Needs.{needs}
 use Rattle.actions.proofs.nested.array_at.Statement.{statement}

@@ -4,7 +4,7 @@ use Prim.Native.Nat.{_+_, _-_, _≤_}
 use lib.ListN.{length}
 use Rattle.rules.specs.Actions.{inField}
 use Rattle.json.specs.Follows.{Follows}
-use Rattle.fields.specs.Spelled.{MetIs}
+use Rattle.fields.specs.Standing.{MetIs}
 use Rattle.actions.specs.Texts.{Told}
 use Rattle.actions.proofs.Valued.{member-valued}
 use Rattle.actions.proofs.Partitions.{Paired, paired-neither, paired-empty, paired-start, paired-none, paired-refused, paired-broken, paired-closed, paired-more}

@@ -5,9 +5,9 @@ use borrow.Author.Needs.{needs}
 use borrow.Author.Tests.{not-true, not-false}
 use Rattle.rules.specs.Json.Values.{objectOf}
 use lib.ListN.{getD}
-use Rattle.fields.specs.Kinds.{namesOf}
+use Rattle.kinds.specs.Kinds.{namesOf}
 use Rattle.fields.specs.Slots.{missing}
-use Rattle.fields.specs.declared.names.Kind.the-variants.{Bounds}
+use Rattle.kinds.specs.declared.Kind.the-variants.{Bounds}
 use Rattle.actions.proofs.Stated.{each-inside}
 use Rattle.manifests.specs.Ranges.{optionalStringIn, BoundIs}
 use Rattle.manifests.proofs.Whole.{object-good, object-bad}

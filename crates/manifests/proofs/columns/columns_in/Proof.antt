@@ -11,7 +11,8 @@ use Rattle.rules.specs.Manifests.{Bounds, boundsOf}
 use Rattle.rules.specs.Json.Values.{member, value as rValue}
 use Rattle.rules.proofs.Json.ValueReads.{value-reads, member-reads}
 use Rattle.json.specs.Follows.{Follows}
-use Rattle.fields.specs.Spelled.{nameIn, MetIs}
+use Rattle.keys.specs.Spelled.{nameIn}
+use Rattle.fields.specs.Standing.{MetIs}
 use Rattle.manifests.specs.Ranges.{RangeIs}
 use Rattle.manifests.specs.Tables.{Table}
 use Rattle.manifests.proofs.Gathering.{Gathered, gathered-neither, gathered-empty, gathered-start, gathered-none, gathered-refused, gathered-cut, gathered-closed, gathered-more}

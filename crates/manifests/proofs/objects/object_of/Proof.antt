@@ -6,7 +6,7 @@ use borrow.Author.Tests.{not-true, not-false}
 use Rattle.rules.proofs.Json.Steps.{alone-none}
 use Rattle.text.specs.Answers.{Answer}
 use Rattle.rules.specs.Json.Values.{contents, value as rValue}
-use Rattle.fields.specs.Kinds.{namesOf}
+use Rattle.kinds.specs.Kinds.{namesOf}
 use Rattle.manifests.proofs.Whole.{scanned-good, scanned-none, alone-whole, alone-trailing, object-unopened, object-opened, object-none, object-some}
 use Rattle.manifests.proofs.objects.object_of.Statement.{statement}
 use Rattle.manifests.proofs.objects.object_of.Tie as tie

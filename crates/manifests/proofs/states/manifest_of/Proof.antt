@@ -5,9 +5,9 @@ use borrow.Author.Needs.{needs}
 use borrow.Author.Tests.{not-true, not-false}
 use lib.ListN.{getD}
 use Rattle.rules.specs.Json.Values.{objectOf}
-use Rattle.fields.specs.Kinds.{namesOf}
+use Rattle.kinds.specs.Kinds.{namesOf}
 use Rattle.fields.specs.Slots.{missing}
-use Rattle.fields.specs.declared.names.Kind.the-variants.{Manifest}
+use Rattle.kinds.specs.declared.Kind.the-variants.{Manifest}
 use Rattle.actions.specs.Inside.{stringIn}
 use Rattle.actions.proofs.Stated.{each-inside}
 use Rattle.manifests.specs.States.{columnsStated}

@@ -3,9 +3,9 @@ use Rattle.query.proofs.Placing.{read-no-brace, read-no-object, read-un
 use Rattle.query.specs.Conditions.{MadeIs}
 use Rattle.query.specs.Members.{inOrder}
 use Rattle.actions.proofs.Stated.{each-inside}
-use Rattle.fields.specs.declared.names.Kind.the-variants.{Condition}
+use Rattle.kinds.specs.declared.Kind.the-variants.{Condition}
 use Rattle.fields.specs.Slots.{ScannedBy}
-use Rattle.fields.specs.Kinds.{namesOf}
+use Rattle.kinds.specs.Kinds.{namesOf}
 use Rattle.text.specs.Answers.{Answer}
 use Rattle.rules.specs.Query.{Condition as rCondition}
 use Rattle.rules.specs.Json.Values.{contents, value as rValue}
