@@ -29,9 +29,9 @@ use Rattle.fields.specs.declared.notes.Fields.{Fields}
 use Rattle.fields.proofs.Members.{member-nameless, member-no-colon}
 use Rattle.keys.proofs.Quoting.{named-string}
 use Rattle.actions.specs.Begun.{endsBy, ends, lineValue, keyed, keyAt, kindAt, Braced, Begun, Lined}
-use Rattle.actions.proofs.Strings.{byte-text}
-use Rattle.actions.proofs.Valued.{contents-valued}
-use Rattle.actions.proofs.Placed.{byte-next}
+use Rattle.slots.proofs.Strings.{byte-text}
+use Rattle.nested.proofs.Valued.{contents-valued}
+use Rattle.nested.proofs.Placed.{byte-next}
 
 -- ---- up to the first member
 

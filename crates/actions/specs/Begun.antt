@@ -14,7 +14,7 @@ use Rattle.fields.specs.Slots.{Each}
 use Rattle.kinds.specs.declared.Kind.{Kind}
 use Rattle.kinds.specs.declared.Kind.the-variants.{Add, Remove, Protocol, MetaData}
 use Rattle.fields.specs.declared.notes.Fields.{Fields}
-use Rattle.actions.specs.Valued.{Valued}
+use Rattle.nested.specs.Valued.{Valued}
 use Rattle.actions.specs.declared.line.Keyed.{Keyed}
 use Rattle.actions.specs.declared.line.Keyed.the-variants.{Value, NoKey}
 

@@ -18,7 +18,7 @@ use Rattle.kinds.specs.declared.Kind.the-variants.{Bounds as OfBounds}
 use Rattle.fields.specs.declared.notes.Slot.{Slot}
 use Rattle.fields.proofs.Slots.{slot-optional}
 use Rattle.strings.specs.Decoded.{decoded, WellSpelled}
-use Rattle.actions.specs.Texts.{Read}
+use Rattle.slots.specs.Texts.{Read}
 use Rattle.manifests.specs.Ranges.{optionalStringIn, BoundIs, Both, OneMissing}
 use Rattle.manifests.specs.declared.bounds.Bound.the-variants.{Spelled}
 use Rattle.manifests.proofs.Optionals.{there-some}

@@ -20,9 +20,9 @@ use Rattle.fields.specs.Slots.{missing, Each, textIn}
 use Rattle.kinds.specs.declared.Kind.the-variants.{State, Manifest as OfManifest}
 use Rattle.fields.specs.declared.notes.Slot.{Slot}
 use Rattle.fields.proofs.Slots.{slot-once, slot-optional}
-use Rattle.actions.specs.Inside.{stringIn}
-use Rattle.actions.specs.Texts.{Read}
-use Rattle.actions.proofs.Stated.{field-string}
+use Rattle.slots.specs.Inside.{stringIn}
+use Rattle.slots.specs.Texts.{Read}
+use Rattle.slots.proofs.Stated.{field-string}
 use Rattle.manifests.specs.Objects.{optionalOf}
 use Rattle.manifests.specs.Tables.{Table}
 use Rattle.manifests.specs.States.{isPath, columnsStated, StatedIs, ManifestIs, manifestsOf}

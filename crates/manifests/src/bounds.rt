@@ -2,12 +2,12 @@
 use crate::objects::Optional;
 use crate::objects::object_of;
 use crate::objects::optional_in;
-use actions::Wording;
 use fields::Slot;
 use kinds::Kind;
+use slots::Wording;
 ghost use mathlib.Core.Path.{_≡_};
 ghost use Rattle.rules.specs.Manifests.{boundsOf};
-ghost use Rattle.actions.specs.Inside.{Inside};
+ghost use Rattle.slots.specs.Inside.{Inside};
 ghost use Rattle.manifests.specs.Ranges.{optionalStringIn, BoundIs, RangeIs};
 
 // How deep values may nest inside of the object of a column.
@@ -28,7 +28,7 @@ fn bound_in(t: &[u8], slot: Slot) -> Bound
     match optional_in(t, slot) {
         Optional::Twice => Bound::Bad,
         Optional::Missing => Bound::Missing,
-        Optional::At(v, e) => match actions::string_at(t, v, e) {
+        Optional::At(v, e) => match slots::string_at(t, v, e) {
             Wording::Sized(p, _) => Bound::Spelled(p),
             Wording::NoString => Bound::Bad,
         },

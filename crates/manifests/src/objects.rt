@@ -8,7 +8,7 @@ ghost use mathlib.Core.Path.{_≡_};
 ghost use mathlib.Core.Bool.{false};
 ghost use Rattle.rules.specs.Json.Values.{objectOf};
 ghost use Rattle.kinds.specs.Kinds.{namesOf};
-ghost use Rattle.actions.specs.Inside.{Inside};
+ghost use Rattle.slots.specs.Inside.{Inside};
 ghost use Rattle.manifests.specs.Objects.{ObjectIs, optionalOf, OptionalIs};
 
 fn no_object() -> Fields

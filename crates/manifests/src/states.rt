@@ -3,13 +3,13 @@ use crate::columns::columns_of;
 use crate::objects::Optional;
 use crate::objects::object_of;
 use crate::objects::optional_in;
-use actions::Wording;
 use fields::Slot;
 use kinds::Kind;
+use slots::Wording;
 use text::Next;
 ghost use mathlib.Core.Path.{_≡_};
 ghost use Rattle.rules.specs.Manifests.{manifestOf, manifests};
-ghost use Rattle.actions.specs.Inside.{Inside, stringIn};
+ghost use Rattle.slots.specs.Inside.{Inside, stringIn};
 ghost use Rattle.manifests.specs.States.{isPath, columnsStated, StatedIs, ManifestIs, ArrayIs};
 
 // How deep values may nest inside of the state manifest, and inside of a manifest.
@@ -29,7 +29,7 @@ fn is_path(t: &[u8], slot: Slot) -> bool
     if slot.seen != 1 {
         return false;
     }
-    let Wording::Sized(_, n) = actions::string_at(t, start, end) else {
+    let Wording::Sized(_, n) = slots::string_at(t, start, end) else {
         return false;
     };
     if n == 0 {

@@ -17,8 +17,8 @@ use Rattle.kinds.specs.Kinds.{namesOf}
 use Rattle.fields.specs.Slots.{missing, Each}
 use Rattle.kinds.specs.declared.Kind.the-variants.{Condition}
 use Rattle.fields.specs.declared.notes.Slot.{Slot}
-use Rattle.actions.specs.Inside.{stringIn}
-use Rattle.actions.proofs.Stated.{field-string}
+use Rattle.slots.specs.Inside.{stringIn}
+use Rattle.slots.proofs.Stated.{field-string}
 use Rattle.query.specs.Members.{ordered}
 use Rattle.query.specs.Conditions.{conditionFrom, conditionBy, conditionRead}
 

@@ -12,7 +12,7 @@ use Rattle.text.specs.declared.Next.{Next}
 use Rattle.text.specs.declared.Next.the-variants.{At, Bad as NotThere}
 use Rattle.numerals.specs.Answers.{opIs}
 use Rattle.strings.specs.Decoded.{decoded, WellSpelled}
-use Rattle.actions.specs.Texts.{Read}
+use Rattle.slots.specs.Texts.{Read}
 use Rattle.query.specs.Words.{asIs, fitIs}
 use Rattle.query.specs.declared.words.Fit.the-variants.{Fits}
 use Rattle.query.specs.declared.conditions.Condition.{Condition}

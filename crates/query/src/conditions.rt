@@ -9,15 +9,15 @@ use crate::words::Operator;
 use crate::words::fit_at;
 use crate::words::kind_at;
 use crate::words::operator_at;
-use actions::Wording;
 use fields::Slot;
 use numerals::Op;
 use numerals::Signed;
+use slots::Wording;
 use text::Next;
 ghost use Prim.Native.Nat.{_≤_};
 ghost use lib.ListN.{length, drop};
 ghost use Rattle.strings.specs.Decoded.{decoded, WellSpelled};
-ghost use Rattle.actions.specs.Inside.{Inside, stringIn};
+ghost use Rattle.slots.specs.Inside.{Inside, stringIn};
 ghost use Rattle.query.specs.Conditions.{conditionFrom, conditionBy, conditionRead, StringIs, MadeIs, ElementIs};
 
 // A condition on the values of a column. The column and the bound, the condition's own value, are strings of the query, each by the
@@ -45,7 +45,7 @@ fn string_in(q: &[u8], slot: Slot) -> Next
     if slot.seen != 1 {
         return Next::Bad;
     }
-    let Wording::Sized(p, _) = actions::string_at(q, start, end) else {
+    let Wording::Sized(p, _) = slots::string_at(q, start, end) else {
         return Next::Bad;
     };
     Next::At(p)

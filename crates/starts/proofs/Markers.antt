@@ -20,8 +20,8 @@ use Rattle.kinds.specs.declared.Kind.the-variants.{Marker}
 use Rattle.fields.specs.declared.notes.Slot.{Slot}
 use Rattle.fields.specs.declared.notes.Fields.{Fields}
 use Rattle.fields.proofs.Slots.{slot-optional, slot-absent}
-use Rattle.actions.specs.Inside.{wholeIn}
-use Rattle.actions.proofs.Stated.{field-whole}
+use Rattle.slots.specs.Inside.{wholeIn}
+use Rattle.slots.proofs.Stated.{field-whole}
 use Rattle.starts.specs.Marks.{ObjectBy, ObjectIs, formatIn, fits}
 
 -- ---- the format, whose value has the text x

@@ -18,7 +18,7 @@ ghost use Rattle.rules.specs.Marker.{markerVersion, marked as rMarked, climb as
 ghost use Rattle.values.specs.Answers.{wholeIs};
 ghost use Rattle.bundle.specs.Files.{isSome, filesIn};
 ghost use Rattle.logs.specs.Logs.{PlaceIs};
-ghost use Rattle.actions.specs.Inside.{Inside};
+ghost use Rattle.slots.specs.Inside.{Inside};
 ghost use Rattle.starts.specs.Marks.{ObjectIs, formatIn, fits, markIs};
 ghost use Rattle.starts.specs.Ways.{StartIs};
 
@@ -97,7 +97,7 @@ pub fn marker_version(t: &[u8]) -> Whole
             return Whole::NotWhole;
         }
         if format_fits(t, format) {
-            return actions::whole_in(t, version);
+            return slots::whole_in(t, version);
         }
     }
     Whole::NotWhole

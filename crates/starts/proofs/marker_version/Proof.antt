@@ -3,7 +3,7 @@ use mathlib.Core.Path.{sym, ap, _∙_}
 use Rattle.values.specs.Answers.{wholeIs}
 use Rattle.kinds.specs.Kinds.{namesOf}
 use Rattle.kinds.specs.declared.Kind.the-variants.{Marker}
-use Rattle.actions.proofs.Stated.{each-inside}
+use Rattle.slots.proofs.Stated.{each-inside}
 use Rattle.starts.proofs.Markers.{object-there, object-gone, marker-none, marker-parts, marker-format}
 use native.Mathlib.Omega.{arith}
 use borrow.Author.Needs.{needs}

@@ -2,10 +2,10 @@
 use mathlib.Core.Path.{subst}
 use Rattle.kinds.specs.Kinds.{namesOf}
 use Rattle.kinds.specs.declared.Kind.the-variants.{MetaData}
-use Rattle.actions.specs.Texts.{Told}
-use Rattle.actions.specs.Nested.{ColumnsIs}
-use Rattle.actions.proofs.Stated.{each-inside}
-use Rattle.actions.proofs.Valued.{each-proper}
+use Rattle.slots.specs.Texts.{Told}
+use Rattle.nested.specs.Nested.{ColumnsIs}
+use Rattle.slots.proofs.Stated.{each-inside}
+use Rattle.nested.proofs.Valued.{each-proper}
 use Rattle.actions.proofs.Assembled.{meta-no-id, meta-no-columns, meta-there}
 use native.Mathlib.Omega.{arith}
 use borrow.Author.Needs.{needs}

@@ -2,8 +2,8 @@
 use mathlib.Core.Path.{subst}
 use Rattle.kinds.specs.Kinds.{namesOf}
 use Rattle.kinds.specs.declared.Kind.the-variants.{Remove}
-use Rattle.actions.specs.Texts.{PathIs}
-use Rattle.actions.proofs.Stated.{each-inside}
+use Rattle.slots.specs.Texts.{PathIs}
+use Rattle.slots.proofs.Stated.{each-inside}
 use Rattle.actions.proofs.Assembled.{remove-no-path, remove-there}
 use native.Mathlib.Omega.{arith}
 use borrow.Author.Needs.{needs}

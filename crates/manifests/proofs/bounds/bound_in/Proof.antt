@@ -2,7 +2,7 @@
 use mathlib.Core.Path.{subst}
 use borrow.Author.Needs.{needs}
 use Rattle.rules.specs.Json.Fields.{stringOf}
-use Rattle.actions.specs.Texts.{StringIs}
+use Rattle.slots.specs.Texts.{StringIs}
 use Rattle.manifests.specs.Objects.{OptionalIs}
 use Rattle.manifests.proofs.Optionals.{there-twice, there-missing, there-none}
 use Rattle.manifests.proofs.Bounded.{bound-spelled}

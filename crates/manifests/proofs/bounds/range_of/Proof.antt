@@ -8,7 +8,7 @@ use lib.ListN.{getD}
 use Rattle.kinds.specs.Kinds.{namesOf}
 use Rattle.fields.specs.Slots.{missing}
 use Rattle.kinds.specs.declared.Kind.the-variants.{Bounds}
-use Rattle.actions.proofs.Stated.{each-inside}
+use Rattle.slots.proofs.Stated.{each-inside}
 use Rattle.manifests.specs.Ranges.{optionalStringIn, BoundIs}
 use Rattle.manifests.proofs.Whole.{object-good, object-bad}
 use Rattle.manifests.proofs.Bounded.{bounds-none, bounds-by, range-no-min, range-no-max, range-min-missing, range-max-missing, range-both}

@@ -4,7 +4,7 @@ use Prim.Native.Nat.{_≤_}
 use native.Mathlib.Omega.{arith}
 use borrow.Author.Needs.{needs}
 use lib.ListN.{length}
-use Rattle.actions.proofs.Single.{inside-single}
+use Rattle.slots.proofs.Single.{inside-single}
 use Rattle.manifests.proofs.Optionals.{slot-missing, slot-twice, slot-null, slot-there}
 use Rattle.manifests.proofs.objects.optional_in.Statement.{statement}
 use Rattle.manifests.proofs.objects.optional_in.Tie as tie

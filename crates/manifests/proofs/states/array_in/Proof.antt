@@ -8,8 +8,8 @@ use Rattle.rules.specs.Json.Values.{objectOf}
 use Rattle.kinds.specs.Kinds.{namesOf}
 use Rattle.fields.specs.Slots.{missing}
 use Rattle.kinds.specs.declared.Kind.the-variants.{State}
-use Rattle.actions.proofs.Single.{inside-single, text-single, text-not-single}
-use Rattle.actions.proofs.Stated.{each-inside}
+use Rattle.slots.proofs.Single.{inside-single, text-single, text-not-single}
+use Rattle.slots.proofs.Stated.{each-inside}
 use Rattle.manifests.specs.States.{manifestsOf}
 use Rattle.manifests.proofs.Whole.{object-good, object-bad}
 use Rattle.manifests.proofs.Stating.{state-none, state-by}

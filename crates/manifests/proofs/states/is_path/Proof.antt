@@ -2,8 +2,8 @@
 use mathlib.Core.Path.{sym, ap, _∙_, subst}
 use borrow.Author.Needs.{needs}
 use Rattle.rules.specs.Json.Fields.{stringOf}
-use Rattle.actions.specs.Texts.{StringIs}
-use Rattle.actions.proofs.Single.{inside-single, text-single, text-not-single}
+use Rattle.slots.specs.Texts.{StringIs}
+use Rattle.slots.proofs.Single.{inside-single, text-single, text-not-single}
 use Rattle.manifests.specs.States.{isPath}
 use Rattle.manifests.proofs.Stating.{path-empty, path-there}
 use Rattle.manifests.proofs.states.is_path.Statement.{statement}

@@ -8,8 +8,8 @@ use Rattle.rules.specs.Json.Values.{objectOf}
 use Rattle.kinds.specs.Kinds.{namesOf}
 use Rattle.fields.specs.Slots.{missing}
 use Rattle.kinds.specs.declared.Kind.the-variants.{Manifest}
-use Rattle.actions.specs.Inside.{stringIn}
-use Rattle.actions.proofs.Stated.{each-inside}
+use Rattle.slots.specs.Inside.{stringIn}
+use Rattle.slots.proofs.Stated.{each-inside}
 use Rattle.manifests.specs.States.{columnsStated}
 use Rattle.manifests.proofs.Whole.{object-good, object-bad}
 use Rattle.manifests.proofs.Stating.{manifest-none, manifest-by, manifest-pathless, manifest-path, manifest-stated}

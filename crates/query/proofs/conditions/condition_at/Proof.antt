@@ -2,7 +2,7 @@
 use Rattle.query.proofs.Placing.{read-no-brace, read-no-object, read-unordered, read-ordered}
 use Rattle.query.specs.Conditions.{MadeIs}
 use Rattle.query.specs.Members.{inOrder}
-use Rattle.actions.proofs.Stated.{each-inside}
+use Rattle.slots.proofs.Stated.{each-inside}
 use Rattle.kinds.specs.declared.Kind.the-variants.{Condition}
 use Rattle.fields.specs.Slots.{ScannedBy}
 use Rattle.kinds.specs.Kinds.{namesOf}

@@ -1,7 +1,7 @@
 -- `condition_of` meets its contract: string by string, as the rules ask them.
 use Rattle.query.proofs.Making.{by-no-column, by-no-kind, by-no-operator, by-no-value, by-strings}
 use Rattle.query.specs.Conditions.{StringIs, MadeIs}
-use Rattle.actions.specs.Inside.{stringIn}
+use Rattle.slots.specs.Inside.{stringIn}
 use Rattle.rules.specs.Query.{Condition}
 use mathlib.Core.Option.{Option}
 use mathlib.Core.Path.{sym, subst}

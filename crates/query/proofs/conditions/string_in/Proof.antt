@@ -1,6 +1,6 @@
 -- `string_in` meets its contract: a field that stands once has the string of its text.
-use Rattle.actions.proofs.Single.{inside-single, text-single, text-not-single}
-use Rattle.actions.specs.Texts.{Read, StringIs}
+use Rattle.slots.proofs.Single.{inside-single, text-single, text-not-single}
+use Rattle.slots.specs.Texts.{Read, StringIs}
 use Rattle.rules.specs.Json.Fields.{stringOf}
 use Rattle.rules.specs.Bytes.{Bytes}
 use mathlib.Core.Option.{Option}
