@@ -13,9 +13,9 @@ use Rattle.rules.specs.Json.Values.{Member}
 use Rattle.rules.proofs.Tests.{apart, by}
 use Rattle.rules.proofs.Json.Suffix.{some-same, bound, answered-none}
 use Rattle.members.specs.Lookup.{lookup, Standing}
-use Rattle.query.specs.Conditions.{conditionOf}
+use Rattle.conditions.specs.Conditions.{conditionOf}
 use Rattle.query.specs.Reading.{noCondition, conditionsOf}
-use Rattle.query.specs.declared.conditions.Condition.{Condition as Said}
+use Rattle.conditions.specs.declared.conditions.Condition.{Condition as Said}
 use Rattle.query.proofs.Columns.{conditions-here, conditions-end}
 use Rattle.strings.specs.Decoded.{decoded}
 use Rattle.manifests.specs.Ranges.{fromTo, Both, OneMissing}

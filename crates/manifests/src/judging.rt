@@ -4,11 +4,11 @@ use crate::bounds::range_of;
 use crate::columns::IN_BOUNDS;
 use crate::states::Stated;
 use crate::states::manifest_of;
+use conditions::Condition;
 use members::Found;
-use query::Condition;
 ghost use mathlib.Core.Path.{_≡_};
 ghost use Rattle.rules.specs.Manifests.{Manifest, manifestOf, drops as rDrops, dropped};
-ghost use Rattle.query.specs.Conditions.{conditionOf, Sound};
+ghost use Rattle.conditions.specs.Conditions.{conditionOf, Sound};
 ghost use Rattle.query.specs.Reading.{conditionsOf, Sounds};
 ghost use Rattle.manifests.specs.Tables.{Table, Columns, HasColumns};
 ghost use Rattle.manifests.specs.Verdicts.{verdictOf};
@@ -23,7 +23,7 @@ fn drops(q: &[u8], c: Condition, t: &[u8], at: usize) -> bool
         return false;
     };
     match range_of(&t[v..e]) {
-        Range::Closed(lo, hi) => query::outside_at(q, c, &t[v..e], lo, hi),
+        Range::Closed(lo, hi) => meeting::outside_at(q, c, &t[v..e], lo, hi),
         Range::Open => false,
         Range::Malformed => false,
     }

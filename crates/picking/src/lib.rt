@@ -1,7 +1,7 @@
 // Which live files a query picks: each by the partition values in the line of its add.
 use actions::Action;
+use conditions::Condition;
 use members::Found;
-use query::Condition;
 use query::Query;
 use slots::Wording;
 use table::Cells;
@@ -9,7 +9,7 @@ ghost use mathlib.Core.Path.{_≡_};
 ghost use Rattle.rules.specs.Actions.{Facts, Pairs};
 ghost use Rattle.rules.specs.Picking.{valueAt, meetsValue, meetsAll};
 ghost use Rattle.nested.specs.Nested.{Pairing};
-ghost use Rattle.query.specs.Conditions.{conditionOf, Sound};
+ghost use Rattle.conditions.specs.Conditions.{conditionOf, Sound};
 ghost use Rattle.query.specs.Reading.{conditionsOf, Sounds};
 ghost use Rattle.replay.specs.Views.{factsAt, Stands};
 ghost use Rattle.picking.specs.Pairs.{Paired};
@@ -29,7 +29,7 @@ fn meets_one(line: &[u8], at: usize, q: &[u8], c: Condition) -> bool
     let Wording::Sized(p, _) = slots::string_at(line, v, e) else {
         return false;
     };
-    query::meets_at(q, c, line, p)
+    meeting::meets_at(q, c, line, p)
 }
 
 // Whether they meet each of the first n conditions.

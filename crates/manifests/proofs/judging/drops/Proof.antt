@@ -5,7 +5,7 @@ use native.Mathlib.Omega.{arith}
 use borrow.Author.Needs.{needs}
 use lib.ListN.{length, take, drop}
 use Rattle.members.specs.Lookup.{FoundIs}
-use Rattle.query.specs.Conditions.{conditionOf}
+use Rattle.conditions.specs.Conditions.{conditionOf}
 use Rattle.manifests.specs.Ranges.{RangeIs}
 use Rattle.manifests.proofs.Excluding.{drops-missing, drops-between, drops-open, drops-malformed}
 use Rattle.manifests.proofs.judging.drops.Statement.{statement}
