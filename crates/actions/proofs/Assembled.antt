@@ -25,27 +25,28 @@ use Rattle.rules.proofs.Json.Places.{unquoted-place}
 use Rattle.values.specs.Answers.{truthIs}
 use Rattle.strings.specs.Decoded.{decoded}
 use Rattle.strings.proofs.Decoding.{decoded-some}
-use Rattle.fields.specs.Kinds.{namesOf}
+use Rattle.kinds.specs.Kinds.{namesOf}
 use Rattle.fields.specs.Slots.{missing, textIn}
 use Rattle.fields.specs.declared.notes.Slot.{Slot}
 use Rattle.fields.specs.declared.notes.Fields.{Fields}
 use Rattle.fields.proofs.Slots.{slot-once}
 use Rattle.actions.specs.Begun.{Lined}
-use Rattle.actions.specs.Counts.{recordsIs, isKnown, isBool}
-use Rattle.actions.specs.Inside.{Inside, wholeIn, boolIn, stringIn, optionalWholeIn}
-use Rattle.actions.specs.Line.{Pairing, AddIs, ActionIs}
-use Rattle.actions.specs.Nested.{valuesIn, featuresIn, Known, columnsOf, columnsIn, ColumnsIs}
-use Rattle.actions.specs.Texts.{pathOf, idOf, Told, Read}
-use Rattle.actions.specs.Versions.{versionOf}
+use Rattle.slots.specs.Counts.{recordsIs, isKnown, isBool}
+use Rattle.slots.specs.Inside.{Inside, wholeIn, boolIn, stringIn, optionalWholeIn}
+use Rattle.nested.specs.Nested.{Pairing, valuesIn, featuresIn, Known, columnsOf, columnsIn, ColumnsIs}
+use Rattle.actions.specs.Line.{AddIs, ActionIs}
+use Rattle.slots.specs.Texts.{pathOf, idOf, Told, Read}
+use Rattle.slots.specs.Versions.{versionOf}
 use Rattle.actions.specs.declared.line.Added.{Added}
 use Rattle.actions.specs.declared.line.Action.the-variants.{Add, Remove, Protocol, MetaData}
-use Rattle.actions.specs.declared.nested.Columns.the-variants.{Within}
-use Rattle.actions.specs.declared.slots.Records.{Records}
+use Rattle.nested.specs.declared.Columns.the-variants.{Within}
+use Rattle.slots.specs.declared.Records.{Records}
 use Rattle.actions.proofs.Lines.{lined-action}
-use Rattle.actions.proofs.Placed.{byte-next}
-use Rattle.actions.proofs.Single.{inside-single}
-use Rattle.actions.proofs.Stated.{field-whole, field-bool, field-string, field-optional, field-path, field-values, field-version, field-features, field-columns}
-use Rattle.actions.proofs.Strings.{byte-text, string-behind}
+use Rattle.nested.proofs.Placed.{byte-next}
+use Rattle.slots.proofs.Single.{inside-single}
+use Rattle.slots.proofs.Stated.{field-whole, field-bool, field-string, field-optional, field-path, field-version}
+use Rattle.nested.proofs.Stated.{field-values, field-features, field-columns}
+use Rattle.slots.proofs.Strings.{byte-text, string-behind}
 
 abbrev pub slot : Fields → ℕ → Slot
 slot f k = getD (f .slots) k missing

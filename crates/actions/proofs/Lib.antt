@@ -1,12 +1,2 @@
-pub mod Single
-pub mod Strings
-pub mod Extended
-pub mod Valued
-pub mod Placed
-pub mod Partitions
-pub mod Arrays
 pub mod Lines
-pub mod Paths
-pub mod Stated
 pub mod Assembled
-pub mod Versioned

@@ -19,18 +19,19 @@ use Rattle.rules.proofs.Json.ValueReads.{value-reads, member-reads}
 use Rattle.rules.proofs.Json.Steps.{value-object, value-end, objectOf-contents, objectOf-none, contents-list, list-closed, list-onward, list-neither, rest, rest-none, rest-closed, rest-neither, rest-onward}
 use Rattle.rules.proofs.Json.InPlace.{objectOf-other}
 use Rattle.rules.proofs.Json.Places.{spelled-place, objectOf-place}
-use Rattle.fields.specs.Kinds.{namesOf, seek}
+use Rattle.kinds.specs.Kinds.{namesOf, seek}
 use Rattle.text.specs.Answers.{Skips}
 use Rattle.fields.specs.Slots.{Filled, ScannedBy, Scanned}
-use Rattle.fields.specs.Spelled.{nameIn, Quoted}
-use Rattle.fields.specs.declared.names.Kind.the-variants.{Line, MetaData}
-use Rattle.fields.specs.declared.names.Spell.{Spell}
+use Rattle.keys.specs.Spelled.{nameIn, Quoted}
+use Rattle.kinds.specs.declared.Kind.the-variants.{Line, MetaData}
+use Rattle.keys.specs.declared.Spell.{Spell}
 use Rattle.fields.specs.declared.notes.Fields.{Fields}
-use Rattle.fields.proofs.Members.{member-nameless, member-no-colon, named-string}
+use Rattle.fields.proofs.Members.{member-nameless, member-no-colon}
+use Rattle.keys.proofs.Quoting.{named-string}
 use Rattle.actions.specs.Begun.{endsBy, ends, lineValue, keyed, keyAt, kindAt, Braced, Begun, Lined}
-use Rattle.actions.proofs.Strings.{byte-text}
-use Rattle.actions.proofs.Valued.{contents-valued}
-use Rattle.actions.proofs.Placed.{byte-next}
+use Rattle.slots.proofs.Strings.{byte-text}
+use Rattle.nested.proofs.Valued.{contents-valued}
+use Rattle.nested.proofs.Placed.{byte-next}
 
 -- ---- up to the first member
 

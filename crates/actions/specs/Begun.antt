@@ -9,12 +9,12 @@ use Rattle.rules.specs.Actions.{inLine, inAction, Key, keyAdd, keyRemove, keyPr
 use Rattle.rules.specs.Bytes.{Bytes, _>>=_, guard, isEmpty}
 use Rattle.rules.specs.Json.Text.{Text, spelled, ws}
 use Rattle.rules.specs.Json.Values.{Member, Behind, closed, onward, neither, closing, items, member, value, alone, objectOf}
-use Rattle.fields.specs.Kinds.{namesOf}
+use Rattle.kinds.specs.Kinds.{namesOf}
 use Rattle.fields.specs.Slots.{Each}
-use Rattle.fields.specs.declared.names.Kind.{Kind}
-use Rattle.fields.specs.declared.names.Kind.the-variants.{Add, Remove, Protocol, MetaData}
+use Rattle.kinds.specs.declared.Kind.{Kind}
+use Rattle.kinds.specs.declared.Kind.the-variants.{Add, Remove, Protocol, MetaData}
 use Rattle.fields.specs.declared.notes.Fields.{Fields}
-use Rattle.actions.specs.Valued.{Valued}
+use Rattle.nested.specs.Valued.{Valued}
 use Rattle.actions.specs.declared.line.Keyed.{Keyed}
 use Rattle.actions.specs.declared.line.Keyed.the-variants.{Value, NoKey}
 

@@ -1,32 +1,21 @@
 -- What a line says, by the action that the code answers, in the rules' terms.
 use mathlib.Core.Path.{_≡_}
-use mathlib.Core.Bool.{true}
 use mathlib.Core.Option.{Option, none, some}
-use mathlib.Core.List.{List, []}
-use Prim.Native.Nat.{ℕ, zero, suc, _≤_}
+use Prim.Native.Nat.{_≤_}
 use lib.ListN.{length, drop}
 use Rattle.facts.specs.Parts.{part}
-use Rattle.rules.specs.Actions.{inField, Pairs, pairs, Facts, MetaData as rMetaData, Protocol as rProtocol, Action as rAction, add, remove, protocol, metaData, mergeskip, other, pathWritten}
-use Rattle.rules.specs.Bytes.{Bytes, distinct, firsts, allAmong}
+use Rattle.rules.specs.Actions.{Facts, MetaData as rMetaData, Protocol as rProtocol, Action as rAction, add, remove, protocol, metaData, mergeskip, other, pathWritten}
+use Rattle.rules.specs.Bytes.{allAmong}
 use Rattle.rules.specs.Gate.{readerNames, writerNames}
 use Rattle.rules.specs.Json.Text.{Text}
-use Rattle.rules.specs.Json.Values.{Member, contents, value}
 use Rattle.strings.specs.Decoded.{decoded, WellSpelled}
-use Rattle.fields.specs.Strung.{Listed}
-use Rattle.actions.specs.Counts.{recordsIs}
+use Rattle.lists.specs.Strung.{Listed}
+use Rattle.nested.specs.Nested.{Pairing, FeaturesAt}
+use Rattle.slots.specs.Counts.{recordsIs}
 use Rattle.actions.specs.declared.line.Added.{Added}
 use Rattle.actions.specs.declared.line.Stated.{Stated}
 use Rattle.actions.specs.declared.line.Action.{Action}
 use Rattle.actions.specs.declared.line.Action.the-variants.{Add, Remove, Protocol, MetaData, Mergeskip, Other, Malformed}
-
--- behind the brace before `at` stand the partition values ps
-pub record Pairing (s : Text) (at : ℕ) (ps : Pairs) : Type 0 where
-  pub ms : List Member
-  pub left : Text
-  pub within : at ≤ length s
-  pub all : contents (value inField) (drop at s) ≡ some (ms, left)
-  pub each : pairs ms ≡ some ps
-  pub distinct : distinct (firsts ms) ≡ true
 
 pub record AddIs (s : Text) (f : Facts) (a : Added) : Type 0 where
   pub spelled : WellSpelled s (a .path)
@@ -38,11 +27,6 @@ pub record AddIs (s : Text) (f : Facts) (a : Added) : Type 0 where
   pub time : a .time ≡ f .modificationTime
   pub records : a .records ≡ recordsIs (some (f .numRecords))
   pub values : Pairing s (a .values) (f .partitionValues)
-
--- no features are stated; or they are listed behind the bracket before `at`
-abbrev pub FeaturesAt : Text → (at : ℕ) → List Bytes → Type 0
-FeaturesAt s zero xs = xs ≡ []
-FeaturesAt s (suc n) xs = (suc n ≤ length s) × Listed s (suc n) xs
 
 pub record ProtocolIs (s : Text) (p : rProtocol) (r : Stated) : Type 0 where
   pub reader : r .reader ≡ p .minReaderVersion

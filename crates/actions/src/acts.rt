@@ -2,27 +2,18 @@
 use crate::line::Action;
 use crate::line::Added;
 use crate::line::Stated;
-use crate::nested::Columns;
-use crate::nested::Features;
-use crate::nested::Values;
-use crate::nested::columns_in;
-use crate::nested::features_in;
-use crate::nested::values_in;
-use crate::slots::Path;
-use crate::slots::Records;
-use crate::slots::id_in;
-use crate::slots::path_in;
-use crate::slots::records_in;
-use crate::slots::truth_in;
-use crate::slots::version_in;
-use crate::slots::whole_in;
 use fields::Fields;
+use nested::Columns;
+use nested::Features;
+use nested::Values;
+use slots::Path;
+use slots::Records;
 use values::Truth;
 use values::Whole;
 ghost use mathlib.Core.Path.{_≡_};
 ghost use Rattle.rules.specs.Actions.{action};
 ghost use Rattle.actions.specs.Begun.{Lined};
-ghost use Rattle.actions.specs.Counts.{isBool, isKnown};
+ghost use Rattle.slots.specs.Counts.{isBool, isKnown};
 ghost use Rattle.actions.specs.Line.{ActionIs};
 
 fn is_bool(t: Truth) -> bool
@@ -53,21 +44,21 @@ pub fn add_in(s: &[u8], f: Fields) -> Action
     let place = f.slots[0];
     let start = place.start;
     let close = place.end;
-    let Path::Spelled(_) = path_in(s, place) else {
+    let Path::Spelled(_) = slots::path_in(s, place) else {
         return Action::Malformed;
     };
-    let Whole::Number(size) = whole_in(s, f.slots[1]) else {
+    let Whole::Number(size) = slots::whole_in(s, f.slots[1]) else {
         return Action::Malformed;
     };
-    let Whole::Number(time) = whole_in(s, f.slots[2]) else {
+    let Whole::Number(time) = slots::whole_in(s, f.slots[2]) else {
         return Action::Malformed;
     };
-    let change = truth_in(s, f.slots[3]);
+    let change = slots::truth_in(s, f.slots[3]);
     if is_bool(change) {
-        let Values::Behind(values) = values_in(s, f.slots[4]) else {
+        let Values::Behind(values) = nested::values_in(s, f.slots[4]) else {
             return Action::Malformed;
         };
-        let records = records_in(s, f.slots[5]);
+        let records = slots::records_in(s, f.slots[5]);
         if is_known(records) {
             return Action::Add(Added {
                 path: start + 1,
@@ -89,7 +80,7 @@ pub fn remove_in(s: &[u8], f: Fields) -> Action
     ensures { λ r. ⌜ ActionIs (action (now (s .entry))) (now (s .entry)) r ⌝ }
 {
     let place = f.slots[0];
-    let Path::Spelled(p) = path_in(s, place) else {
+    let Path::Spelled(p) = slots::path_in(s, place) else {
         return Action::Malformed;
     };
     Action::Remove(p)
@@ -100,16 +91,16 @@ pub fn protocol_in(s: &[u8], f: Fields) -> Action
     requires { ⌜ Lined (now s) 2 f ⌝ }
     ensures { λ r. ⌜ ActionIs (action (now (s .entry))) (now (s .entry)) r ⌝ }
 {
-    let Whole::Number(reader) = version_in(s, f.slots[0]) else {
+    let Whole::Number(reader) = slots::version_in(s, f.slots[0]) else {
         return Action::Malformed;
     };
-    let Whole::Number(writer) = version_in(s, f.slots[1]) else {
+    let Whole::Number(writer) = slots::version_in(s, f.slots[1]) else {
         return Action::Malformed;
     };
-    let Features::Listed(readers, readable) = features_in(s, f.slots[2], false) else {
+    let Features::Listed(readers, readable) = nested::features_in(s, f.slots[2], false) else {
         return Action::Malformed;
     };
-    let Features::Listed(writers, writable) = features_in(s, f.slots[3], true) else {
+    let Features::Listed(writers, writable) = nested::features_in(s, f.slots[3], true) else {
         return Action::Malformed;
     };
     Action::Protocol(Stated {
@@ -128,9 +119,9 @@ pub fn meta_data_in(s: &[u8], f: Fields) -> Action
     ensures { λ r. ⌜ ActionIs (action (now (s .entry))) (now (s .entry)) r ⌝ }
 {
     let id = f.slots[0];
-    if id_in(s, id) {
+    if slots::id_in(s, id) {
         let columns = f.slots[1];
-        let Columns::Within(at) = columns_in(s, columns) else {
+        let Columns::Within(at) = nested::columns_in(s, columns) else {
             return Action::Malformed;
         };
         return Action::MetaData(at);

@@ -1,14 +1,13 @@
 // A line: its one member, and the action that the member states.
-use crate::OPEN_BRACE;
 use crate::acts::add_in;
 use crate::acts::meta_data_in;
 use crate::acts::protocol_in;
 use crate::acts::remove_in;
-use crate::slots::Records;
 use fields::Fields;
-use fields::Kind;
-use fields::Name;
 use json::Tail;
+use keys::Name;
+use kinds::Kind;
+use slots::Records;
 use text::Next;
 ghost use mathlib.Core.Path.{_≡_};
 ghost use Prim.Native.Nat.{_≤_, _<_};
@@ -16,7 +15,9 @@ ghost use lib.ListN.{length, drop};
 ghost use Rattle.rules.specs.Actions.{action};
 ghost use Rattle.actions.specs.Begun.{ends, kindAt, Braced, Begun, KeyedIs, Lined};
 ghost use Rattle.actions.specs.Line.{ActionIs};
-ghost use Rattle.actions.specs.Texts.{isSome};
+ghost use Rattle.slots.specs.Texts.{isSome};
+
+const OPEN_BRACE: u8 = 0x7B;
 
 const CLOSE_BRACE: u8 = 0x7D;
 
@@ -81,14 +82,14 @@ fn key_at(line: &[u8], j: usize) -> Keyed
     requires { ⌜ Braced (now line) j ⌝ }
     ensures { λ r. ⌜ KeyedIs (now (line .entry)) r ⌝ }
 {
-    let Name::Of(n) = fields::read_name(line, j) else {
+    let Name::Of(n) = keys::read_name(line, j) else {
         return Keyed::NoKey;
     };
     let end = n.end;
     let Next::At(v) = json::skip_colon(line, end) else {
         return Keyed::NoKey;
     };
-    let k = fields::which(line, n, Kind::Line);
+    let k = kinds::which(line, n, Kind::Line);
     Keyed::Value(k, v)
 }
 

@@ -2,12 +2,12 @@
 // the length of what follows (little-endian), and then its bytes.
 use actions::Action;
 use actions::Added;
-use actions::Records;
 use actions::Stated;
 use bundle::Opened;
 use names::Name;
 use names::Version;
 use shown::Shown;
+use slots::Records;
 ghost use Prim.Native.Nat.{_<_};
 ghost use lib.ListN.{length};
 ghost use Rattle.bundle.specs.Files.{filesIn};

@@ -1,37 +1,19 @@
--- Names and members at positions of a text: what a string that was read says of a name, and a member by its parts.
-use mathlib.Core.Path.{_≡_, refl, sym, ap, _∙_}
-use mathlib.Core.Bool.{true, false}
+-- A member at positions of a text, by its parts.
+use mathlib.Core.Path.{_≡_, refl}
 use mathlib.Core.Option.{Option, none, some}
-use Prim.Native.Nat.{ℕ, _+_, _-_, _≤_, _<_}
+use Prim.Native.Nat.{ℕ, _+_, _≤_}
 use native.Mathlib.Omega.{arith}
-use lib.ListN.{length, take, drop}
+use lib.ListN.{length, drop}
 use Rattle.rules.specs.Bytes.{Bytes, _>>=_}
-use Rattle.rules.specs.Json.Text.{Text, Reader, behind, spelled, byte}
+use Rattle.rules.specs.Json.Text.{Text, Reader, spelled, byte}
 use Rattle.rules.specs.Json.Strings.{string}
 use Rattle.rules.specs.Json.Values.{colon, member}
-use Rattle.rules.proofs.Tests.{apart}
-use Rattle.rules.proofs.Json.Shadows.{behind-some}
 use Rattle.rules.proofs.Json.Places.{member-place}
-use Rattle.strings.specs.Decoded.{decoded}
-use Rattle.strings.proofs.Decoding.{decoded-some}
+use Rattle.keys.proofs.Quoting.{named-string}
 use Rattle.fields.specs.Places.{valueIn}
-use Rattle.fields.specs.Spelled.{nameIn, Named, Quoted, Stands}
-use Rattle.fields.specs.declared.names.Spell.{Spell}
-
-pub named-plain : (s : Text) (i e : ℕ) → string (drop i s) ≡ some (take (e - 1 - i) (drop i s), drop e s) → i + 1 ≤ e → e ≤ length s
-    → Named s (record { at = i; end = e; plain = true })
-named-plain s i e f h k = record { closed = ap behind f; from = h; within = k; raw = λ _. decoded-some (drop i s) f; fewer = λ p. apart (cc) }
-
-pub named-escaped : (s : Text) (i e : ℕ) → behind (string (drop i s)) ≡ some (drop e s) → i + 1 ≤ e → e ≤ length s → length (decoded (drop i s)) < e - 1 - i
-    → Named s (record { at = i; end = e; plain = false })
-named-escaped s i e f h k l = record { closed = f; from = h; within = k; raw = λ p. apart (cc); fewer = λ _. l }
-
-pub named-string : (s : Text) (n : Spell) → Named s n → string (drop (n .at) s) ≡ some (nameIn s n, drop (n .end) s)
-named-string s n d =
-    let (x, e) = behind-some (string (drop (n .at) s)) (d .closed) in
-    e ∙ ap (λ (y : Bytes). some (y, drop (n .end) s)) (sym (decoded-some (drop (n .at) s) e))
-
--- ---- a member
+use Rattle.keys.specs.Spelled.{Quoted}
+use Rattle.fields.specs.Standing.{Stands}
+use Rattle.keys.specs.declared.Spell.{Spell}
 
 module _ (read : Reader) (t : Text) where
   pub member-nameless : (byte 0x22 t >>= string) ≡ none → member read t ≡ none

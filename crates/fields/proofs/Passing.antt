@@ -1,13 +1,14 @@
 -- The loop over the items of a container, with those that it has passed: what its turns keep, and what each way out of it answers.
-use mathlib.Core.Path.{_≡_, sym, _∙_}
-use mathlib.Core.Option.{none, some}
+use mathlib.Core.Path.{_≡_, sym, ap, _∙_}
+use mathlib.Core.Option.{Option, none, some}
 use mathlib.Core.List.{List, [], _∷_, _++_}
 use Prim.Native.Nat.{ℕ, _+_, _≤_}
 use native.Mathlib.Omega.{arith}
 use lib.ListN.{length, drop, length-drop}
 use Rattle.rules.specs.Json.Text.{Text, Taker}
-use Rattle.rules.specs.Json.Values.{opening, closing, list}
-use Rattle.rules.proofs.Json.Suffix.{EachTakes, reads-fewer}
+use Rattle.rules.specs.Json.Values.{Behind, closed, onward, neither, opening, closing, andThen, afterItem, items, list}
+use Rattle.rules.proofs.Tests.{apart}
+use Rattle.rules.proofs.Json.Suffix.{EachTakes, reads-fewer, value-same, left-same}
 use Rattle.rules.proofs.Json.ValueReads.{list-reads}
 use Rattle.rules.proofs.Json.Steps.{rest}
 use Rattle.rules.proofs.Json.Joined.{joined, joined-start, joined-none, joined-onward, joined-closed, joined-neither}
@@ -44,3 +45,25 @@ module _ {A : Type 0} {item : Taker A} {close : ℕ} {s : Text} {at i : ℕ} {go
 
     pub passed-more : EachTakes 1 item → {k : ℕ} → Follows (closing close (drop j s)) s (j + 1) (More k) → Passed item close s at k (gone ++ (x ∷ []))
     passed-more each f = record { within = f .2; left = joined-onward item close gone (drop i s) e each (f .0) ∙ p .left }
+
+-- ---- the items that are left
+
+pub andThen-some : {A : Type 0} (x : A) (o : Option (List A × Text)) {xs : List A} {u : Text} → andThen x o ≡ some (xs, u)
+    → (ys : List A) × (xs ≡ x ∷ ys) × (o ≡ some (ys, u))
+unfolding andThen
+andThen-some x none e = apart (cc)
+andThen-some x (some p) e = (p .0, sym (value-same e), ap (λ (u : Text). some (p .0, u)) (left-same e))
+
+-- what is left begins with the item that is read first
+pub items-first : {A : Type 0} (item : Taker A) (close : ℕ) (t : Text) {x : A} {r : Text} {xs : List A} {u : Text} → item t ≡ some (x, r) → rest item close t ≡ some (xs, u)
+    → (ys : List A) × (xs ≡ x ∷ ys)
+unfolding items afterItem
+items-first {A} item close t {x} {r} {xs} {u} e f = go (closing close r) (sym turn ∙ f)
+  where
+    turn : rest item close t ≡ afterItem x (closing close r) (λ v. items item close (length t) v)
+    turn = rw (items, e)
+
+    go : (c : Behind) → afterItem x c (λ v. items item close (length t) v) ≡ some (xs, u) → (ys : List A) × (xs ≡ x ∷ ys)
+    go (closed v) g = ([], sym (value-same g))
+    go (onward v) g = let (ys, h, k) = andThen-some x (items item close (length t) v) g in (ys, h)
+    go neither g = apart (cc)

@@ -14,11 +14,11 @@ use Rattle.rules.specs.Bytes.{Bytes, same, distinct}
 use Rattle.rules.specs.Json.Text.{Text}
 use Rattle.rules.specs.Json.Values.{Member, onward, closing}
 use Rattle.rules.proofs.Tests.{by}
-use Rattle.fields.specs.Kinds.{seek}
+use Rattle.kinds.specs.Kinds.{seek}
 use Rattle.fields.specs.Places.{Placed, nextIn, valueIn, placed, following, placesFrom}
 use Rattle.fields.specs.Slots.{missing, oneMore, slotBy, Noted, slotOf, slotsOf}
 use Rattle.fields.specs.declared.notes.Slot.{Slot}
-use Rattle.fields.proofs.Seeking.{seek-is}
+use Rattle.kinds.proofs.Seeking.{seek-is}
 
 -- ---- one member more
 

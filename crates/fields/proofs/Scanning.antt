@@ -12,15 +12,16 @@ use Rattle.rules.proofs.Json.ValueReads.{member-reads}
 use Rattle.rules.proofs.Json.Steps.{contents-list, list-closed, list-neither}
 use Rattle.json.specs.Follows.{Follows}
 use Rattle.json.specs.declared.Tail.the-variants.{Closed, More, Neither}
-use Rattle.fields.specs.Kinds.{namesOf, seek}
+use Rattle.kinds.specs.Kinds.{namesOf, seek}
 use Rattle.fields.specs.Places.{nextIn, placesFrom, placesIn}
 use Rattle.fields.specs.Slots.{missing, noFields, Noted, Each, slotsOf, Filled, Scanned}
-use Rattle.fields.specs.Spelled.{nameIn, Stands}
-use Rattle.fields.specs.declared.names.Kind.{Kind}
+use Rattle.keys.specs.Spelled.{nameIn}
+use Rattle.fields.specs.Standing.{Stands}
+use Rattle.kinds.specs.declared.Kind.{Kind}
 use Rattle.fields.specs.declared.notes.Slot.{Slot}
 use Rattle.fields.specs.declared.notes.Fields.{Fields}
-use Rattle.fields.specs.declared.names.Spell.{Spell}
-use Rattle.fields.proofs.Naming.{names-few, names-distinct}
+use Rattle.keys.specs.declared.Spell.{Spell}
+use Rattle.kinds.proofs.Naming.{names-few, names-distinct}
 use Rattle.fields.proofs.Slots.{each-start, each-more}
 use Rattle.fields.proofs.Places.{followed, followed-more, places-more, slots-start, slots-more}
 use Rattle.fields.proofs.Passing.{Passed, passed-start, passed-none, passed-neither, passed-closed, passed-more, list-further}

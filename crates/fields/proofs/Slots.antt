@@ -15,10 +15,10 @@ use Rattle.rules.specs.Json.Values.{Member}
 use Rattle.rules.specs.Json.Fields.{under, once, soleOrNone, optional, absent}
 use Rattle.rules.proofs.Tests.{by}
 use Rattle.rules.proofs.Json.Fields.{under-last-hit, under-last-miss, once-missing, once-there, once-twice, optional-missing, optional-twice, absent-missing, absent-there}
-use Rattle.fields.specs.Kinds.{seek}
+use Rattle.kinds.specs.Kinds.{seek}
 use Rattle.fields.specs.Slots.{missing, Times, Holds, oneMore, slotBy, Noted, Each, textIn, optionalIn}
 use Rattle.fields.specs.declared.notes.Slot.{Slot}
-use Rattle.fields.proofs.Seeking.{seek-is}
+use Rattle.kinds.proofs.Seeking.{seek-is}
 
 -- ---- one value more
 

@@ -1,7 +1,5 @@
--- What the functions over members and elements promise, in the rules' terms.
-pub mod Kinds
+-- What the functions over members promise, in the rules' terms.
 pub mod Places
 pub mod Slots
-pub mod Spelled
-pub mod Strung
+pub mod Standing
 pub mod Namings

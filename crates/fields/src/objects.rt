@@ -1,17 +1,13 @@
 // Objects: the members that a kind names, in one pass, and whether all names are distinct.
 use crate::CLOSE_BRACE;
-use crate::QUOTE;
-use crate::names::Kind;
-use crate::names::Spell;
-use crate::names::name_is;
-use crate::names::names_in;
-use crate::names::which;
 use crate::notes::Fields;
 use crate::notes::Slot;
 use crate::notes::no_fields;
 use crate::notes::noted;
 use json::Tail;
-use strings::Spelling;
+use keys::Name;
+use keys::Spell;
+use kinds::Kind;
 use text::Next;
 ghost use mathlib.Core.Path.{_≡_};
 ghost use mathlib.Core.List.{List};
@@ -19,39 +15,11 @@ ghost use Prim.Native.Nat.{_≤_};
 ghost use lib.ListN.{length, drop};
 ghost use Rattle.rules.specs.Bytes.{Bytes, same, holds, distinct};
 ghost use Rattle.rules.specs.Json.Values.{member, contents, value as rValue};
-ghost use Rattle.fields.specs.Kinds.{namesOf};
-ghost use Rattle.fields.specs.Spelled.{nameIn, Named, NameIs, MetIs};
+ghost use Rattle.kinds.specs.Kinds.{namesOf};
+ghost use Rattle.keys.specs.Spelled.{nameIn, Named};
+ghost use Rattle.fields.specs.Standing.{MetIs};
 ghost use Rattle.fields.specs.Slots.{Scanned};
 ghost use Rattle.fields.specs.Namings.{Object, IsObject, Members};
-
-// A name in its quotes, or none.
-pub enum Name {
-    Of(Spell),
-    NoName,
-}
-
-// The name whose opening quote is at `at`.
-pub fn read_name(s: &[u8], at: usize) -> Name
-    requires { ⌜ at ≤ length (now s) ⌝ }
-    ensures { λ r. ⌜ NameIs (now (s .entry)) at r ⌝ }
-{
-    let Next::At(i) = text::skip_byte(s, at, QUOTE) else {
-        return Name::NoName;
-    };
-    match strings::scan_string(s, i) {
-        Spelling::Plain(end) => Name::Of(Spell {
-            at: i,
-            end,
-            plain: true,
-        }),
-        Spelling::Escaped(end) => Name::Of(Spell {
-            at: i,
-            end,
-            plain: false,
-        }),
-        Spelling::Bad => Name::NoName,
-    }
-}
 
 // A member: its name, and from where to where its value stands; or none.
 pub enum Met {
@@ -64,7 +32,7 @@ pub fn read_member(s: &[u8], at: usize, depth: usize) -> Met
     requires { ⌜ at ≤ length (now s) ⌝ }
     ensures { λ r. ⌜ MetIs (member (rValue depth) (drop at (now (s .entry)))) (now (s .entry)) at r ⌝ }
 {
-    let Name::Of(n) = read_name(s, at) else {
+    let Name::Of(n) = keys::read_name(s, at) else {
         return Met::NoMember;
     };
     let end = n.end;
@@ -82,7 +50,7 @@ pub fn scan(s: &[u8], at: usize, kind: Kind, depth: usize) -> Fields
     requires { ⌜ at ≤ length (now s) ⌝ }
     ensures { λ r. ⌜ Scanned (contents (rValue depth) (drop at (now (s .entry)))) (now (s .entry)) at (namesOf kind) r ⌝ }
 {
-    let names = names_in(kind);
+    let names = kinds::names_in(kind);
     let mut slots = [Slot {
         seen: 0,
         start: 0,
@@ -101,7 +69,7 @@ pub fn scan(s: &[u8], at: usize, kind: Kind, depth: usize) -> Fields
                 let Met::Member(n, v, e) = read_member(s, i, depth) else {
                     return no_fields();
                 };
-                let k = which(s, n, kind);
+                let k = kinds::which(s, n, kind);
                 let next = noted(slots, names, k, v, e);
                 slots = next;
                 match json::closing(s, e, CLOSE_BRACE) {
@@ -131,7 +99,7 @@ fn same_names(s: &[u8], a: Spell, b: Spell) -> bool
     let end = b.end;
     if b.plain {
         let last = end - 1;
-        return name_is(s, a, &s[from..last]);
+        return keys::name_is(s, a, &s[from..last]);
     }
     let at = a.at;
     strings::same_strings(s, at, s, from)

@@ -1,8 +1,8 @@
 // The grammar of JSON (RFC 8259) over a lent text: values, objects and arrays, read at a position; each answers the position behind what it read.
+use characters::skip_string;
+use numbers::skip_number;
 use text::Next;
 use text::skip_byte;
-use text::skip_number;
-use text::skip_string;
 use text::skip_word;
 use text::skip_ws;
 ghost use mathlib.Core.Path.{_≡_};

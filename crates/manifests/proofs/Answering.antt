@@ -23,7 +23,8 @@ use Rattle.refusals.specs.Numbered.{numbered}
 use Rattle.refusals.specs.declared.Refusal.{Refusal}
 use Rattle.refusals.specs.declared.Refusal.the-variants.{RoomTooShort}
 use Rattle.refusals.proofs.Alone.{numbered-alone}
-use Rattle.manifests.specs.Rooms.{Beyond, Noted, refusedBy, keptIs, KeepIs}
+use Rattle.noting.specs.Walks.{Beyond, Noted}
+use Rattle.manifests.specs.Rooms.{refusedBy, keptIs, KeepIs}
 use Rattle.manifests.specs.declared.keeping.Kept.{Kept}
 use Rattle.manifests.specs.declared.keeping.Kept.the-variants.{Numbers, Refused}
 

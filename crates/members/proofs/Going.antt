@@ -13,9 +13,10 @@ use Rattle.rules.proofs.Json.ValueReads.{value-reads, member-reads}
 use Rattle.rules.proofs.Json.Steps.{contents-list, list-closed, list-onward, list-neither, rest, rest-none, rest-closed, rest-neither, rest-onward}
 use Rattle.json.specs.Follows.{Follows}
 use Rattle.json.specs.declared.Tail.the-variants.{Closed, More, Neither}
-use Rattle.fields.specs.Spelled.{nameIn, Stands}
-use Rattle.fields.specs.declared.names.Spell.{Spell}
-use Rattle.fields.proofs.Walking.{andThen-some, items-first}
+use Rattle.keys.specs.Spelled.{nameIn}
+use Rattle.fields.specs.Standing.{Stands}
+use Rattle.keys.specs.declared.Spell.{Spell}
+use Rattle.fields.proofs.Passing.{andThen-some, items-first}
 use Rattle.members.specs.Lookup.{Standing, Onward, lookup, FoundIs}
 use Rattle.members.specs.declared.Found.the-variants.{At}
 

@@ -8,9 +8,9 @@ use Rattle.rules.specs.Json.Text.{Text}
 use Rattle.rules.specs.Actions.{Facts}
 use Rattle.rules.specs.Query.{Condition as rCondition}
 use Rattle.rules.specs.Picking.{valueAt, meetsValue, meetsAll}
-use Rattle.query.specs.Conditions.{conditionOf}
+use Rattle.conditions.specs.Conditions.{conditionOf}
 use Rattle.query.specs.Reading.{noCondition, conditionsOf}
-use Rattle.query.specs.declared.conditions.Condition.{Condition}
+use Rattle.conditions.specs.declared.conditions.Condition.{Condition}
 use Rattle.query.proofs.Columns.{conditions-here, conditions-end}
 
 meetsAll-here : (c : rCondition) (cs : List rCondition) (f : Facts) → meetsValue c (valueAt (c .column) (f .partitionValues)) ≡ true → meetsAll (c ∷ cs) f ≡ meetsAll cs f

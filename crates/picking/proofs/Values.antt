@@ -10,7 +10,7 @@ use lib.ListN.{drop}
 use Rattle.rules.specs.Json.Values.{Member, contents, value}
 use Rattle.rules.specs.Json.Fields.{isNull, stringOf, stringOrNull}
 use Rattle.rules.specs.Actions.{inField, Pairs, pairs}
-use Rattle.actions.specs.Line.{Pairing}
+use Rattle.nested.specs.Nested.{Pairing}
 use Rattle.rules.specs.Picking.{valueAt, meetsValue, meetsAs}
 use Rattle.rules.specs.Query.{Condition}
 use Rattle.rules.proofs.Order.{same-true}

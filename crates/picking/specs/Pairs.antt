@@ -2,7 +2,7 @@
 use Prim.Native.Nat.{ℕ}
 use Rattle.rules.specs.Json.Text.{Text}
 use Rattle.rules.specs.Actions.{Pairs}
-use Rattle.actions.specs.Line.{Pairing}
+use Rattle.nested.specs.Nested.{Pairing}
 
 -- behind the brace before `at` stand partition values
 pub record Paired (s : Text) (at : ℕ) : Type 0 where

@@ -1,15 +1,15 @@
 // Which live files a query picks: each by the partition values in the line of its add.
 use actions::Action;
-use actions::Wording;
+use conditions::Condition;
 use members::Found;
-use query::Condition;
 use query::Query;
+use slots::Wording;
 use table::Cells;
 ghost use mathlib.Core.Path.{_≡_};
 ghost use Rattle.rules.specs.Actions.{Facts, Pairs};
 ghost use Rattle.rules.specs.Picking.{valueAt, meetsValue, meetsAll};
-ghost use Rattle.actions.specs.Line.{Pairing};
-ghost use Rattle.query.specs.Conditions.{conditionOf, Sound};
+ghost use Rattle.nested.specs.Nested.{Pairing};
+ghost use Rattle.conditions.specs.Conditions.{conditionOf, Sound};
 ghost use Rattle.query.specs.Reading.{conditionsOf, Sounds};
 ghost use Rattle.replay.specs.Views.{factsAt, Stands};
 ghost use Rattle.picking.specs.Pairs.{Paired};
@@ -26,10 +26,10 @@ fn meets_one(line: &[u8], at: usize, q: &[u8], c: Condition) -> bool
     let Found::At(v, e) = members::find_name(line, at, IN_FIELD, q, column) else {
         return false;
     };
-    let Wording::Sized(p, _) = actions::string_at(line, v, e) else {
+    let Wording::Sized(p, _) = slots::string_at(line, v, e) else {
         return false;
     };
-    query::meets_at(q, c, line, p)
+    meeting::meets_at(q, c, line, p)
 }
 
 // Whether they meet each of the first n conditions.

@@ -13,9 +13,9 @@ use Rattle.rules.specs.Query.{Condition as rCondition, columnOf}
 use Rattle.rules.proofs.Order.{same-true, same-false}
 use Rattle.rules.proofs.Holding.{holds-head, holds-past, distinct-cons, distinct-held}
 use Rattle.strings.specs.Decoded.{decoded}
-use Rattle.query.specs.Conditions.{conditionOf}
+use Rattle.conditions.specs.Conditions.{conditionOf}
 use Rattle.query.specs.Reading.{noCondition, conditionsOf, columnsOf}
-use Rattle.query.specs.declared.conditions.Condition.{Condition}
+use Rattle.conditions.specs.declared.conditions.Condition.{Condition}
 
 module _ (q : Text) (n : ℕ) (cs : List Condition) (l : n ≤ length cs) where
   conditions-length : length (conditionsOf q n cs) ≡ n

@@ -19,7 +19,7 @@ use Rattle.rules.proofs.Json.TextReads.{spelled-some, spelled-none, spelled-rea
 use Rattle.rules.proofs.Json.ValueReads.{value-reads}
 use Rattle.rules.proofs.Json.Steps.{value-end, value-object, alone-end, alone-more}
 use Rattle.rules.proofs.Json.InPlace.{object-text, objectOf-other}
-use Rattle.query.specs.Conditions.{conditionRead}
+use Rattle.conditions.specs.Conditions.{conditionRead}
 use Rattle.query.specs.Reading.{fewOf}
 
 -- ---- a condition

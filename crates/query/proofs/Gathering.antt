@@ -17,11 +17,10 @@ use Rattle.rules.proofs.Json.Steps.{list-neither, list-closed, rest}
 use Rattle.rules.proofs.Json.Joined.{joined}
 use Rattle.json.specs.Follows.{Follows}
 use Rattle.json.specs.declared.Tail.the-variants.{Closed, More, Neither}
-use Rattle.fields.proofs.Passing.{Passed, passed-start, passed-none, passed-neither, passed-closed, passed-more}
-use Rattle.fields.proofs.Walking.{items-first}
-use Rattle.query.specs.Conditions.{conditionOf, Sound, conditionRead, Stands}
+use Rattle.fields.proofs.Passing.{Passed, passed-start, passed-none, passed-neither, passed-closed, passed-more, items-first}
+use Rattle.conditions.specs.Conditions.{conditionOf, Sound, conditionRead, Stands}
 use Rattle.query.specs.Reading.{noCondition, conditionsOf, Held, fewOf, Array}
-use Rattle.query.specs.declared.conditions.Condition.{Condition}
+use Rattle.conditions.specs.declared.conditions.Condition.{Condition}
 use Rattle.query.proofs.Fusing.{conditionRead-reads}
 
 few-all : (cs : List rCondition) (u : Text) → length cs ≤ 8 → fewOf (some (cs, u)) ≡ some (cs, u)

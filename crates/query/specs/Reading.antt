@@ -9,11 +9,11 @@ use lib.ListN.{length, take, drop, getD, replicate}
 use Rattle.rules.specs.Bytes.{Bytes, _>>=_, guard}
 use Rattle.rules.specs.Json.Text.{Text}
 use Rattle.rules.specs.Query.{Condition as rCondition, columnOf, mostConditions, query}
-use Rattle.values.specs.declared.Op.the-variants.{Eq}
-use Rattle.query.specs.Words.{zero}
-use Rattle.query.specs.Conditions.{conditionOf, Sound}
-use Rattle.query.specs.declared.words.As.the-variants.{Text as AsText}
-use Rattle.query.specs.declared.conditions.Condition.{Condition}
+use Rattle.numerals.specs.declared.Op.the-variants.{Eq}
+use Rattle.words.specs.Words.{zero}
+use Rattle.conditions.specs.Conditions.{conditionOf, Sound}
+use Rattle.words.specs.declared.As.the-variants.{Text as AsText}
+use Rattle.conditions.specs.declared.conditions.Condition.{Condition}
 use Rattle.query.specs.declared.reading.Query.{Query}
 use Rattle.query.specs.declared.reading.Gathered.{Gathered}
 

@@ -1,21 +1,20 @@
 // A whole query: an array of at most 8 conditions, whose columns differ.
 use crate::CLOSE_BRACKET;
 use crate::OPEN_BRACKET;
-use crate::conditions::Condition;
-use crate::conditions::Element;
-use crate::conditions::condition_at;
-use crate::words::As;
+use conditions::Condition;
+use conditions::Element;
 use json::Tail;
+use numerals::Op;
+use numerals::Signed;
 use text::Next;
-use values::Op;
-use values::Signed;
+use words::As;
 ghost use mathlib.Core.Path.{_≡_};
 ghost use Prim.Native.Nat.{_≤_};
 ghost use lib.ListN.{length, drop};
 ghost use Rattle.rules.specs.Bytes.{holds, distinct};
 ghost use Rattle.rules.specs.Json.Values.{list};
 ghost use Rattle.strings.specs.Decoded.{decoded, WellSpelled};
-ghost use Rattle.query.specs.Conditions.{conditionRead};
+ghost use Rattle.conditions.specs.Conditions.{conditionRead};
 ghost use Rattle.query.specs.Reading.{noCondition, noArray, noQuery, Sounds, columnsOf, fewOf, GatheredIs, QueryIs};
 
 // A query has so many bytes at most.
@@ -90,7 +89,7 @@ fn conditions_in(q: &[u8], at: usize) -> Gathered
                 if n == MOST_CONDITIONS {
                     return no_array();
                 }
-                let Element::Holds(c, e) = condition_at(q, i) else {
+                let Element::Holds(c, e) = conditions::condition_at(q, i) else {
                     return no_array();
                 };
                 conditions[n] = c;

@@ -9,9 +9,9 @@ use Rattle.rules.specs.Json.Text.{Text}
 use Rattle.rules.specs.Actions.{Facts, Action, add, remove, protocol, metaData, mergeskip, other, action, isLine, orNothing, pathWritten, pathIn, pathShown, noAdd, recordsOf, recordsIn, recordsShown}
 use Rattle.actions.specs.Line.{AddIs}
 use Rattle.actions.specs.declared.line.Added.{Added}
-use Rattle.actions.specs.Counts.{recordsIs}
-use Rattle.actions.specs.declared.slots.Records.{Records as Stated}
-use Rattle.actions.specs.declared.slots.Records.the-variants.{Number, Missing, Bad}
+use Rattle.slots.specs.Counts.{recordsIs}
+use Rattle.slots.specs.declared.Records.{Records as Stated}
+use Rattle.slots.specs.declared.Records.the-variants.{Number, Missing, Bad}
 use Rattle.shown.specs.Shown.{shownIs, WritesIt, AddingIs}
 use Rattle.shown.specs.declared.Shown.{Shown}
 use Rattle.shown.specs.declared.Shown.the-variants.{Number as ShownNumber, Missing as ShownMissing, NoAdd}

@@ -7,8 +7,8 @@ use lib.ListN.{length}
 use Rattle.facts.specs.Parts.{part}
 use Rattle.rules.specs.Json.Text.{Text}
 use Rattle.rules.specs.Actions.{Records, records, missing, noAdd, recordsOf, pathShown, recordsShown}
-use Rattle.actions.specs.Counts.{recordsIs}
-use Rattle.actions.specs.declared.slots.Records.{Records as Stated}
+use Rattle.slots.specs.Counts.{recordsIs}
+use Rattle.slots.specs.declared.Records.{Records as Stated}
 use Rattle.shown.specs.declared.Adding.{Adding}
 use Rattle.shown.specs.declared.Adding.the-variants.{Writes, Nothing}
 use Rattle.shown.specs.declared.Shown.{Shown}

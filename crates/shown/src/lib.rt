@@ -1,6 +1,6 @@
 // What is shown of one line: the path as its add writes it, and the add's number of records. Every byte string has an answer.
 use actions::Action;
-use actions::Records;
+use slots::Records;
 ghost use mathlib.Core.Path.{_≡_};
 ghost use Rattle.rules.specs.Actions.{pathShown, recordsShown};
 ghost use Rattle.shown.specs.Shown.{shownIs, AddingIs};

@@ -15,7 +15,7 @@ use Rattle.rules.specs.Actions.{Action, action}
 use Rattle.rules.specs.Starts.{everyLine, wellFormed}
 use Rattle.rules.proofs.Tests.{apart}
 use Rattle.rules.proofs.Lines.{lines-part-none}
-use Rattle.actions.specs.Texts.{isSome}
+use Rattle.slots.specs.Texts.{isSome}
 use Rattle.lines.specs.Ends.{EndsLine}
 use Rattle.lines.proofs.Laws.{ends-lines}
 

@@ -14,14 +14,14 @@ use Rattle.rules.specs.Json.Values.{Member, objectOf}
 use Rattle.rules.specs.Json.Fields.{optional, absent, isNull, soleOrNone, ifThere, stringOf, wholeAt}
 use Rattle.rules.specs.Actions.{inLine}
 use Rattle.rules.specs.Marker.{isJson, markerVersion}
-use Rattle.fields.specs.Kinds.{namesOf}
+use Rattle.kinds.specs.Kinds.{namesOf}
 use Rattle.fields.specs.Slots.{missing, Each}
-use Rattle.fields.specs.declared.names.Kind.the-variants.{Marker}
+use Rattle.kinds.specs.declared.Kind.the-variants.{Marker}
 use Rattle.fields.specs.declared.notes.Slot.{Slot}
 use Rattle.fields.specs.declared.notes.Fields.{Fields}
 use Rattle.fields.proofs.Slots.{slot-optional, slot-absent}
-use Rattle.actions.specs.Inside.{wholeIn}
-use Rattle.actions.proofs.Stated.{field-whole}
+use Rattle.slots.specs.Inside.{wholeIn}
+use Rattle.slots.proofs.Stated.{field-whole}
 use Rattle.starts.specs.Marks.{ObjectBy, ObjectIs, formatIn, fits}
 
 -- ---- the format, whose value has the text x

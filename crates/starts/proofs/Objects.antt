@@ -9,9 +9,9 @@ use Rattle.rules.specs.Json.Values.{contents, value, objectOf}
 use Rattle.rules.proofs.Json.Steps.{alone-none, alone-end, alone-more, objectOf-contents, objectOf-none}
 use Rattle.text.specs.Answers.{Skips}
 use Rattle.text.proofs.Places.{here, ended}
-use Rattle.fields.specs.Kinds.{namesOf}
+use Rattle.kinds.specs.Kinds.{namesOf}
 use Rattle.fields.specs.Slots.{Filled, ScannedBy}
-use Rattle.fields.specs.declared.names.Kind.{Kind}
+use Rattle.kinds.specs.declared.Kind.{Kind}
 use Rattle.fields.specs.declared.notes.Fields.{Fields}
 use Rattle.starts.specs.Marks.{ObjectBy, ObjectIs}
 

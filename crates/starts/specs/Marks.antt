@@ -9,9 +9,9 @@ use Rattle.rules.specs.Json.Text.{Text}
 use Rattle.rules.specs.Json.Values.{Member}
 use Rattle.rules.specs.Json.Fields.{ifThere, stringOf}
 use Rattle.rules.specs.Marker.{isJson}
-use Rattle.fields.specs.Kinds.{namesOf}
+use Rattle.kinds.specs.Kinds.{namesOf}
 use Rattle.fields.specs.Slots.{Each, optionalIn}
-use Rattle.fields.specs.declared.names.Kind.{Kind}
+use Rattle.kinds.specs.declared.Kind.{Kind}
 use Rattle.fields.specs.declared.notes.Slot.{Slot}
 use Rattle.fields.specs.declared.notes.Fields.{Fields}
 use Rattle.starts.specs.declared.Mark.{Mark}

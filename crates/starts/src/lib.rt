@@ -1,8 +1,8 @@
 // The start from which a version is read, the marker, and the latest version, in a well-formed bundle.
 use fields::Fields;
-use fields::Kind;
-use fields::Name;
 use fields::Slot;
+use keys::Name;
+use kinds::Kind;
 use logs::Place;
 use names::Version;
 use text::Next;
@@ -18,7 +18,7 @@ ghost use Rattle.rules.specs.Marker.{markerVersion, marked as rMarked, climb as
 ghost use Rattle.values.specs.Answers.{wholeIs};
 ghost use Rattle.bundle.specs.Files.{isSome, filesIn};
 ghost use Rattle.logs.specs.Logs.{PlaceIs};
-ghost use Rattle.actions.specs.Inside.{Inside};
+ghost use Rattle.slots.specs.Inside.{Inside};
 ghost use Rattle.starts.specs.Marks.{ObjectIs, formatIn, fits, markIs};
 ghost use Rattle.starts.specs.Ways.{StartIs};
 
@@ -75,13 +75,13 @@ fn format_fits(t: &[u8], slot: Slot) -> bool
     if values::is_null(&t[start..end]) {
         return true;
     }
-    let Name::Of(n) = fields::read_name(t, start) else {
+    let Name::Of(n) = keys::read_name(t, start) else {
         return false;
     };
     if n.end != end {
         return false;
     }
-    fields::name_is(t, n, b"json")
+    keys::name_is(t, n, b"json")
 }
 
 // The version of a marker with this text.
@@ -97,7 +97,7 @@ pub fn marker_version(t: &[u8]) -> Whole
             return Whole::NotWhole;
         }
         if format_fits(t, format) {
-            return actions::whole_in(t, version);
+            return slots::whole_in(t, version);
         }
     }
     Whole::NotWhole

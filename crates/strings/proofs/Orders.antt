@@ -10,9 +10,9 @@ use Rattle.rules.proofs.Order.{order-cons-less, order-cons-more, order-cons-equ
 use Rattle.values.specs.Answers.{orderIs, orderOf}
 use Rattle.values.specs.declared.Order.{Order}
 use Rattle.strings.specs.Decoded.{decoded, WellSpelled}
-use Rattle.strings.specs.Flat.{flat}
-use Rattle.strings.specs.Scanned.{Common}
-use Rattle.strings.proofs.Ahead.{flat-at-itself}
+use Rattle.cursors.specs.Flat.{flat}
+use Rattle.strings.specs.Alike.{Common}
+use Rattle.cursors.proofs.Ahead.{flat-at-itself}
 use Rattle.strings.proofs.Raw.{well-flat}
 
 module _ {y : Bytes} where

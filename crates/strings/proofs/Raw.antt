@@ -20,9 +20,9 @@ use Rattle.rules.proofs.Json.TextReads.{spelled-left, spelled-text}
 use Rattle.rules.proofs.Json.Steps.{char-escape, char-plain, string-end}
 use Rattle.rules.proofs.Json.StringReads.{chars-quote, chars-char, chars-none}
 use Rattle.strings.specs.Decoded.{bytesOf, decoded, WellSpelled}
-use Rattle.strings.specs.Flat.{flat}
+use Rattle.cursors.specs.Flat.{flat}
 use Rattle.strings.proofs.Firsts.{first-answers}
-use Rattle.strings.proofs.Flat.{flat-quote, flat-itself, flat-escape}
+use Rattle.cursors.proofs.Flat.{flat-quote, flat-itself, flat-escape}
 
 -- from t to r each byte stands for itself
 record Passes (t r : Text) : Type 0 where

@@ -12,10 +12,10 @@ use Rattle.rules.specs.Json.Strings.{utf8, shortEscape, escaped}
 use Rattle.rules.proofs.Tests.{by, apart}
 use Rattle.rules.proofs.Json.Suffix.{reads-fewer, some-same, value-same, left-same, bound}
 use Rattle.rules.proofs.Json.StringReads.{codePoint-reads}
-use Rattle.strings.specs.Flat.{flat}
-use Rattle.strings.proofs.Ahead.{flat-ended, flat-at-quote, flat-at-itself, flat-at-none, flat-at-escape}
+use Rattle.cursors.specs.Flat.{flat}
+use Rattle.cursors.proofs.Ahead.{flat-ended, flat-at-quote, flat-at-itself, flat-at-none, flat-at-escape}
 use Rattle.strings.proofs.Firsts.{first-answers}
-use Rattle.strings.proofs.Widths.{size-one, size-bounds}
+use Rattle.cursors.proofs.Widths.{size-one, size-bounds}
 
 Small : ℕ → Type 0
 Small x = x < 0x80

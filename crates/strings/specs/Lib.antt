@@ -1,5 +1,3 @@
 -- What the functions over the decoded bytes of JSON strings promise, in the rules' terms.
 pub mod Decoded
-pub mod Flat
-pub mod Ahead
-pub mod Scanned
+pub mod Alike

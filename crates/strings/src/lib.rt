@@ -1,19 +1,12 @@
 // JSON strings by the bytes that they stand for, with no copy. A string is given as a slice and the position behind its opening quote.
 mod pairs;
-mod scan;
 mod single;
-mod steps;
 
 pub use pairs::order_strings;
 pub use pairs::same_strings;
-pub use scan::Spelling;
-pub use scan::scan_string;
 pub use single::decoded_size;
 pub use single::numeral_in;
 pub use single::string_is;
-pub use steps::Cursor;
-pub use steps::Step;
-pub use steps::next;
 
 pub const QUOTE: u8 = 0x22;
 

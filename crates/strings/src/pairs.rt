@@ -1,9 +1,8 @@
 // Two strings: how one stands to the other, and whether they are the same.
 use crate::BACKSLASH;
 use crate::QUOTE;
-use crate::steps::Cursor;
-use crate::steps::Step;
-use crate::steps::next;
+use cursors::Cursor;
+use cursors::Step;
 use values::Order;
 ghost use mathlib.Core.Path.{_≡_};
 ghost use mathlib.Core.List.{[]};
@@ -11,10 +10,10 @@ ghost use Prim.Native.Nat.{_≤_};
 ghost use lib.ListN.{length, drop};
 ghost use Rattle.rules.specs.Bytes.{same, order};
 ghost use Rattle.values.specs.Answers.{orderIs};
-ghost use Rattle.strings.specs.Ahead.{Sound, ahead};
+ghost use Rattle.cursors.specs.Ahead.{Sound, ahead};
 ghost use Rattle.strings.specs.Decoded.{decoded, WellSpelled};
-ghost use Rattle.strings.specs.Flat.{flat};
-ghost use Rattle.strings.specs.Scanned.{Common};
+ghost use Rattle.cursors.specs.Flat.{flat};
+ghost use Rattle.strings.specs.Alike.{Common};
 
 // The lesser of two lengths.
 fn lesser(a: usize, b: usize) -> usize
@@ -51,7 +50,7 @@ fn order_ended(t: &[u8], c: Cursor) -> Order
     requires { ⌜ Sound (now t) c ⌝ }
     ensures { λ r. ⌜ r ≡ orderIs (order [] (ahead (now (t .entry)) c)) ⌝ }
 {
-    match next(t, c) {
+    match cursors::next(t, c) {
         Step::Byte(_, _) => Order::Less,
         Step::End => Order::Equal,
     }
@@ -73,10 +72,10 @@ fn order_rests(s: &[u8], i: usize, t: &[u8], j: usize) -> Order
         left: 0,
     };
     loop {
-        let Step::Byte(x, e) = next(s, c) else {
+        let Step::Byte(x, e) = cursors::next(s, c) else {
             return order_ended(t, d);
         };
-        let Step::Byte(y, f) = next(t, d) else {
+        let Step::Byte(y, f) = cursors::next(t, d) else {
             return Order::More;
         };
         if x < y {

@@ -1,22 +1,20 @@
 // One string: whether it is a key, how many bytes it stands for, and the number that it stands for.
 use crate::BACKSLASH;
 use crate::QUOTE;
-use crate::steps::Cursor;
-use crate::steps::Step;
-use crate::steps::next;
-use crate::steps::utf8_size;
-use text::Code;
-use values::Numeral;
+use cursors::Cursor;
+use cursors::Step;
+use escapes::Code;
+use numerals::Numeral;
 ghost use mathlib.Core.Path.{_≡_};
 ghost use mathlib.Core.List.{[]};
 ghost use Prim.Native.Nat.{_≤_};
 ghost use lib.ListN.{length, drop};
 ghost use Rattle.rules.specs.Bytes.{same};
 ghost use Rattle.rules.specs.Query.{numberOf};
-ghost use Rattle.values.specs.Answers.{numeralIs};
-ghost use Rattle.strings.specs.Ahead.{Sound, ahead};
+ghost use Rattle.numerals.specs.Answers.{numeralIs};
+ghost use Rattle.cursors.specs.Ahead.{Sound, ahead};
 ghost use Rattle.strings.specs.Decoded.{decoded, WellSpelled};
-ghost use Rattle.strings.specs.Flat.{flat};
+ghost use Rattle.cursors.specs.Flat.{flat};
 
 // A minus and 20 digits: so many bytes a number may have.
 const MOST_BYTES: usize = 21;
@@ -26,7 +24,7 @@ fn ended(s: &[u8], c: Cursor) -> bool
     requires { ⌜ Sound (now s) c ⌝ }
     ensures { λ r. ⌜ r ≡ same (ahead (now (s .entry)) c) [] ⌝ }
 {
-    match next(s, c) {
+    match cursors::next(s, c) {
         Step::Byte(_, _) => false,
         Step::End => true,
     }
@@ -44,7 +42,7 @@ fn key_follows(s: &[u8], at: usize, key: &[u8], k: usize) -> bool
     };
     let mut i = k;
     while i < key.len() {
-        let Step::Byte(b, d) = next(s, c) else {
+        let Step::Byte(b, d) = cursors::next(s, c) else {
             return false;
         };
         if b != key[i] {
@@ -96,10 +94,10 @@ pub fn decoded_size(s: &[u8], at: usize) -> usize
             return n;
         }
         if first == BACKSLASH {
-            let Code::Point(code, j) = text::escape(s, i + 1) else {
+            let Code::Point(code, j) = escapes::escape(s, i + 1) else {
                 return n;
             };
-            n += utf8_size(code);
+            n += cursors::utf8_size(code);
             i = j;
         } else {
             n += 1;
@@ -122,8 +120,8 @@ pub fn numeral_in(s: &[u8], at: usize) -> Numeral
     let mut digits = [0u8; 24];
     let mut n = 0;
     while n <= MOST_BYTES {
-        let Step::Byte(b, d) = next(s, c) else {
-            return values::numeral_of(&digits[..n]);
+        let Step::Byte(b, d) = cursors::next(s, c) else {
+            return numerals::numeral_of(&digits[..n]);
         };
         digits[n] = b;
         c = d;

@@ -8,9 +8,6 @@ use lib.ListN.{length, drop, getD, drop-of-length-le}
 use Rattle.facts.proofs.Lists.{drop-here, drop-is}
 use Rattle.rules.specs.Json.Text.{Text}
 use Rattle.text.specs.Answers.{Answer}
-use Rattle.text.specs.Codes.{Taken}
-use Rattle.text.specs.declared.escapes.Code.{Code}
-use Rattle.text.specs.declared.escapes.Code.the-variants.{Point, NoCode}
 use Rattle.text.specs.declared.Next.{Next}
 use Rattle.text.specs.declared.Next.the-variants.{At, Bad}
 
@@ -29,7 +26,3 @@ ended s i h = drop-of-length-le s h
 pub answer-from : (o o′ : Option Text) (s : Text) (lo lo′ : ℕ) (r : Next) → Answer o s lo r → lo′ ≤ lo → o′ ≡ o → Answer o′ s lo′ r
 answer-from o o′ s lo lo′ (At i) a h e = (e ∙ a .0, le-trans h (a .1), a .2)
 answer-from o o′ s lo lo′ Bad a h e = e ∙ a
-
-pub taken-from : (o o′ : Option (ℕ × Text)) (s : Text) (lo lo′ hi : ℕ) (r : Code) → Taken o s lo hi r → lo′ ≤ lo → o′ ≡ o → Taken o′ s lo′ hi r
-taken-from o o′ s lo lo′ hi (Point x i) a h e = (e ∙ a .0, le-trans h (a .1), a .2, a .3)
-taken-from o o′ s lo lo′ hi NoCode a h e = e ∙ a

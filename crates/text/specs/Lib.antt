@@ -1,3 +1,2 @@
 -- What the scanners of text promise, in the rules' terms.
 pub mod Answers
-pub mod Codes

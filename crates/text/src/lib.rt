@@ -1,16 +1,5 @@
 // The lexical layer of JSON (RFC 8259) over a lent text: each function reads at a position and answers the position behind what it read.
-mod escapes;
-mod numbers;
-mod strings;
-mod utf8;
-
-pub use escapes::Code;
-pub use escapes::escape;
-pub use numbers::skip_number;
-pub use strings::skip_char;
-pub use strings::skip_string;
-pub use utf8::is_plain;
-pub use utf8::skip_unescaped;
+// Here white space, single bytes and words; numbers, escapes and characters have crates of their own.
 ghost use mathlib.Core.Path.{_≡_};
 ghost use Prim.Native.Nat.{_≤_, _+_};
 ghost use lib.ListN.{length, drop};

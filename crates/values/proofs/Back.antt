@@ -1,17 +1,15 @@
 -- For callers: what an answer says of the rules, where it is known which answer it was.
-use mathlib.Core.Path.{_≡_, refl, sym, ap, _∙_}
+use mathlib.Core.Path.{_≡_, refl}
 use mathlib.Core.Bool.{Bool, true, false}
 use mathlib.Core.Option.{Option, none, some}
 use Prim.Native.Nat.{ℕ}
-use lib.IntN.{ℤ, pos, negsuc}
 use Rattle.rules.specs.Bytes.{Order as rOrder, less, equal, more}
-use Rattle.rules.specs.Query.{Number as rNumber, number, outOfRange, notNumber}
 use Rattle.rules.proofs.Tests.{apart}
-use Rattle.values.specs.Answers.{wholeIs, truthIs, orderIs, orderOf, signedAs, signedIs, signedOf, numeralIs}
+use Rattle.values.specs.Answers.{wholeIs, truthIs, orderIs, orderOf}
+use Rattle.values.specs.Readings.{digitsIs}
 use Rattle.values.specs.declared.Whole.the-variants.{Number as Counted, NotWhole}
+use Rattle.values.specs.declared.Digits.the-variants.{Value, NotDigits}
 use Rattle.values.specs.declared.Truth.the-variants.{True, False, NotBool}
-use Rattle.values.specs.declared.Signed.{Signed}
-use Rattle.values.specs.declared.Numeral.the-variants.{Number, OutOfRange, NotNumber}
 
 -- ---- whole numbers
 
@@ -53,27 +51,14 @@ order-back less = refl
 order-back equal = refl
 order-back more = refl
 
--- ---- numbers of a query
+-- ---- digits
 
-pub signed-back : (z : ℤ) → signedIs (signedOf z) ≡ z
-unfolding signedIs signedAs signedOf
-signed-back (pos n) = refl
-signed-back (negsuc n) = refl
+pub value-digits : (o : Option ℕ) {n : ℕ} → digitsIs o ≡ Value n → o ≡ some n
+unfolding digitsIs
+value-digits none e = apart (cc)
+value-digits (some m) e = cc
 
-pub numeral-number : (x : rNumber) {s : Signed} → Number s ≡ numeralIs x → x ≡ number (signedIs s)
-unfolding numeralIs
-numeral-number (number z) {s} e = let q : s ≡ signedOf z = cc in ap number (sym (ap signedIs q ∙ signed-back z))
-numeral-number outOfRange e = apart (cc)
-numeral-number notNumber e = apart (cc)
-
-pub numeral-out : (x : rNumber) → OutOfRange ≡ numeralIs x → x ≡ outOfRange
-unfolding numeralIs
-numeral-out (number z) e = apart (cc)
-numeral-out outOfRange e = refl
-numeral-out notNumber e = apart (cc)
-
-pub numeral-not : (x : rNumber) → NotNumber ≡ numeralIs x → x ≡ notNumber
-unfolding numeralIs
-numeral-not (number z) e = apart (cc)
-numeral-not outOfRange e = apart (cc)
-numeral-not notNumber e = refl
+pub no-digits : (o : Option ℕ) → digitsIs o ≡ NotDigits → o ≡ none
+unfolding digitsIs
+no-digits none e = refl
+no-digits (some m) e = apart (cc)

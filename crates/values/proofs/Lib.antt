@@ -2,8 +2,4 @@
 pub mod Words
 pub mod Decimals
 pub mod Wholes
-pub mod Cuts
-pub mod Queries
-pub mod Signs
-pub mod Conditions
 pub mod Back

@@ -1,14 +1,11 @@
--- What the readers of digits answer, in the rules' terms: as they stand, up to 2^63 - 1, and cut off above 2^63.
-use mathlib.Core.Bool.{Bool, true, false}
+-- What the readers of digits answer, in the rules' terms: as they stand, and up to 2^63 - 1.
 use mathlib.Core.Option.{Option, none, some}
-use Prim.Native.Nat.{ℕ, suc}
+use Prim.Native.Nat.{ℕ}
 use lib.Dec.{leb}
 use Rattle.rules.specs.Bytes.{_>>=_, guard}
 use Rattle.rules.specs.Numbers.{most}
 use Rattle.values.specs.declared.Digits.{Digits}
 use Rattle.values.specs.declared.Digits.the-variants.{Value, NotDigits}
-use Rattle.values.specs.declared.Capped.{Capped}
-use Rattle.values.specs.declared.Capped.the-variants.{Below, TooBig, NoDigits}
 
 -- so many digits always fit a u64
 abbrev pub safeDigits : ℕ
@@ -24,11 +21,3 @@ inBounds o = do
   n ← o
   _ ← guard (leb n most)
   some n
-
-unfoldable pub capped : Bool → ℕ → Capped
-capped true n = Below n
-capped false n = TooBig
-
-unfoldable pub cappedIs : Option ℕ → Capped
-cappedIs none = NoDigits
-cappedIs (some n) = capped (leb n (suc most)) n

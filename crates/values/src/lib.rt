@@ -1,30 +1,20 @@
-// What the text of a value says: a whole number, null, a boolean, the number of a query, and how byte strings and numbers stand to each other.
+// What the text of a value says: a whole number, null, a boolean; and how byte strings stand to each other.
 // Each function answers for every text that it is lent.
 ghost use mathlib.Core.Path.{_≡_};
 ghost use Prim.Native.Nat.{_-_, _≤_};
 ghost use lib.ListN.{length};
-ghost use lib.IntN.{pos};
-ghost use mathlib.Core.Option.{some};
 ghost use Rattle.rules.specs.Bytes.{same, begins, order};
 ghost use Rattle.rules.specs.Numbers.{decimal};
 ghost use Rattle.rules.specs.Json.Numbers.{whole};
 ghost use Rattle.rules.specs.Json.Fields.{isNull, boolOf};
-ghost use Rattle.rules.specs.Query.{mostDigits, numberOf, digitsIn, positive, negative};
-ghost use Rattle.rules.specs.Picking.{orderOfNumbers, meets as rMeets};
-ghost use Rattle.values.specs.Answers.{wholeIs, truthIs, orderIs, orderOf, byOrder, opIs, signedIs, numeralIs};
-ghost use Rattle.values.specs.Readings.{safeDigits, digitsIs, inBounds, cappedIs};
+ghost use Rattle.values.specs.Answers.{wholeIs, truthIs, orderIs};
+ghost use Rattle.values.specs.Readings.{safeDigits, digitsIs, inBounds};
 
 // 2^63 - 1: the highest whole number, and the highest number of a query.
-const MOST: u64 = 9223372036854775807;
-
-// 2^63: the lowest number of a query is -2^63.
-const LOWEST_SIZE: u64 = 9223372036854775808;
+pub const MOST: u64 = 9223372036854775807;
 
 // So many digits always fit a u64.
-const SAFE_DIGITS: usize = 19;
-
-// So many digits a number of a query may have.
-const MOST_DIGITS: usize = 20;
+pub const SAFE_DIGITS: usize = 19;
 
 // ---- byte strings
 
@@ -60,19 +50,6 @@ pub enum Order {
     Less,
     Equal,
     More,
-}
-
-// How a stands to b, two sizes.
-fn order_sizes(a: u64, b: u64) -> Order
-    ensures { λ r. ⌜ r ≡ orderIs (orderOfNumbers (pos a) (pos b)) ⌝ }
-{
-    if a < b {
-        return Order::Less;
-    }
-    if b < a {
-        return Order::More;
-    }
-    Order::Equal
 }
 
 // The lesser of two lengths.
@@ -139,7 +116,8 @@ pub fn truth_of(v: &[u8]) -> Truth
 
 // ---- digits
 
-enum Digits {
+// The number of digits, where they are digits.
+pub enum Digits {
     Value(u64),
     NotDigits,
 }
@@ -151,7 +129,7 @@ fn wide(b: u8) -> u64
 }
 
 // The number that few enough digits stand for.
-fn short_digits(v: &[u8]) -> Digits
+pub fn short_digits(v: &[u8]) -> Digits
     requires { ⌜ length (now v) ≤ safeDigits ⌝ }
     ensures { λ r. ⌜ r ≡ digitsIs (decimal (now (v .entry))) ⌝ }
 {
@@ -212,174 +190,4 @@ pub fn whole_of(v: &[u8]) -> Whole
         return Whole::NotWhole;
     }
     whole_digits(v)
-}
-
-// ---- the numbers of a query
-
-// A number by its sign and its size. Zero is not negative.
-pub struct Signed {
-    pub negative: bool,
-    pub size: u64,
-}
-
-// The number of a query; a text of that shape may still be out of range.
-pub enum Numeral {
-    Number(Signed),
-    OutOfRange,
-    NotNumber,
-}
-
-enum Capped {
-    Below(u64),
-    TooBig,
-    NoDigits,
-}
-
-fn cap(n: u64) -> Capped
-    ensures { λ r. ⌜ r ≡ cappedIs (some n) ⌝ }
-{
-    if LOWEST_SIZE < n {
-        return Capped::TooBig;
-    }
-    Capped::Below(n)
-}
-
-// Of twenty digits the first tells whether they may be in range.
-fn twenty_digits(v: &[u8]) -> Capped
-    requires { ⌜ length (now v) ≡ mostDigits ⌝ }
-    ensures { λ r. ⌜ r ≡ cappedIs (decimal (now (v .entry))) ⌝ }
-{
-    let b = v[0];
-    if b < b'0' {
-        return Capped::NoDigits;
-    }
-    if b'9' < b {
-        return Capped::NoDigits;
-    }
-    match short_digits(&v[1..]) {
-        Digits::NotDigits => Capped::NoDigits,
-        Digits::Value(n) => {
-            if b'0' < b {
-                return Capped::TooBig;
-            }
-            cap(n)
-        }
-    }
-}
-
-// One to twenty digits, zeros in front allowed.
-fn capped_digits(v: &[u8]) -> Capped
-    ensures { λ r. ⌜ r ≡ cappedIs (digitsIn (now (v .entry))) ⌝ }
-{
-    if MOST_DIGITS < v.len() {
-        return Capped::NoDigits;
-    }
-    if SAFE_DIGITS < v.len() {
-        return twenty_digits(v);
-    }
-    match short_digits(v) {
-        Digits::NotDigits => Capped::NoDigits,
-        Digits::Value(n) => cap(n),
-    }
-}
-
-fn positive_of(v: &[u8]) -> Numeral
-    ensures { λ r. ⌜ r ≡ numeralIs (positive (digitsIn (now (v .entry)))) ⌝ }
-{
-    match capped_digits(v) {
-        Capped::NoDigits => Numeral::NotNumber,
-        Capped::TooBig => Numeral::OutOfRange,
-        Capped::Below(n) => {
-            if MOST < n {
-                return Numeral::OutOfRange;
-            }
-            Numeral::Number(Signed {
-                negative: false,
-                size: n,
-            })
-        }
-    }
-}
-
-fn negative_of(v: &[u8]) -> Numeral
-    ensures { λ r. ⌜ r ≡ numeralIs (negative (digitsIn (now (v .entry)))) ⌝ }
-{
-    match capped_digits(v) {
-        Capped::NoDigits => Numeral::NotNumber,
-        Capped::TooBig => Numeral::OutOfRange,
-        Capped::Below(n) => Numeral::Number(Signed {
-            negative: 0 < n,
-            size: n,
-        }),
-    }
-}
-
-// The number that decoded bytes spell: an optional minus and 1 to 20 digits, from -2^63 to 2^63 - 1.
-pub fn numeral_of(v: &[u8]) -> Numeral
-    ensures { λ r. ⌜ r ≡ numeralIs (numberOf (now (v .entry))) ⌝ }
-{
-    if v.len() == 0 {
-        return Numeral::NotNumber;
-    }
-    if v[0] == b'-' {
-        return negative_of(&v[1..]);
-    }
-    positive_of(v)
-}
-
-// How a stands to b, two numbers.
-pub fn order_numbers(a: Signed, b: Signed) -> Order
-    ensures { λ r. ⌜ r ≡ orderIs (orderOfNumbers (signedIs a) (signedIs b)) ⌝ }
-{
-    if a.negative {
-        if b.negative {
-            return order_sizes(b.size, a.size);
-        }
-        if a.size == 0 {
-            return order_sizes(0, b.size);
-        }
-        return Order::Less;
-    }
-    if b.negative {
-        if b.size == 0 {
-            return order_sizes(a.size, 0);
-        }
-        return Order::More;
-    }
-    order_sizes(a.size, b.size)
-}
-
-// ---- what a condition asks
-
-// How a value must stand to the condition's own.
-pub enum Op {
-    Eq,
-    Lt,
-    Le,
-    Gt,
-    Ge,
-}
-
-// The answer for the order that it is.
-fn by_order(o: Order, less: bool, equal: bool, more: bool) -> bool
-    ensures { λ r. ⌜ r ≡ byOrder (orderOf o) less equal more ⌝ }
-{
-    match o {
-        Order::Less => less,
-        Order::Equal => equal,
-        Order::More => more,
-    }
-}
-
-// Whether a value that stands so to the condition's own meets the condition.
-pub fn meets(op: Op, o: Order) -> bool
-    ensures { λ r. ⌜ r ≡ rMeets (opIs op) (orderOf o) ⌝ }
-{
-    match op {
-        Op::Eq => by_order(o, false, true, false),
-        Op::Lt => by_order(o, true, false, false),
-        Op::Le => by_order(o, true, true, false),
-        Op::Gt => by_order(o, false, false, true),
-        Op::Ge => by_order(o, false, true, true),
-    }
 }

@@ -5,8 +5,8 @@ use Prim.Native.Nat.{ℕ}
 use Rattle.rules.specs.Json.Text.{Text, behind}
 use Rattle.rules.proofs.Opened.{rules}
 use Rattle.strings.specs.Decoded.{WellSpelled}
-use Rattle.strings.specs.Scanned.{Scanned}
-use Rattle.strings.specs.declared.scan.Spelling.the-variants.{Plain, Escaped}
+use Rattle.spellings.specs.Scanned.{Scanned}
+use Rattle.spellings.specs.declared.Spelling.the-variants.{Plain, Escaped}
 
 pub plain-spelled : (s : Text) (at i : ℕ) → Scanned s at (Plain i) → WellSpelled s at
 plain-spelled s at i h = record { end = i; closed = ap behind (h .0) }

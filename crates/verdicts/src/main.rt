@@ -1,10 +1,10 @@
 // Prints what the text layer says of each text on standard input. A text is two bytes, its length (little-endian), and then its bytes.
 // A line gives: whether it is JSON; the whole number that it is, or -; the number of a query that it is, `out` or -;
 // and, where it is a string, how many bytes it stands for and how it stands to "m".
-use strings::Spelling;
-use values::Numeral;
+use numerals::Numeral;
+use numerals::Signed;
+use spellings::Spelling;
 use values::Order;
-use values::Signed;
 use values::Whole;
 ghost use Prim.Native.Nat.{_<_};
 ghost use Rattle.strings.specs.Decoded.{WellSpelled};
@@ -40,7 +40,7 @@ fn print_signed(n: Signed) {
 }
 
 fn print_numeral(t: &[u8]) {
-    match values::numeral_of(t) {
+    match numerals::numeral_of(t) {
         Numeral::Number(n) => print_signed(n),
         Numeral::OutOfRange => print(b"out"),
         Numeral::NotNumber => print(b"-"),
@@ -71,7 +71,7 @@ fn print_string(t: &[u8]) {
     if t[0] != QUOTE {
         return;
     }
-    match strings::scan_string(t, 1) {
+    match spellings::scan_string(t, 1) {
         Spelling::Plain(_) => print_spelled(t),
         Spelling::Escaped(_) => print_spelled(t),
         Spelling::Bad => (),

@@ -6,7 +6,7 @@ use borrow.Author.Needs.{needs}
 use lib.ListN.{length, drop}
 use Rattle.json.specs.Follows.{Follows}
 use Rattle.strings.specs.Decoded.{decoded}
-use Rattle.fields.specs.Spelled.{MetIs}
+use Rattle.fields.specs.Standing.{MetIs}
 use Rattle.members.proofs.Going.{Going, going-none, going-here, going-neither, going-closed, going-more}
 use Rattle.members.proofs.find_from.Statement.{statement}
 use Rattle.members.proofs.find_from.Tie as tie

@@ -5,7 +5,7 @@ use native.Mathlib.Omega.{arith}
 use borrow.Author.Needs.{needs}
 use lib.ListN.{length}
 use Rattle.rules.specs.Actions.{Facts}
-use Rattle.actions.specs.Line.{Pairing}
+use Rattle.nested.specs.Nested.{Pairing}
 use Rattle.picking.proofs.Each.{Going, going-end, going-met, going-fails}
 use Rattle.picking.proofs.meets_each.Statement.{statement}
 use Rattle.picking.proofs.meets_each.Tie as tie

@@ -2,8 +2,8 @@
 use mathlib.Core.Path.{sym, subst, _∙_}
 use borrow.Author.Needs.{needs}
 use Rattle.members.specs.Lookup.{FoundIs}
-use Rattle.actions.specs.Texts.{StringIs}
-use Rattle.query.specs.Conditions.{conditionOf}
+use Rattle.slots.specs.Texts.{StringIs}
+use Rattle.conditions.specs.Conditions.{conditionOf}
 use Rattle.picking.proofs.Values.{standing, meets-missing, meets-string, meets-null}
 use Rattle.picking.proofs.meets_one.Statement.{statement}
 use Rattle.picking.proofs.meets_one.Tie as tie

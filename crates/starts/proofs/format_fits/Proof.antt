@@ -5,9 +5,9 @@ use lib.ListN.{length}
 use Rattle.rules.specs.Bytes.{ascii}
 use Rattle.rules.specs.Json.Fields.{ifThere, stringOf}
 use Rattle.rules.specs.Marker.{isJson}
-use Rattle.fields.specs.Spelled.{NameIs}
-use Rattle.actions.proofs.Single.{inside-single, optional-missing, optional-single, optional-more}
-use Rattle.actions.proofs.Strings.{stringOf-none, stringOf-ends, string-read}
+use Rattle.keys.specs.Spelled.{NameIs}
+use Rattle.slots.proofs.Single.{inside-single, optional-missing, optional-single, optional-more}
+use Rattle.slots.proofs.Strings.{stringOf-none, stringOf-ends, string-read}
 use Rattle.starts.specs.Marks.{fits}
 use Rattle.starts.proofs.Markers.{format-null, format-none, format-some}
 use native.Mathlib.Omega.{arith}

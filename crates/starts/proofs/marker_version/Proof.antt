@@ -1,9 +1,9 @@
 -- What the marker says by the slots of its three fields, as `Markers` has it.
 use mathlib.Core.Path.{sym, ap, _∙_}
 use Rattle.values.specs.Answers.{wholeIs}
-use Rattle.fields.specs.Kinds.{namesOf}
-use Rattle.fields.specs.declared.names.Kind.the-variants.{Marker}
-use Rattle.actions.proofs.Stated.{each-inside}
+use Rattle.kinds.specs.Kinds.{namesOf}
+use Rattle.kinds.specs.declared.Kind.the-variants.{Marker}
+use Rattle.slots.proofs.Stated.{each-inside}
 use Rattle.starts.proofs.Markers.{object-there, object-gone, marker-none, marker-parts, marker-format}
 use native.Mathlib.Omega.{arith}
 use borrow.Author.Needs.{needs}

@@ -5,7 +5,7 @@ use Rattle.rules.specs.Numbers.{most}
 use Rattle.values.specs.Answers.{wholeIs}
 use Rattle.values.specs.Readings.{inBounds}
 use Rattle.values.proofs.Wholes.{bounds-in, bounds-out}
-use Rattle.values.proofs.Cuts.{value-digits, no-digits}
+use Rattle.values.proofs.Back.{value-digits, no-digits}
 use borrow.Author.Needs.{needs}
 use Rattle.values.proofs.whole_digits.Statement.{statement}
 use Rattle.values.proofs.whole_digits.Tie as tie

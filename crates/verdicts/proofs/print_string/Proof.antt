@@ -1,6 +1,6 @@
 -- What a scan found is well spelled.
 use mathlib.Core.Path.{subst}
-use Rattle.strings.specs.Scanned.{Scanned}
+use Rattle.spellings.specs.Scanned.{Scanned}
 use Rattle.verdicts.proofs.Spellings.{plain-spelled, escaped-spelled}
 use borrow.Author.Needs.{needs}
 use Rattle.verdicts.proofs.print_string.Statement.{statement}

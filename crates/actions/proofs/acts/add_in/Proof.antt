@@ -2,14 +2,14 @@
 use mathlib.Core.Path.{sym, ap, subst, _∙_}
 use Prim.Native.Nat.{_+_, _≤_}
 use lib.ListN.{length}
-use Rattle.fields.specs.Kinds.{namesOf}
-use Rattle.fields.specs.declared.names.Kind.the-variants.{Add}
+use Rattle.kinds.specs.Kinds.{namesOf}
+use Rattle.kinds.specs.declared.Kind.the-variants.{Add}
 use Rattle.values.proofs.Back.{whole-number, whole-not}
-use Rattle.actions.specs.Counts.{isBool, isKnown, recordsIs}
-use Rattle.actions.specs.Texts.{PathIs, Told}
-use Rattle.actions.specs.Nested.{ValuesIs}
-use Rattle.actions.proofs.Stated.{each-inside}
-use Rattle.actions.proofs.Valued.{each-proper}
+use Rattle.slots.specs.Counts.{isBool, isKnown, recordsIs}
+use Rattle.slots.specs.Texts.{PathIs, Told}
+use Rattle.nested.specs.Nested.{ValuesIs}
+use Rattle.slots.proofs.Stated.{each-inside}
+use Rattle.nested.proofs.Valued.{each-proper}
 use Rattle.actions.proofs.Assembled.{slot, path-placed, add-no-path, add-no-size, add-no-time, add-no-change, add-no-values, add-no-records, add-there, truth-told, records-told}
 use native.Mathlib.Omega.{arith}
 use borrow.Author.Needs.{needs}

@@ -1,11 +1,11 @@
 -- `meta_data_in` meets its contract. Its two fields.
 use mathlib.Core.Path.{subst}
-use Rattle.fields.specs.Kinds.{namesOf}
-use Rattle.fields.specs.declared.names.Kind.the-variants.{MetaData}
-use Rattle.actions.specs.Texts.{Told}
-use Rattle.actions.specs.Nested.{ColumnsIs}
-use Rattle.actions.proofs.Stated.{each-inside}
-use Rattle.actions.proofs.Valued.{each-proper}
+use Rattle.kinds.specs.Kinds.{namesOf}
+use Rattle.kinds.specs.declared.Kind.the-variants.{MetaData}
+use Rattle.slots.specs.Texts.{Told}
+use Rattle.nested.specs.Nested.{ColumnsIs}
+use Rattle.slots.proofs.Stated.{each-inside}
+use Rattle.nested.proofs.Valued.{each-proper}
 use Rattle.actions.proofs.Assembled.{meta-no-id, meta-no-columns, meta-there}
 use native.Mathlib.Omega.{arith}
 use borrow.Author.Needs.{needs}

@@ -1,12 +1,12 @@
 -- `protocol_in` meets its contract. Its fields, one after another.
 use mathlib.Core.Path.{sym, subst, _∙_}
 use mathlib.Core.Bool.{true, false}
-use Rattle.fields.specs.Kinds.{namesOf}
-use Rattle.fields.specs.declared.names.Kind.the-variants.{Protocol}
+use Rattle.kinds.specs.Kinds.{namesOf}
+use Rattle.kinds.specs.declared.Kind.the-variants.{Protocol}
 use Rattle.values.proofs.Back.{whole-number, whole-not}
-use Rattle.actions.specs.Nested.{FeaturesIs}
-use Rattle.actions.proofs.Stated.{each-inside}
-use Rattle.actions.proofs.Valued.{each-proper}
+use Rattle.nested.specs.Nested.{FeaturesIs}
+use Rattle.slots.proofs.Stated.{each-inside}
+use Rattle.nested.proofs.Valued.{each-proper}
 use Rattle.actions.proofs.Assembled.{protocol-no-reader, protocol-no-writer, protocol-no-reader-features, protocol-no-writer-features, protocol-there}
 use native.Mathlib.Omega.{arith}
 use borrow.Author.Needs.{needs}

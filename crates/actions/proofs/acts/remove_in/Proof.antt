@@ -1,9 +1,9 @@
 -- `remove_in` meets its contract. The path of its field.
 use mathlib.Core.Path.{subst}
-use Rattle.fields.specs.Kinds.{namesOf}
-use Rattle.fields.specs.declared.names.Kind.the-variants.{Remove}
-use Rattle.actions.specs.Texts.{PathIs}
-use Rattle.actions.proofs.Stated.{each-inside}
+use Rattle.kinds.specs.Kinds.{namesOf}
+use Rattle.kinds.specs.declared.Kind.the-variants.{Remove}
+use Rattle.slots.specs.Texts.{PathIs}
+use Rattle.slots.proofs.Stated.{each-inside}
 use Rattle.actions.proofs.Assembled.{remove-no-path, remove-there}
 use native.Mathlib.Omega.{arith}
 use borrow.Author.Needs.{needs}

@@ -1,6 +1,6 @@
 -- `is_action` meets its contract. A line is well formed where it says anything.
 use mathlib.Core.Path.{sym, ap, subst}
-use Rattle.actions.specs.Texts.{isSome}
+use Rattle.slots.specs.Texts.{isSome}
 use Rattle.actions.specs.Line.{ActionIs}
 use borrow.Author.Needs.{needs}
 use Rattle.actions.proofs.line.is_action.Statement.{statement}

@@ -1,7 +1,7 @@
 -- `key_at` meets its contract. A name and a colon, each from where the one before ends.
 use mathlib.Core.Path.{subst}
 use Rattle.text.specs.Answers.{Answer}
-use Rattle.fields.specs.Spelled.{NameIs}
+use Rattle.keys.specs.Spelled.{NameIs}
 use Rattle.actions.proofs.Lines.{line-nameless, line-no-colon, line-begun}
 use borrow.Author.Needs.{needs}
 use Rattle.actions.proofs.line.key_at.Statement.{statement}

@@ -5,9 +5,9 @@ use lib.ListN.{length, drop}
 use Rattle.rules.specs.Actions.{inAction}
 use Rattle.rules.specs.Json.Values.{contents, value}
 use Rattle.text.specs.Answers.{Answer}
-use Rattle.fields.specs.Kinds.{namesOf}
+use Rattle.kinds.specs.Kinds.{namesOf}
 use Rattle.fields.specs.Slots.{Filled}
-use Rattle.fields.specs.declared.names.Kind.{Kind}
+use Rattle.kinds.specs.declared.Kind.{Kind}
 use Rattle.actions.proofs.Lines.{begun-no-object, begun-contents, begun-no-value, begun-unended, begun-lined, scanned-good, scanned-bad}
 use native.Mathlib.Omega.{arith}
 use borrow.Author.Needs.{needs}

@@ -6,7 +6,8 @@ use borrow.Author.Needs.{needs}
 use lib.ListN.{length}
 use Rattle.rules.specs.Bytes.{distinct}
 use Rattle.json.specs.Follows.{Follows}
-use Rattle.fields.specs.Spelled.{nameIn, MetIs}
+use Rattle.keys.specs.Spelled.{nameIn}
+use Rattle.fields.specs.Standing.{MetIs}
 use Rattle.fields.specs.Namings.{Object, Members}
 use Rattle.fields.proofs.Meeting.{object-neither, object-closed, object-more, members-none, members-neither, members-closed, members-more}
 use Rattle.fields.proofs.Asking.{Asked, distinct-last, distinct-twice, distinct-more}

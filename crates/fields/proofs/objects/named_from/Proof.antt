@@ -6,7 +6,8 @@ use borrow.Author.Needs.{needs}
 use lib.ListN.{length}
 use Rattle.rules.specs.Bytes.{holds}
 use Rattle.json.specs.Follows.{Follows}
-use Rattle.fields.specs.Spelled.{nameIn, MetIs}
+use Rattle.keys.specs.Spelled.{nameIn}
+use Rattle.fields.specs.Standing.{MetIs}
 use Rattle.fields.specs.Namings.{Members}
 use Rattle.fields.proofs.Meeting.{members-none, members-neither, members-closed, members-first, members-more}
 use Rattle.fields.proofs.Asking.{Asked, held-here, held-last, held-more}

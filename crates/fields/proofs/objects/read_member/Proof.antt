@@ -4,8 +4,9 @@ use borrow.Author.Needs.{needs}
 use lib.ListN.{drop}
 use Rattle.rules.specs.Json.Values.{value as rValue}
 use Rattle.text.specs.Answers.{Answer}
-use Rattle.fields.specs.Spelled.{NameIs}
-use Rattle.fields.proofs.Members.{named-string, member-nameless, member-no-colon, member-no-value, member-stands}
+use Rattle.keys.specs.Spelled.{NameIs}
+use Rattle.keys.proofs.Quoting.{named-string}
+use Rattle.fields.proofs.Members.{member-nameless, member-no-colon, member-no-value, member-stands}
 use Rattle.fields.proofs.objects.read_member.Statement.{statement}
 use Rattle.fields.proofs.objects.read_member.Tie as tie
 

@@ -2,7 +2,7 @@
 use mathlib.Core.Path.{sym, ap, _∙_}
 use borrow.Author.Needs.{needs}
 use Rattle.rules.specs.Bytes.{Bytes, same}
-use Rattle.fields.specs.Spelled.{nameIn}
+use Rattle.keys.specs.Spelled.{nameIn}
 use Rattle.fields.proofs.objects.same_names.Statement.{statement}
 use Rattle.fields.proofs.objects.same_names.Tie as tie
 

@@ -7,9 +7,9 @@ use lib.ListN.{length}
 use Rattle.rules.specs.Json.Values.{value as rValue}
 use Rattle.rules.proofs.Json.ValueReads.{value-reads}
 use Rattle.json.specs.Follows.{Follows}
-use Rattle.fields.specs.Kinds.{namesOf}
-use Rattle.fields.specs.Spelled.{MetIs}
-use Rattle.fields.proofs.Naming.{names-few}
+use Rattle.kinds.specs.Kinds.{namesOf}
+use Rattle.fields.specs.Standing.{MetIs}
+use Rattle.kinds.proofs.Naming.{names-few}
 use Rattle.fields.proofs.Scanning.{Going, scanned-none, opened-neither, opened-closed, going-start, going-none, going-neither, going-closed, going-more}
 use Rattle.fields.proofs.objects.scan.Statement.{statement}
 use Rattle.fields.proofs.objects.scan.Tie as tie

@@ -8,8 +8,8 @@ use lib.ListN.{length}
 use Rattle.query.specs.Reading.{conditionsOf}
 use Rattle.refusals.specs.Numbered.{numbered}
 use Rattle.refusals.specs.declared.Refusal.the-variants.{QueryMalformed, StateMalformed, TooManyManifests}
-use Rattle.manifests.specs.States.{ArrayIs}
-use Rattle.manifests.specs.Rooms.{CountedIs}
+use Rattle.states.specs.States.{ArrayIs}
+use Rattle.noting.specs.Walks.{CountedIs}
 use Rattle.manifests.proofs.Answering.{beyond-long, keeping-query, keeping-state, keeping-many, keeping-kept, keep-short, keep-refused, keep-kept, asked-good, asked-none}
 use Rattle.manifests.proofs.keeping.keep.Statement.{statement}
 use Rattle.manifests.proofs.keeping.keep.Tie as tie

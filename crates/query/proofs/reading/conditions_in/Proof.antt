@@ -1,8 +1,8 @@
 -- `conditions_in` meets its contract. The loop holds the conditions that went by, and what is left gets shorter.
 use Rattle.query.proofs.Gathering.{Going, opened-neither, opened-closed, going-start, going-none, going-full, going-neither, going-closed, going-more}
-use Rattle.query.specs.declared.conditions.Condition.{Condition}
+use Rattle.conditions.specs.declared.conditions.Condition.{Condition}
 use Rattle.query.specs.Reading.{fewOf, Array, GatheredIs}
-use Rattle.query.specs.Conditions.{conditionRead, ElementIs}
+use Rattle.conditions.specs.Conditions.{conditionRead, ElementIs}
 use Rattle.json.specs.Follows.{Follows}
 use Rattle.rules.specs.Json.Values.{list}
 use lib.ListN.{length, drop, replicate}

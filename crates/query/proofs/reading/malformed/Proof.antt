@@ -1,6 +1,6 @@
 -- `malformed` meets its contract.
 use Rattle.query.specs.declared.reading.Query.{Query}
-use Rattle.query.specs.declared.conditions.Condition.{Condition}
+use Rattle.conditions.specs.declared.conditions.Condition.{Condition}
 use Rattle.query.specs.Reading.{noQuery}
 use lib.ListN.{replicate}
 use mathlib.Core.Bool.{false}

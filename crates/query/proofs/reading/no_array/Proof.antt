@@ -1,6 +1,6 @@
 -- `no_array` meets its contract.
 use Rattle.query.specs.declared.reading.Gathered.{Gathered}
-use Rattle.query.specs.declared.conditions.Condition.{Condition}
+use Rattle.conditions.specs.declared.conditions.Condition.{Condition}
 use Rattle.query.specs.Reading.{noArray}
 use lib.ListN.{replicate}
 use mathlib.Core.Bool.{false}

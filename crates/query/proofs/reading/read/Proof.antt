@@ -1,7 +1,7 @@
 -- `read` meets its contract: each test of the code is one of the rules', and all else is answered alike.
 use Rattle.query.proofs.Fusing.{behind-none, behind-more, behind-apart, behind-twice, query-long, query-no-array, query-array}
 use Rattle.query.specs.Reading.{columnsOf, fewOf, GatheredBy, QueryIs}
-use Rattle.query.specs.Conditions.{conditionRead}
+use Rattle.conditions.specs.Conditions.{conditionRead}
 use Rattle.text.proofs.Places.{here, ended}
 use Rattle.text.specs.Answers.{Answer}
 use Rattle.rules.specs.Query.{mostQuery}

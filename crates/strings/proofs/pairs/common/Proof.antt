@@ -3,7 +3,7 @@ use Prim.Native.Nat.{_-_, _≤_}
 use borrow.Author.Needs.{needs}
 use lib.ListN.{length}
 use native.Mathlib.Omega.{arith}
-use Rattle.strings.specs.Scanned.{Common}
+use Rattle.strings.specs.Alike.{Common}
 use Rattle.strings.proofs.Orders.{common-start, common-more}
 use Rattle.strings.proofs.pairs.common.Statement.{statement}
 use Rattle.strings.proofs.pairs.common.Tie as tie

@@ -2,7 +2,7 @@
 use borrow.Author.Needs.{needs}
 use mathlib.Core.Path.{sym, ap, subst}
 use Rattle.values.specs.Answers.{orderIs}
-use Rattle.strings.specs.Ahead.{Stepped}
+use Rattle.cursors.specs.Ahead.{Stepped}
 use Rattle.strings.proofs.Orders.{order-none-none, order-none-some}
 use Rattle.strings.proofs.pairs.order_ended.Statement.{statement}
 use Rattle.strings.proofs.pairs.order_ended.Tie as tie

@@ -5,9 +5,9 @@ use mathlib.Core.Path.{_≡_, refl, sym, ap, subst, _∙_}
 use native.Mathlib.Omega.{arith}
 use Rattle.rules.specs.Bytes.{Bytes, order}
 use Rattle.values.specs.Answers.{orderIs}
-use Rattle.strings.specs.Ahead.{Sound, Stepped, ahead, distance, fresh}
-use Rattle.strings.specs.Flat.{flat}
-use Rattle.strings.proofs.Ahead.{ahead-fresh, sound-fresh}
+use Rattle.cursors.specs.Ahead.{Sound, Stepped, ahead, distance, fresh}
+use Rattle.cursors.specs.Flat.{flat}
+use Rattle.cursors.proofs.Ahead.{ahead-fresh, sound-fresh}
 use Rattle.strings.proofs.Orders.{order-some-none, order-next-less, order-next-more, order-next-equal}
 use Rattle.strings.proofs.pairs.order_rests.Statement.{statement}
 use Rattle.strings.proofs.pairs.order_rests.Tie as tie

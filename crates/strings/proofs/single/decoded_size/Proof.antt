@@ -4,7 +4,7 @@ use borrow.Author.Needs.{needs}
 use lib.ListN.{length}
 use mathlib.Core.Path.{ap, subst, _∙_}
 use native.Mathlib.Omega.{arith}
-use Rattle.text.specs.Codes.{Taken}
+use Rattle.escapes.specs.Codes.{Taken}
 use Rattle.strings.proofs.Raw.{well-flat, well-within}
 use Rattle.strings.proofs.Sizes.{Counted, counted-start, counted-ended, counted-quote, counted-none, counted-itself, counted-room, counted-escape}
 use Rattle.strings.proofs.single.decoded_size.Statement.{statement}

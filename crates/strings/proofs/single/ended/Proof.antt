@@ -1,7 +1,7 @@
 -- `ended` meets its contract. There is a next byte, or there is none.
 use borrow.Author.Needs.{needs}
 use mathlib.Core.Path.{sym, subst}
-use Rattle.strings.specs.Ahead.{Stepped}
+use Rattle.cursors.specs.Ahead.{Stepped}
 use Rattle.strings.proofs.Keys.{same-none, same-some}
 use Rattle.strings.proofs.single.ended.Statement.{statement}
 use Rattle.strings.proofs.single.ended.Tie as tie

@@ -5,9 +5,9 @@ use lib.ListN.{length, drop}
 use mathlib.Core.Path.{_≡_, refl, sym, ap, subst, _∙_}
 use native.Mathlib.Omega.{arith}
 use Rattle.rules.specs.Bytes.{Bytes, same}
-use Rattle.strings.specs.Ahead.{Sound, Stepped, ahead, fresh}
-use Rattle.strings.specs.Flat.{flat}
-use Rattle.strings.proofs.Ahead.{ahead-fresh, sound-fresh}
+use Rattle.cursors.specs.Ahead.{Sound, Stepped, ahead, fresh}
+use Rattle.cursors.specs.Flat.{flat}
+use Rattle.cursors.proofs.Ahead.{ahead-fresh, sound-fresh}
 use Rattle.strings.proofs.Keys.{same-past, same-ends, same-next, same-differs}
 use Rattle.strings.proofs.single.key_follows.Statement.{statement}
 use Rattle.strings.proofs.single.key_follows.Tie as tie

@@ -8,10 +8,10 @@ use mathlib.Core.Path.{_≡_, refl, sym, ap, subst, _∙_}
 use native.Mathlib.Omega.{arith}
 use Rattle.rules.specs.Bytes.{Bytes}
 use Rattle.rules.specs.Query.{numberOf}
-use Rattle.values.specs.Answers.{numeralIs}
-use Rattle.strings.specs.Ahead.{Sound, Stepped, ahead, fresh}
+use Rattle.numerals.specs.Answers.{numeralIs}
+use Rattle.cursors.specs.Ahead.{Sound, Stepped, ahead, fresh}
 use Rattle.strings.specs.Decoded.{decoded}
-use Rattle.strings.proofs.Ahead.{ahead-fresh, sound-fresh}
+use Rattle.cursors.proofs.Ahead.{ahead-fresh, sound-fresh}
 use Rattle.strings.proofs.Numerals.{numberOf-long, gathered-more, gathered-all, gathered-long}
 use Rattle.strings.proofs.Raw.{well-flat, well-within}
 use Rattle.strings.proofs.single.numeral_in.Statement.{statement}

@@ -5,8 +5,8 @@ use mathlib.Core.Path.{_≡_, sym, ap, _∙_}
 use native.Mathlib.Omega.{arith}
 use Rattle.rules.specs.Bytes.{Bytes, same}
 use Rattle.strings.specs.Decoded.{decoded}
-use Rattle.strings.specs.Flat.{flat}
-use Rattle.strings.proofs.Ahead.{flat-ended, flat-at-quote, flat-at-itself}
+use Rattle.cursors.specs.Flat.{flat}
+use Rattle.cursors.proofs.Ahead.{flat-ended, flat-at-quote, flat-at-itself}
 use Rattle.strings.proofs.Keys.{same-ends, same-next, same-differs}
 use Rattle.strings.proofs.Raw.{well-flat, well-within}
 use Rattle.strings.proofs.single.string_is.Statement.{statement}

@@ -1,0 +1,2 @@
+-- What the scanners of characters promise, in the rules' terms.
+pub mod Leading

@@ -1,0 +1,8 @@
+// The characters of JSON's strings, as they are, in UTF-8, or escaped; and strings up to their closing quote.
+mod strings;
+mod utf8;
+
+pub use strings::skip_char;
+pub use strings::skip_string;
+pub use utf8::is_plain;
+pub use utf8::skip_unescaped;

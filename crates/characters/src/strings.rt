@@ -1,0 +1,53 @@
+// Strings of JSON, behind the opening quote: characters up to the closing one.
+use crate::utf8::BACKSLASH;
+use crate::utf8::QUOTE;
+use crate::utf8::is_plain;
+use crate::utf8::skip_unescaped;
+use escapes::Code;
+use text::Next;
+ghost use Prim.Native.Nat.{_≤_, _+_};
+ghost use lib.ListN.{length, drop};
+ghost use Rattle.rules.specs.Json.Text.{behind};
+ghost use Rattle.rules.specs.Json.Strings.{char, string};
+ghost use Rattle.text.specs.Answers.{Answer};
+
+// A character of a string, as it is or escaped.
+pub fn skip_char(s: &[u8], at: usize) -> Next
+    requires { ⌜ at ≤ length (now s) ⌝ }
+    ensures { λ r. ⌜ Answer (behind (char (drop at (now (s .entry))))) (now (s .entry)) (at + 1) r ⌝ }
+{
+    if s.len() <= at {
+        return Next::Bad;
+    }
+    if s[at] == BACKSLASH {
+        let Code::Point(_, i) = escapes::escape(s, at + 1) else {
+            return Next::Bad;
+        };
+        Next::At(i)
+    } else {
+        skip_unescaped(s, at)
+    }
+}
+
+// Behind the opening quote: the characters of a string and its closing quote.
+pub fn skip_string(s: &[u8], at: usize) -> Next
+    requires { ⌜ at ≤ length (now s) ⌝ }
+    ensures { λ r. ⌜ Answer (behind (string (drop at (now (s .entry))))) (now (s .entry)) (at + 1) r ⌝ }
+{
+    let mut i = at;
+    while i < s.len() {
+        let b = s[i];
+        if is_plain(b) {
+            i += 1;
+        } else {
+            if b == QUOTE {
+                return Next::At(i + 1);
+            }
+            let Next::At(j) = skip_char(s, i) else {
+                return Next::Bad;
+            };
+            i = j;
+        }
+    }
+    Next::Bad
+}

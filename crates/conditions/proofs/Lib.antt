@@ -1,0 +1,4 @@
+pub mod Naming
+pub mod Making
+pub mod Placing
+pub mod Numbered

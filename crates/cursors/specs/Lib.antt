@@ -1,0 +1,3 @@
+-- What a cursor promises, in the rules' terms.
+pub mod Flat
+pub mod Ahead

@@ -1,0 +1,2 @@
+-- What the scanners of escapes promise, in the rules' terms.
+pub mod Codes

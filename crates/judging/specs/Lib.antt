@@ -1,0 +1,2 @@
+-- What a query says of one manifest, in the rules' terms.
+pub mod Verdicts

@@ -1,0 +1,2 @@
+-- What the functions over names promise, in the rules' terms.
+pub mod Spelled

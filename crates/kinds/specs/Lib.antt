@@ -1,0 +1,2 @@
+-- The names of each kind of object, in the rules' terms.
+pub mod Kinds

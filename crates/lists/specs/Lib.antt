@@ -1,0 +1,2 @@
+-- What the functions over arrays of strings promise, in the rules' terms.
+pub mod Strung

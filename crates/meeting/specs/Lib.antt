@@ -1,0 +1,2 @@
+-- What a condition says of values, in the rules' terms.
+pub mod Between

@@ -1,0 +1,6 @@
+pub mod Extended
+pub mod Valued
+pub mod Placed
+pub mod Partitions
+pub mod Arrays
+pub mod Stated

@@ -1,0 +1,3 @@
+-- What the functions over fields that hold others promise, in the rules' terms.
+pub mod Valued
+pub mod Nested

@@ -1,0 +1,177 @@
+// Fields of an action that hold others: the partition values of an add, and arrays of strings.
+use fields::Met;
+use fields::Slot;
+use json::Tail;
+use keys::QUOTE;
+use lists::Strings;
+use text::Next;
+ghost use mathlib.Core.Path.{_≡_};
+ghost use mathlib.Core.Option.{some};
+ghost use mathlib.Core.List.{[]};
+ghost use Prim.Native.Nat.{_≤_, _-_};
+ghost use lib.ListN.{length, take, drop};
+ghost use Rattle.rules.specs.Actions.{inAction, inField, pairs};
+ghost use Rattle.rules.specs.Json.Values.{value as rValue};
+ghost use Rattle.rules.specs.Json.Fields.{stringOrNull, stringsOf};
+ghost use Rattle.nested.specs.Valued.{Proper};
+ghost use Rattle.slots.specs.Texts.{Told};
+ghost use Rattle.nested.specs.Nested.{Opened, valuesIn, ValuesIs, ArrayIs, featuresIn, FeaturesIs, columnsIn, ColumnsIs};
+
+const OPEN_BRACE: u8 = 0x7B;
+
+const CLOSE_BRACE: u8 = 0x7D;
+
+const OPEN_BRACKET: u8 = 0x5B;
+
+// So deep may what stands inside of a field nest.
+const IN_FIELD: usize = 29;
+
+// A table has so many partition columns at most.
+const MOST_COLUMNS: usize = 16;
+
+// ---- partition values
+
+// Whether the value that stands from v to e is a string or null.
+fn string_or_null(s: &[u8], v: usize, e: usize) -> bool
+    requires { ⌜ (v ≤ e) × (e ≤ length (now s)) × (rValue inField (take (e - v) (drop v (now s))) ≡ some []) ⌝ }
+    ensures { λ r. ⌜ Told (stringOrNull (take (e - v) (drop v (now (s .entry))))) r ⌝ }
+{
+    match text::skip_byte(s, v, QUOTE) {
+        Next::At(_) => true,
+        Next::Bad => values::is_null(&s[v..e]),
+    }
+}
+
+// Whether each value of the object behind whose brace `at` is is a string or null.
+fn strings_or_nulls(s: &[u8], at: usize) -> bool
+    requires { ⌜ (at ≤ length (now s)) × Opened (now s) at ⌝ }
+    ensures { λ r. ⌜ ((w : Opened (now (s .entry)) at) → Told (pairs (w .ms)) r) ⌝ }
+{
+    match json::opening(s, at, CLOSE_BRACE) {
+        Tail::Neither => true,
+        Tail::Closed(_) => true,
+        Tail::More(first) => {
+            let mut i = first;
+            loop {
+                let Met::Member(_, v, e) = fields::read_member(s, i, IN_FIELD) else {
+                    return true;
+                };
+                if string_or_null(s, v, e) {
+                    match json::closing(s, e, CLOSE_BRACE) {
+                        Tail::Neither => return true,
+                        Tail::Closed(_) => return true,
+                        Tail::More(k) => i = k,
+                    }
+                } else {
+                    return false;
+                }
+            }
+        }
+    }
+}
+
+// Partition values, by the position behind their brace; or none.
+pub enum Values {
+    Behind(usize),
+    NoValues,
+}
+
+// The partition values of a field that stands once.
+pub fn values_in(s: &[u8], slot: Slot) -> Values
+    requires { ⌜ Proper (now s) slot ⌝ }
+    ensures { λ r. ⌜ ValuesIs (valuesIn (now (s .entry)) slot) (now (s .entry)) r ⌝ }
+{
+    let start = slot.start;
+    if slot.seen != 1 {
+        return Values::NoValues;
+    }
+    let Next::At(at) = text::skip_byte(s, start, OPEN_BRACE) else {
+        return Values::NoValues;
+    };
+    if strings_or_nulls(s, at) {
+        if fields::distinct_names(s, at, IN_FIELD) {
+            return Values::Behind(at);
+        }
+        return Values::NoValues;
+    }
+    Values::NoValues
+}
+
+// ---- arrays of strings
+
+// An array of strings, by the position behind its bracket, and how many; or none.
+pub enum Array {
+    Of(usize, usize),
+    NoArray,
+}
+
+// The array of strings that stands from v to e.
+fn array_at(s: &[u8], v: usize, e: usize) -> Array
+    requires { ⌜ (v ≤ e) × (e ≤ length (now s)) × (rValue inAction (take (e - v) (drop v (now s))) ≡ some []) ⌝ }
+    ensures { λ r. ⌜ ArrayIs (stringsOf inField (take (e - v) (drop v (now (s .entry))))) (now (s .entry)) r ⌝ }
+{
+    let Next::At(at) = text::skip_byte(s, v, OPEN_BRACKET) else {
+        return Array::NoArray;
+    };
+    let Strings::Good(n, _) = lists::strings_in(s, at) else {
+        return Array::NoArray;
+    };
+    Array::Of(at, n)
+}
+
+// Features, by where their strings begin (0 where none are stated) and whether all are known; or none.
+pub enum Features {
+    Listed(usize, bool),
+    NoFeatures,
+}
+
+// The features of a field that may be missing or null, which are alike; known to writers, or to readers.
+pub fn features_in(s: &[u8], slot: Slot, writer: bool) -> Features
+    requires { ⌜ Proper (now s) slot ⌝ }
+    ensures { λ r. ⌜ FeaturesIs (featuresIn (now (s .entry)) slot) (now (s .entry)) writer r ⌝ }
+{
+    let start = slot.start;
+    let end = slot.end;
+    if slot.seen == 0 {
+        return Features::Listed(0, true);
+    }
+    if slot.seen != 1 {
+        return Features::NoFeatures;
+    }
+    if values::is_null(&s[start..end]) {
+        return Features::Listed(0, true);
+    }
+    let Array::Of(at, _) = array_at(s, start, end) else {
+        return Features::NoFeatures;
+    };
+    let known = lists::all_known(s, at, writer);
+    Features::Listed(at, known)
+}
+
+// Partition columns, by the position behind their bracket; or none.
+pub enum Columns {
+    Within(usize),
+    NoColumns,
+}
+
+// The partition columns of a field that stands once.
+pub fn columns_in(s: &[u8], slot: Slot) -> Columns
+    requires { ⌜ Proper (now s) slot ⌝ }
+    ensures { λ r. ⌜ ColumnsIs (columnsIn (now (s .entry)) slot) (now (s .entry)) r ⌝ }
+{
+    let start = slot.start;
+    let end = slot.end;
+    if slot.seen != 1 {
+        return Columns::NoColumns;
+    }
+    let Array::Of(at, n) = array_at(s, start, end) else {
+        return Columns::NoColumns;
+    };
+    if MOST_COLUMNS < n {
+        return Columns::NoColumns;
+    }
+    if lists::distinct_strings(s, at) {
+        return Columns::Within(at);
+    }
+    Columns::NoColumns
+}

@@ -1,0 +1,1 @@
+-- The laws that the proofs here cite are those of crate `text`.

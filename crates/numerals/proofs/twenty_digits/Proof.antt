@@ -1,0 +1,77 @@
+-- `twenty_digits`: each answer by the first digit and what the others stand for.
+use mathlib.Core.Path.{sym, ap, _∙_}
+use Rattle.rules.specs.Query.{mostDigits}
+use Rattle.numerals.specs.Capping.{cappedIs}
+use Rattle.values.proofs.Decimals.{digit-between, digit-below, digit-above}
+use Rattle.values.proofs.Back.{value-digits, no-digits}
+use Rattle.numerals.proofs.Cuts.{rest-length, twenty-other, twenty-none, twenty-zero, twenty-large}
+use native.Mathlib.Omega.{arith}
+use borrow.Author.Needs.{needs}
+use Rattle.numerals.proofs.twenty_digits.Statement.{statement}
+use Rattle.numerals.proofs.twenty_digits.Tie as tie
+
+shared-slice-read-b : tie.Need-shared-slice-read-b
+unfolding mostDigits
+shared-slice-read-b c = omega arith
+
+returns : tie.Need-returns
+unfolding cappedIs mostDigits
+returns c = ap cappedIs (sym (twenty-other (c .before .before .before .args .v .now) (c .before .before .before .pre) (digit-below _ (c .if1 .taken))))
+
+returns-2 : tie.Need-returns-2
+unfolding cappedIs mostDigits
+returns-2 c = ap cappedIs (sym (twenty-other (c .before .before .before .before .args .v .now) (c .before .before .before .before .pre) (digit-above _ (c .if2 .taken))))
+
+sub-short-digits : tie.Need-sub-short-digits
+unfolding mostDigits
+sub-short-digits c = omega arith
+
+part-short-digits-start : tie.Need-part-short-digits-start
+unfolding mostDigits
+part-short-digits-start c = search needs
+
+part-short-digits-end : tie.Need-part-short-digits-end
+part-short-digits-end c = search needs
+
+short-digits-requires : tie.Need-short-digits-requires
+unfolding mostDigits
+short-digits-requires c κs = omega (arith, rest-length (c .before .before .before .before .before .args .v .now))
+
+enum-told : tie.Need-enum-told
+enum-told c = search needs
+
+enum-known-n : tie.Need-enum-known-n
+enum-known-n c = search needs
+
+returns-3 : tie.Need-returns-3
+unfolding cappedIs mostDigits
+returns-3 c = sym (twenty-large (c .before .before .before .before .before .before .before .before .before .before .args .v .now) (c .before .before .before .before .before .before .before .before .before .before .pre) (c .if3 .taken) (digit-between _ (c .before .before .before .before .before .before .before .if1 .left) (c .before .before .before .before .before .before .if2 .left)) (value-digits _ (sym (c .before .before .before .before .short-digits .ensures) ∙ c .before .before .n .given .1)))
+
+cap-requires : tie.Need-cap-requires
+cap-requires c κs = search needs
+
+returns-4 : tie.Need-returns-4
+unfolding cappedIs mostDigits
+returns-4 c = ap cappedIs (sym (twenty-none (c .before .before .before .before .before .before .before .before .args .v .now) (c .before .before .before .before .before .before .before .before .pre) (no-digits _ (sym (c .before .before .short-digits .ensures) ∙ c .enum-told .given .1))))
+
+returns-5 : tie.Need-returns-5
+unfolding mostDigits
+returns-5 c = c .cap .ensures ∙ ap cappedIs (sym (twenty-zero (c .before .before .before .before .before .before .before .before .before .before .before .args .v .now) (c .before .before .before .before .before .before .before .before .before .before .before .pre) (omega arith) ∙ value-digits _ (sym (c .before .before .before .before .before .short-digits .ensures) ∙ c .before .before .before .n .given .1)))
+
+pub twenty-digits-spec : {M : Type 1} → statement M
+twenty-digits-spec =
+    tie.close
+    (tie.spec
+    shared-slice-read-b
+    returns
+    returns-2
+    sub-short-digits
+    part-short-digits-start
+    part-short-digits-end
+    short-digits-requires
+    enum-told
+    enum-known-n
+    returns-3
+    cap-requires
+    returns-4
+    returns-5)

@@ -1,0 +1,3 @@
+-- The crate's answers in the rules' terms.
+pub mod Answers
+pub mod Capping

@@ -1,0 +1,5 @@
+pub mod Single
+pub mod Strings
+pub mod Paths
+pub mod Versioned
+pub mod Stated

@@ -1,0 +1,43 @@
+-- The string that the text of a value is, by the position behind its opening quote and the number of bytes that it stands for.
+use mathlib.Core.Path.{_≡_}
+use mathlib.Core.Bool.{Bool, true, false}
+use mathlib.Core.Option.{Option, none, some}
+use Prim.Native.Nat.{ℕ}
+use lib.Dec.{leb}
+use lib.ListN.{length, drop}
+use Rattle.rules.specs.Bytes.{Bytes, _>>=_, guard, among}
+use Rattle.rules.specs.Json.Text.{Text}
+use Rattle.strings.specs.Decoded.{decoded, WellSpelled}
+use Rattle.slots.specs.declared.Wording.{Wording}
+use Rattle.slots.specs.declared.Wording.the-variants.{Sized, NoString}
+use Rattle.slots.specs.declared.Path.{Path}
+use Rattle.slots.specs.declared.Path.the-variants.{Spelled, NoPath}
+
+pub record Read (o : Option Bytes) (s : Text) (p : ℕ) : Type 0 where
+  pub spelled : WellSpelled s p
+  pub says : o ≡ some (decoded (drop p s))
+
+abbrev pub StringIs : Option Bytes → Text → Wording → Type 0
+StringIs o s (Sized p n) = Read o s p × (n ≡ length (decoded (drop p s)))
+StringIs o s NoString = o ≡ none
+
+-- 1 to 512 decoded bytes, as the rules ask of a path
+abbrev pub pathOf : Option Bytes → Option Bytes
+pathOf o = o >>= (λ p. guard (among 1 512 (length p)) >>= (λ _. some p))
+
+-- an id is not empty
+abbrev pub idOf : Option Bytes → Option Bytes
+idOf o = o >>= (λ i. guard (leb 1 (length i)) >>= (λ _. some i))
+
+unfoldable pub isSome : {A : Type 0} → Option A → Bool
+isSome none = false
+isSome (some a) = true
+
+-- whether there is an answer
+abbrev pub Told : {A : Type 0} → Option A → Bool → Type 0
+Told {A} o true = (a : A) × (o ≡ some a)
+Told o false = o ≡ none
+
+abbrev pub PathIs : Option Bytes → Text → Path → Type 0
+PathIs o s (Spelled p) = Read o s p
+PathIs o s NoPath = o ≡ none

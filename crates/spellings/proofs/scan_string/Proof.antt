@@ -1,0 +1,109 @@
+-- `scan_string` meets its contract. As far as it went the string is spelled as it stands.
+use Prim.Native.Nat.{_+_, _-_, _≤_}
+use borrow.Author.Needs.{needs}
+use lib.ListN.{length}
+use mathlib.Core.Path.{sym, subst, _∙_}
+use native.Mathlib.Omega.{arith}
+use Rattle.text.specs.Answers.{Answer}
+use Rattle.spellings.proofs.Scanning.{Scanning, scanning-start, scanning-no-rest, scanning-ended, scanning-quote, scanning-backslash, scanning-bad, scanning-more, scanning-plain}
+use Rattle.spellings.proofs.scan_string.Statement.{statement}
+use Rattle.spellings.proofs.scan_string.Tie as tie
+
+abbrev Inv-loop : tie.InvT-loop
+Inv-loop s at i₀ i = Scanning s at i
+
+abbrev μ-loop : tie.MeasureT-loop
+μ-loop s at i₀ i = length s - i
+
+loop-holds : tie.Need-loop-holds Inv-loop μ-loop
+loop-holds c = scanning-start (c .before .pre)
+
+shared-slice-read-b : tie.Need-shared-slice-read-b Inv-loop μ-loop
+shared-slice-read-b c = omega arith
+
+is-plain-requires : tie.Need-is-plain-requires Inv-loop μ-loop
+is-plain-requires c κs = search needs
+
+add-i : tie.Need-add-i Inv-loop μ-loop
+add-i c = omega arith
+
+loop-less : tie.Need-loop-less Inv-loop μ-loop
+loop-less c = omega arith
+
+loop-again : tie.Need-loop-again Inv-loop μ-loop
+loop-again c = scanning-plain (c .before .before .before .before .loop .inv) (c .before .before .before .loop-test .taken) (sym (c .before .is-plain .ensures) ∙ (c .if1 .taken))
+
+add-t13 : tie.Need-add-t13 Inv-loop μ-loop
+add-t13 c = omega arith
+
+returns : tie.Need-returns Inv-loop μ-loop
+returns c = scanning-quote (c .before .before .before .before .before .loop .inv) (c .before .before .before .before .loop-test .taken) (c .if2 .taken)
+
+skip-string-requires : tie.Need-skip-string-requires Inv-loop μ-loop
+skip-string-requires c κs = (c .before .before .before .before .before .before .loop .inv .within)
+
+enum-known-j : tie.Need-enum-known-j Inv-loop μ-loop
+enum-known-j c = search needs
+
+enum-told : tie.Need-enum-told Inv-loop μ-loop
+enum-told c = search needs
+
+returns-2 : tie.Need-returns-2 Inv-loop μ-loop
+returns-2 c = scanning-no-rest (c .before .before .before .before .before .before .before .before .before .loop .inv) (subst (Answer _ _ _) (c .enum-told .given .1) (c .before .before .skip-string .ensures))
+
+returns-3 : tie.Need-returns-3 Inv-loop μ-loop
+returns-3 c = scanning-backslash (c .before .before .before .before .before .before .before .before .before .before .loop .inv) (c .before .before .before .before .before .before .before .before .before .loop-test .taken) (c .before .j .given .0 .0) (c .before .before .before .before .if3 .taken) (subst (Answer _ _ _) (c .before .j .given .1) (c .before .before .before .skip-string .ensures))
+
+skip-unescaped-requires : tie.Need-skip-unescaped-requires Inv-loop μ-loop
+skip-unescaped-requires c κs = (c .before .before .before .before .before .before .loop .inv .within)
+
+enum-known-k : tie.Need-enum-known-k Inv-loop μ-loop
+enum-known-k c = search needs
+
+enum-told-2 : tie.Need-enum-told-2 Inv-loop μ-loop
+enum-told-2 c = search needs
+
+returns-4 : tie.Need-returns-4 Inv-loop μ-loop
+returns-4 c = scanning-bad (c .before .before .before .before .before .before .before .before .before .loop .inv) (c .before .before .before .before .before .before .before .before .loop-test .taken) (c .before .before .before .before .if2 .left) (c .before .before .before .if3 .left) (subst (Answer _ _ _) (c .enum-told2 .given .1) (c .before .before .skip-unescaped .ensures))
+
+loop-less-2 : tie.Need-loop-less-2 Inv-loop μ-loop
+loop-less-2 c =
+    let e = subst (Answer _ _ _) (c .before .k .given .1) (c .before .before .before .skip-unescaped .ensures) in
+    let l : (c .before .before .before .before .before .before .before .before .before .before .loop .i) + 1 ≤ (c .before .k .given .0 .0) = e .1 in
+    let w : (c .before .k .given .0 .0) ≤ length (c .before .before .before .before .before .before .before .before .before .before .before .before .args .s .now) = e .2 in
+    omega arith
+
+loop-again-2 : tie.Need-loop-again-2 Inv-loop μ-loop
+loop-again-2 c =
+    let e = subst (Answer _ _ _) (c .before .k .given .1) (c .before .before .before .skip-unescaped .ensures) in
+    scanning-more (c .before .before .before .before .before .before .before .before .before .before .loop .inv) (c .before .before .before .before .before .before .before .before .before .loop-test .taken) (c .before .before .before .before .before .if2 .left) (c .before .before .before .before .if3 .left) _ (e .0) (e .1) (e .2)
+
+returns-5 : tie.Need-returns-5 Inv-loop μ-loop
+returns-5 c = scanning-ended (c .before .loop .inv) (c .loop-test .left)
+
+pub scan-string-spec : {M : Type 1} → statement M
+scan-string-spec =
+    tie.close
+    (tie.spec
+    Inv-loop
+    μ-loop
+    loop-holds
+    shared-slice-read-b
+    is-plain-requires
+    add-i
+    loop-less
+    loop-again
+    add-t13
+    returns
+    skip-string-requires
+    enum-known-j
+    enum-told
+    returns-2
+    returns-3
+    skip-unescaped-requires
+    enum-known-k
+    enum-told-2
+    returns-4
+    loop-less-2
+    loop-again-2
+    returns-5)

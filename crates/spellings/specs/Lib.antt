@@ -1,0 +1,2 @@
+-- What a scan of a string promises, in the rules' terms.
+pub mod Scanned

@@ -1,0 +1,46 @@
+// JSON strings as they are spelled: from behind an opening quote to behind the closing one, plain or with escapes.
+use characters::is_plain;
+use strings::BACKSLASH;
+use strings::QUOTE;
+use text::Next;
+ghost use mathlib.Core.Path.{_≡_};
+ghost use Prim.Native.Nat.{_≤_};
+ghost use lib.ListN.{length};
+ghost use Rattle.spellings.specs.Scanned.{Scanned};
+
+// What stands behind an opening quote: a string that is spelled as the bytes that it stands for, or one with escapes,
+// each with the position behind it; or no string.
+pub enum Spelling {
+    Plain(usize),
+    Escaped(usize),
+    Bad,
+}
+
+// The string behind the opening quote, in one pass.
+pub fn scan_string(s: &[u8], at: usize) -> Spelling
+    requires { ⌜ at ≤ length (now s) ⌝ }
+    ensures { λ r. ⌜ Scanned (now (s .entry)) at r ⌝ }
+{
+    let mut i = at;
+    while i < s.len() {
+        let b = s[i];
+        if is_plain(b) {
+            i += 1;
+        } else {
+            if b == QUOTE {
+                return Spelling::Plain(i + 1);
+            }
+            if b == BACKSLASH {
+                let Next::At(j) = characters::skip_string(s, i) else {
+                    return Spelling::Bad;
+                };
+                return Spelling::Escaped(j);
+            }
+            let Next::At(k) = characters::skip_unescaped(s, i) else {
+                return Spelling::Bad;
+            };
+            i = k;
+        }
+    }
+    Spelling::Bad
+}

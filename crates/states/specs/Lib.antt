@@ -1,0 +1,5 @@
+-- What the functions over state manifests promise, in the rules' terms.
+pub mod Objects
+pub mod Ranges
+pub mod Tables
+pub mod States

@@ -1,0 +1,13 @@
+-- The way of a comparison's fast path.
+use mathlib.Core.Path.{_≡_}
+use Prim.Native.Nat.{ℕ, _+_, _≤_}
+use lib.ListN.{length, drop}
+use Rattle.rules.specs.Bytes.{order}
+use Rattle.rules.specs.Json.Text.{Text}
+use Rattle.cursors.specs.Flat.{flat}
+
+-- two strings stand to each other as they do n bytes further on
+pub record Common (s : Text) (i : ℕ) (t : Text) (j n : ℕ) : Type 0 where
+  pub same : order (flat (drop i s)) (flat (drop j t)) ≡ order (flat (drop (i + n) s)) (flat (drop (j + n) t))
+  pub first : i + n ≤ length s
+  pub second : j + n ≤ length t

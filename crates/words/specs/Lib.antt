@@ -1,0 +1,2 @@
+-- What the words of a condition say, in the rules' terms.
+pub mod Words

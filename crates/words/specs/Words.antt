@@ -1,0 +1,46 @@
+-- The words of a condition as the code answers them.
+use mathlib.Core.Bool.{false}
+use mathlib.Core.Option.{Option, none, some}
+use Rattle.rules.specs.Bytes.{Bytes}
+use Rattle.rules.specs.Query.{Number as rNumber, number, outOfRange, notNumber, numberOf, As as rAs, asText, asNumber, Op as rOp, eq, lt, le, gt, ge}
+use Rattle.numerals.specs.Answers.{signedOf}
+use Rattle.numerals.specs.declared.Op.the-variants.{Eq, Lt, Le, Gt, Ge}
+use Rattle.numerals.specs.declared.Signed.{Signed}
+use Rattle.words.specs.declared.As.{As}
+use Rattle.words.specs.declared.As.the-variants.{Text, Number}
+use Rattle.words.specs.declared.Kind.{Kind}
+use Rattle.words.specs.declared.Kind.the-variants.{Of as OfKind, NoKind}
+use Rattle.words.specs.declared.Operator.{Operator}
+use Rattle.words.specs.declared.Operator.the-variants.{Of as OfOp, NoOperator}
+use Rattle.words.specs.declared.Fit.{Fit}
+use Rattle.words.specs.declared.Fit.the-variants.{Fits, Unfit}
+
+unfoldable pub asIs : As → rAs
+asIs Text = asText
+asIs Number = asNumber
+
+unfoldable pub kindIs : Option rAs → Kind
+kindIs none = NoKind
+kindIs (some asText) = OfKind Text
+kindIs (some asNumber) = OfKind Number
+
+unfoldable pub operatorIs : Option rOp → Operator
+operatorIs none = NoOperator
+operatorIs (some eq) = OfOp Eq
+operatorIs (some lt) = OfOp Lt
+operatorIs (some le) = OfOp Le
+operatorIs (some gt) = OfOp Gt
+operatorIs (some ge) = OfOp Ge
+
+abbrev pub zero : Signed
+zero = record { negative = false; size = 0 }
+
+unfoldable pub fitBy : rNumber → Fit
+fitBy (number z) = Fits (signedOf z)
+fitBy outOfRange = Unfit
+fitBy notNumber = Unfit
+
+-- a value under a kind: under "number" its number, if it is one
+unfoldable pub fitIs : rAs → Bytes → Fit
+fitIs asText v = Fits zero
+fitIs asNumber v = fitBy (numberOf v)
