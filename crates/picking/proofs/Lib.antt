@@ -2,3 +2,4 @@
 pub mod Values
 pub mod Each
 pub mod Adds
+pub mod Fronting
