@@ -4,7 +4,7 @@ use mathlib.Core.Bool.{Bool, true, false}
 use mathlib.Core.List.{List, [], _∷_, map}
 use Prim.Native.Nat.{ℕ, _+_, _≤_, _<_}
 use native.Mathlib.Omega.{arith}
-use lib.ListN.{length, take, set}
+use lib.ListN.{length, set}
 use Rattle.facts.specs.Lists.{All}
 use Rattle.facts.specs.Kept.{kept, Compacting}
 use Rattle.facts.proofs.Lists.{All-at, getD-behind}
@@ -14,7 +14,7 @@ use Rattle.rules.specs.Bytes.{keepIf}
 use Rattle.rules.specs.Json.Text.{Text}
 use Rattle.rules.specs.Query.{Condition}
 use Rattle.rules.specs.Picking.{meetsAll, picked}
-use Rattle.table.specs.Table.{wide, row, rows, rowAt, Room, behind, Changed}
+use Rattle.table.specs.Table.{wide, row, rows, rowAt, behind, Changed}
 use Rattle.table.specs.declared.Cells.{Cells}
 use Rattle.replay.specs.Views.{factsAt, rowOf, Stands}
 use Rattle.picking.specs.Picked.{Picks}

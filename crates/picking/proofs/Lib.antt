@@ -3,3 +3,4 @@ pub mod Values
 pub mod Each
 pub mod Adds
 pub mod Fronting
+pub mod Among

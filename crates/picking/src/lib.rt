@@ -1,6 +1,9 @@
 // Which live files a query picks: each by the partition values in the line of its add.
+mod columns;
+
 use actions::Action;
 use actions::Wording;
+pub use columns::all_columns;
 use members::Found;
 use query::Condition;
 use query::Query;

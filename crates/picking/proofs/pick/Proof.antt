@@ -1,5 +1,4 @@
 -- `pick` moves the rows of the picked files to the front: each turn passes one row, as `Fronting` says.
-use denote.Ref.{now}
 use mathlib.Core.Path.{_≡_, sym, _∙_}
 use Prim.Native.Nat.{_-_}
 use native.Mathlib.Omega.{arith}
