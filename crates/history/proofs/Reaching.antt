@@ -11,10 +11,10 @@ use borrow.Author.Tests.{ltb-true, ltb-false}
 use Rattle.rules.specs.Bytes.{Bytes}
 use Rattle.rules.specs.Bundle.{File, bundle}
 use Rattle.rules.specs.Live.{mostLive}
-use Rattle.rules.specs.Refusals.{Refusal, Answer, accepted, refused, _>>=_, orRefuse, noVersionZero, notKept}
+use Rattle.rules.specs.Refusals.{Refusal, Answer, refused, _>>=_}
 use Rattle.rules.specs.History.{readFile, readZero}
 use Rattle.rules.specs.History.{State as rState}
-use Rattle.rules.specs.Starts.{Log, logOf, Way, fromZero, fromCheckpoint, wayTo, nothingLive, follow}
+use Rattle.rules.specs.Starts.{Log, logOf, Way, fromZero, fromCheckpoint, wayTo, follow}
 use Rattle.rules.specs.Reading.{stateBy}
 use Rattle.rules.proofs.Tests.{apart, by, true-not-false}
 use Rattle.names.specs.declared.Version.{Version}
@@ -23,11 +23,11 @@ use Rattle.bundle.proofs.Opening.{bundle-long}
 use Rattle.live.specs.Live.{places}
 use Rattle.refusals.specs.Numbered.{numbered}
 use Rattle.refusals.specs.declared.Refusal.the-variants.{NoVersionZero, NotKept, Malformed as MalformedLine, TooManyLive}
-use Rattle.starts.specs.Ways.{Leads, StartIs}
+use Rattle.starts.specs.Ways.{StartIs}
 use Rattle.starts.specs.declared.Start.{Start}
 use Rattle.starts.specs.declared.Start.the-variants.{Zero, Checkpoint, NoStart}
 use Rattle.replay.specs.Views.{stateOf}
-use Rattle.replay.specs.Answers.{Left, Carried, OutcomeIs, ZeroIs, Renewed}
+use Rattle.replay.specs.Answers.{Left, OutcomeIs, ZeroIs, Renewed}
 use Rattle.replay.specs.declared.State.{State}
 use Rattle.replay.specs.declared.Outcome.{Outcome}
 use Rattle.replay.specs.declared.Outcome.the-variants.{Done, Malformed, TooMany}

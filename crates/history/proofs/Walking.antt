@@ -10,8 +10,8 @@ use Rattle.rules.specs.Bundle.{File}
 use Rattle.rules.specs.Refusals.{Refusal, Answer, accepted, refused, _>>=_}
 use Rattle.rules.specs.History.{readFile}
 use Rattle.rules.specs.History.{State as rState}
-use Rattle.rules.specs.Starts.{Log, logOf, Way, andThen, follow}
-use Rattle.bundle.specs.Files.{filesIn, fileIn}
+use Rattle.rules.specs.Starts.{Log, logOf, Way, follow}
+use Rattle.bundle.specs.Files.{filesIn}
 use Rattle.starts.specs.Ways.{Leads, here, next}
 use Rattle.replay.specs.Views.{stateOf, Carries}
 use Rattle.replay.specs.Answers.{Left, Carried, OutcomeIs}

@@ -1,5 +1,4 @@
 -- `onward`: each turn reads the version file behind `w`, as `Onward` says.
-use denote.Ref.{now}
 use mathlib.Core.Path.{subst, _∙_}
 use Prim.Native.Nat.{_-_}
 use Rattle.logs.specs.Logs.{PlaceIs}
