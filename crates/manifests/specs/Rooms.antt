@@ -1,6 +1,5 @@
 -- What is answered in the end, and the lent room then.
 use mathlib.Core.Path.{_≡_}
-use mathlib.Core.List.{List}
 use Prim.Native.Nat.{ℕ}
 use lib.ListN.{length}
 use Rattle.rules.specs.Bytes.{Bytes}
