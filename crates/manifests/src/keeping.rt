@@ -45,7 +45,7 @@ pub fn keep(state: &[u8], q: &[u8], kept: &mut [u32]) -> Kept
     let conditions = asked.conditions;
     let count = asked.count;
     let Walk::Counted(_, k, n) = noting::note_array(&state[v..e], q, conditions, count, kept) else {
-        return refuse(kept, Refusal::StateMalformed);
+        return refuse(kept, Refusal::StateMalformed); // goes before 15, however many there are
     };
     if MOST_MANIFESTS < k {
         return refuse(kept, Refusal::TooManyManifests);
