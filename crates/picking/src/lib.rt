@@ -30,10 +30,10 @@ fn meets_one(line: &[u8], at: usize, q: &[u8], c: Condition) -> bool
 {
     let column = c.column;
     let Found::At(v, e) = members::find_name(line, at, IN_FIELD, q, column) else {
-        return false;
+        return false; // a missing value meets none
     };
     let Wording::Sized(p, _) = slots::string_at(line, v, e) else {
-        return false;
+        return false; // null meets none
     };
     meeting::meets_at(q, c, line, p)
 }
