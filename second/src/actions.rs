@@ -60,7 +60,10 @@ pub fn read(line: &[u8]) -> Option<Action> {
         return None;
     }
     let value = json::read(line)?;
-    let [(key, value)] = value.as_object()? else { return None };
+    let (key, value) = match value.as_object()? {
+        [only] => only,
+        _ => return None,
+    };
     match &key.decoded[..] {
         b"protocol" => protocol(value.as_object()?).map(Action::Protocol),
         b"metaData" => meta_data(value.as_object()?).map(Action::MetaData),

@@ -33,12 +33,18 @@ pub fn clean(now: u64, retention: u64, bundle: &[u8], rooms: Rooms) -> Result<u6
 
 fn files_that_may_go(now: u64, retention: u64, bundle: &[u8]) -> Result<Vec<usize>, Refusal> {
     let log = Log::read(bundle)?;
-    let Some(checkpoint) = log.marked_checkpoint() else { return Ok(Vec::new()) };
+    let checkpoint = match log.marked_checkpoint() {
+        Some(checkpoint) => checkpoint,
+        None => return Ok(Vec::new()),
+    };
     let other_start = log
         .starts()
         .into_iter()
         .find(|&start| start != Start::Checkpoint(checkpoint) && log.reaches(start, checkpoint));
-    let Some(other_start) = other_start else { return Ok(Vec::new()) };
+    let other_start = match other_start {
+        Some(start) => start,
+        None => return Ok(Vec::new()),
+    };
 
     let (_, version_zero) = history::read_version_zero(&log)?;
     let state = history::read_checkpoint(&log, checkpoint)?;

@@ -52,7 +52,10 @@ impl<'a> Value<'a> {
 
     /// A whole number: digits alone, 0 to 2^63-1.
     pub fn as_whole_number(&self) -> Option<u64> {
-        let Value::Number(digits) = self else { return None };
+        let digits = match self {
+            Value::Number(digits) => digits,
+            _ => return None,
+        };
         if !digits.iter().all(u8::is_ascii_digit) {
             return None;
         }

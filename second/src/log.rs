@@ -61,7 +61,10 @@ impl<'a> Log<'a> {
 
     /// A checkpoint is a start when it has an object and every line is well formed.
     fn is_start(&self, checkpoint: u64) -> bool {
-        let Some(&entry) = self.checkpoints.get(&checkpoint) else { return false };
+        let entry = match self.checkpoints.get(&checkpoint) {
+            Some(&entry) => entry,
+            None => return false,
+        };
         let lines = lines::of(self.entries[entry].body);
         !lines.is_empty() && lines.iter().all(|line| actions::read(line.bytes).is_some())
     }

@@ -56,8 +56,9 @@ fn read_manifest(manifest: &Value) -> Option<Manifest> {
     if need(members, "path")?.as_text()?.decoded.is_empty() {
         return None;
     }
-    let Some(columns) = missing_or_null(members, "partitionBounds")? else {
-        return Some(Manifest::new());
+    let columns = match missing_or_null(members, "partitionBounds")? {
+        Some(columns) => columns,
+        None => return Some(Manifest::new()),
     };
     let columns = columns.as_object()?;
     if !keys_differ(columns) {

@@ -47,7 +47,7 @@ impl Condition {
     pub fn is_met_by(&self, value: &[u8]) -> bool {
         match &self.operand {
             Operand::Text(text) => self.op.is_met_by(value.cmp(&text[..])),
-            Operand::Number(number) => read_number(value).is_some_and(|value| self.op.is_met_by(value.cmp(number))),
+            Operand::Number(number) => read_number(value).map_or(false, |value| self.op.is_met_by(value.cmp(number))),
         }
     }
 

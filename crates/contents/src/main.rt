@@ -13,32 +13,20 @@ ghost use lib.ListN.{length};
 ghost use Rattle.bundle.specs.Files.{filesIn};
 ghost use Rattle.strings.specs.Decoded.{WellSpelled};
 
-fn print(word: &[u8]) {
-    io::write_all(libc::STDOUT_FILENO, word);
-}
-
-fn print_number(n: u64) {
-    io::print_decimal(libc::STDOUT_FILENO, n);
-}
-
-fn print_size(n: usize) {
-    print_number(n as u64);
-}
-
 // ---- bundles
 
 fn print_version(word: &[u8], v: Version) {
-    print(word);
-    print_number(v.0);
+    printing::word(word);
+    printing::number(v.0);
 }
 
 fn print_kind(name: Name) {
     match name {
         Name::VersionFile(v) => print_version(b"version ", v),
         Name::Checkpoint(v) => print_version(b"checkpoint ", v),
-        Name::Marker => print(b"marker"),
-        Name::Other => print(b"other"),
-        Name::TooLarge => print(b"too-large"),
+        Name::Marker => printing::word(b"marker"),
+        Name::Other => printing::word(b"other"),
+        Name::TooLarge => printing::word(b"too-large"),
     }
 }
 
@@ -47,20 +35,20 @@ fn print_file(s: &[u8], k: usize)
 {
     let e = bundle::entry_at(s, k);
     print_kind(bundle::kind(s, k));
-    print(b" ");
-    print_size(e.size);
-    print(b" ");
-    print_number(e.time.0);
-    print(b"\n");
+    printing::word(b" ");
+    printing::size(e.size);
+    printing::word(b" ");
+    printing::number(e.time.0);
+    printing::word(b"\n");
 }
 
 fn print_bundle(s: &[u8]) {
     match bundle::open(s) {
-        Opened::Malformed => print(b"bundle malformed\n"),
+        Opened::Malformed => printing::word(b"bundle malformed\n"),
         Opened::Entries(n) => {
-            print(b"bundle ");
-            print_size(n);
-            print(b"\n");
+            printing::word(b"bundle ");
+            printing::size(n);
+            printing::word(b"\n");
             let mut k = 0;
             while k < n {
                 print_file(s, k);
@@ -74,18 +62,18 @@ fn print_bundle(s: &[u8]) {
 
 fn print_records(r: Records) {
     match r {
-        Records::Number(n) => print_number(n),
-        Records::Missing => print(b"-"),
-        Records::Bad => print(b"?"),
+        Records::Number(n) => printing::number(n),
+        Records::Missing => printing::word(b"-"),
+        Records::Bad => printing::word(b"?"),
     }
 }
 
 fn print_added(a: Added) {
-    print(b"add ");
-    print_number(a.size);
-    print(b" ");
-    print_number(a.time);
-    print(b" ");
+    printing::word(b"add ");
+    printing::number(a.size);
+    printing::word(b" ");
+    printing::number(a.time);
+    printing::word(b" ");
     let records = a.records;
     print_records(records);
 }
@@ -93,25 +81,19 @@ fn print_added(a: Added) {
 fn print_remove(line: &[u8], path: usize)
     requires { ⌜ WellSpelled (now line) path ⌝ }
 {
-    print(b"remove ");
-    print_size(strings::decoded_size(line, path));
-}
-
-fn print_truth(b: bool) {
-    if b {
-        print(b" yes");
-    } else {
-        print(b" no");
-    }
+    printing::word(b"remove ");
+    printing::size(strings::decoded_size(line, path));
 }
 
 fn print_stated(p: Stated) {
-    print(b"protocol ");
-    print_number(p.reader);
-    print(b" ");
-    print_number(p.writer);
-    print_truth(p.reader_known);
-    print_truth(p.writer_known);
+    printing::word(b"protocol ");
+    printing::number(p.reader);
+    printing::word(b" ");
+    printing::number(p.writer);
+    printing::word(b" ");
+    printing::yes_or_no(p.reader_known);
+    printing::word(b" ");
+    printing::yes_or_no(p.writer_known);
 }
 
 fn print_action(line: &[u8]) {
@@ -119,33 +101,33 @@ fn print_action(line: &[u8]) {
         Action::Add(a) => print_added(a),
         Action::Remove(p) => print_remove(line, p),
         Action::Protocol(p) => print_stated(p),
-        Action::MetaData(_) => print(b"metaData"),
-        Action::Mergeskip => print(b"mergeskip"),
-        Action::Other => print(b"other"),
-        Action::Malformed => print(b"malformed"),
+        Action::MetaData(_) => printing::word(b"metaData"),
+        Action::Mergeskip => printing::word(b"mergeskip"),
+        Action::Other => printing::word(b"other"),
+        Action::Malformed => printing::word(b"malformed"),
     }
 }
 
 fn print_shown(line: &[u8]) {
-    print(b"path \"");
-    print(shown::path_of(line));
-    print(b"\" ");
+    printing::word(b"path \"");
+    printing::word(shown::path_of(line));
+    printing::word(b"\" ");
     match shown::records_of(line) {
         Shown::Number(n) => {
-            print(b"number ");
-            print_number(n);
+            printing::word(b"number ");
+            printing::number(n);
         }
-        Shown::Missing => print(b"missing"),
-        Shown::NoAdd => print(b"none"),
+        Shown::Missing => printing::word(b"missing"),
+        Shown::NoAdd => printing::word(b"none"),
     }
 }
 
 fn print_line(line: &[u8]) {
-    print(b"line ");
+    printing::word(b"line ");
     print_action(line);
-    print(b"\n");
+    printing::word(b"\n");
     print_shown(line);
-    print(b"\n");
+    printing::word(b"\n");
 }
 
 // ---- both

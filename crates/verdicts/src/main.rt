@@ -13,45 +13,33 @@ const DEPTH: usize = 32;
 
 const QUOTE: u8 = b'"';
 
-fn print(word: &[u8]) {
-    io::write_all(libc::STDOUT_FILENO, word);
-}
-
-fn print_number(n: u64) {
-    io::print_decimal(libc::STDOUT_FILENO, n);
-}
-
-fn print_size(n: usize) {
-    print_number(n as u64);
-}
-
 fn print_whole(t: &[u8]) {
     match values::whole_of(t) {
-        Whole::Number(n) => print_number(n),
-        Whole::NotWhole => print(b"-"),
+        Whole::Number(n) => printing::number(n),
+        Whole::NotWhole => printing::word(b"-"),
     }
 }
 
 fn print_signed(n: Signed) {
     if n.negative {
-        print(b"-");
+        printing::word(b"-");
     }
-    print_number(n.size);
+    printing::number(n.size);
 }
 
 fn print_numeral(t: &[u8]) {
     match numerals::numeral_of(t) {
         Numeral::Number(n) => print_signed(n),
-        Numeral::OutOfRange => print(b"out"),
-        Numeral::NotNumber => print(b"-"),
+        Numeral::OutOfRange => printing::word(b"out"),
+        Numeral::NotNumber => printing::word(b"-"),
     }
 }
 
 fn print_order(o: Order) {
     match o {
-        Order::Less => print(b" less"),
-        Order::Equal => print(b" equal"),
-        Order::More => print(b" more"),
+        Order::Less => printing::word(b" less"),
+        Order::Equal => printing::word(b" equal"),
+        Order::More => printing::word(b" more"),
     }
 }
 
@@ -59,8 +47,8 @@ fn print_order(o: Order) {
 fn print_spelled(t: &[u8])
     requires { ⌜ WellSpelled (now t) 1 ⌝ }
 {
-    print(b" ");
-    print_size(strings::decoded_size(t, 1));
+    printing::word(b" ");
+    printing::size(strings::decoded_size(t, 1));
     print_order(strings::order_strings(t, 1, b"m\"", 0));
 }
 
@@ -81,17 +69,17 @@ fn print_string(t: &[u8]) {
 fn print_verdict(t: &[u8]) {
     let is_json = json::is_json(t, DEPTH);
     if is_json {
-        print(b"json ");
+        printing::word(b"json ");
     } else {
-        print(b"no ");
+        printing::word(b"no ");
     }
     print_whole(t);
-    print(b" ");
+    printing::word(b" ");
     print_numeral(t);
     if is_json {
         print_string(t);
     }
-    print(b"\n");
+    printing::word(b"\n");
 }
 
 fn wide(b: u8) -> usize

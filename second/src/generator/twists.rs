@@ -245,7 +245,10 @@ fn highest_versions(dice: &mut Dice, log: &mut Log) {
 fn damaged_bytes(dice: &mut Dice, log: &mut Log) {
     for _ in 0..1 + dice.below(2) {
         let index = dice.below(log.files.len().max(1));
-        let Some(file) = log.files.get_mut(index) else { return };
+        let file = match log.files.get_mut(index) {
+            Some(file) => file,
+            None => return,
+        };
         if file.body.is_empty() {
             return;
         }

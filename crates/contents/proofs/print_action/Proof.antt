@@ -29,38 +29,38 @@ print-stated-requires c κs = search needs
 enum-told : tie.Need-enum-told
 enum-told c = search needs
 
-slice-aggregate-print : tie.Need-slice-aggregate-print
-slice-aggregate-print c = search needs
+slice-aggregate-word : tie.Need-slice-aggregate-word
+slice-aggregate-word c = search needs
 
-print-requires : tie.Need-print-requires
-print-requires c κs = search needs
+word-requires : tie.Need-word-requires
+word-requires c κs = search needs
 
 enum-told-2 : tie.Need-enum-told-2
 enum-told-2 c = search needs
 
-slice-aggregate-print-2 : tie.Need-slice-aggregate-print-2
-slice-aggregate-print-2 c = search needs
+slice-aggregate-word-2 : tie.Need-slice-aggregate-word-2
+slice-aggregate-word-2 c = search needs
 
-print-requires-2 : tie.Need-print-requires-2
-print-requires-2 c κs = search needs
+word-requires-2 : tie.Need-word-requires-2
+word-requires-2 c κs = search needs
 
 enum-told-3 : tie.Need-enum-told-3
 enum-told-3 c = search needs
 
-slice-aggregate-print-3 : tie.Need-slice-aggregate-print-3
-slice-aggregate-print-3 c = search needs
+slice-aggregate-word-3 : tie.Need-slice-aggregate-word-3
+slice-aggregate-word-3 c = search needs
 
-print-requires-3 : tie.Need-print-requires-3
-print-requires-3 c κs = search needs
+word-requires-3 : tie.Need-word-requires-3
+word-requires-3 c κs = search needs
 
 enum-told-4 : tie.Need-enum-told-4
 enum-told-4 c = search needs
 
-slice-aggregate-print-4 : tie.Need-slice-aggregate-print-4
-slice-aggregate-print-4 c = search needs
+slice-aggregate-word-4 : tie.Need-slice-aggregate-word-4
+slice-aggregate-word-4 c = search needs
 
-print-requires-4 : tie.Need-print-requires-4
-print-requires-4 c κs = search needs
+word-requires-4 : tie.Need-word-requires-4
+word-requires-4 c κs = search needs
 
 returns : tie.Need-returns
 returns c = search needs
@@ -95,17 +95,17 @@ print-action-spec =
     enum-known-p-2
     print-stated-requires
     enum-told
-    slice-aggregate-print
-    print-requires
+    slice-aggregate-word
+    word-requires
     enum-told-2
-    slice-aggregate-print-2
-    print-requires-2
+    slice-aggregate-word-2
+    word-requires-2
     enum-told-3
-    slice-aggregate-print-3
-    print-requires-3
+    slice-aggregate-word-3
+    word-requires-3
     enum-told-4
-    slice-aggregate-print-4
-    print-requires-4
+    slice-aggregate-word-4
+    word-requires-4
     returns
     returns-2
     returns-3

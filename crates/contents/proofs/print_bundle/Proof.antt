@@ -21,29 +21,29 @@ open-requires c κs = search needs
 enum-told : tie.Need-enum-told Inv-loop μ-loop
 enum-told c = search needs
 
-slice-aggregate-print : tie.Need-slice-aggregate-print Inv-loop μ-loop
-slice-aggregate-print c = search needs
+slice-aggregate-word : tie.Need-slice-aggregate-word Inv-loop μ-loop
+slice-aggregate-word c = search needs
 
-print-requires : tie.Need-print-requires Inv-loop μ-loop
-print-requires c κs = search needs
+word-requires : tie.Need-word-requires Inv-loop μ-loop
+word-requires c κs = search needs
 
 enum-known-n : tie.Need-enum-known-n Inv-loop μ-loop
 enum-known-n c = search needs
 
-slice-aggregate-print-2 : tie.Need-slice-aggregate-print-2 Inv-loop μ-loop
-slice-aggregate-print-2 c = search needs
+slice-aggregate-word-2 : tie.Need-slice-aggregate-word-2 Inv-loop μ-loop
+slice-aggregate-word-2 c = search needs
 
-print-requires-2 : tie.Need-print-requires-2 Inv-loop μ-loop
-print-requires-2 c κs = search needs
+word-requires-2 : tie.Need-word-requires-2 Inv-loop μ-loop
+word-requires-2 c κs = search needs
 
-print-size-requires : tie.Need-print-size-requires Inv-loop μ-loop
-print-size-requires c κs = search needs
+size-requires : tie.Need-size-requires Inv-loop μ-loop
+size-requires c κs = search needs
 
-slice-aggregate-print-3 : tie.Need-slice-aggregate-print-3 Inv-loop μ-loop
-slice-aggregate-print-3 c = search needs
+slice-aggregate-word-3 : tie.Need-slice-aggregate-word-3 Inv-loop μ-loop
+slice-aggregate-word-3 c = search needs
 
-print-requires-3 : tie.Need-print-requires-3 Inv-loop μ-loop
-print-requires-3 c κs = search needs
+word-requires-3 : tie.Need-word-requires-3 Inv-loop μ-loop
+word-requires-3 c κs = search needs
 
 loop-holds : tie.Need-loop-holds Inv-loop μ-loop
 unfolding filesIn filesOr
@@ -77,14 +77,14 @@ print-bundle-spec =
     μ-loop
     open-requires
     enum-told
-    slice-aggregate-print
-    print-requires
+    slice-aggregate-word
+    word-requires
     enum-known-n
-    slice-aggregate-print-2
-    print-requires-2
-    print-size-requires
-    slice-aggregate-print-3
-    print-requires-3
+    slice-aggregate-word-2
+    word-requires-2
+    size-requires
+    slice-aggregate-word-3
+    word-requires-3
     loop-holds
     print-file-requires
     add-k

@@ -4,17 +4,17 @@ use borrow.Author.Needs.{needs}
 use Rattle.verdicts.proofs.print_spelled.Statement.{statement}
 use Rattle.verdicts.proofs.print_spelled.Tie as tie
 
-slice-aggregate-print : tie.Need-slice-aggregate-print
-slice-aggregate-print c = search needs
+slice-aggregate-word : tie.Need-slice-aggregate-word
+slice-aggregate-word c = search needs
 
-print-requires : tie.Need-print-requires
-print-requires c κs = search needs
+word-requires : tie.Need-word-requires
+word-requires c κs = search needs
 
 decoded-size-requires : tie.Need-decoded-size-requires
 decoded-size-requires c κs = search needs
 
-print-size-requires : tie.Need-print-size-requires
-print-size-requires c κs = search needs
+size-requires : tie.Need-size-requires
+size-requires c κs = search needs
 
 slice-aggregate-order-strings : tie.Need-slice-aggregate-order-strings
 slice-aggregate-order-strings c = search needs
@@ -32,10 +32,10 @@ pub print-spelled-spec : {M : Type 1} → statement M
 print-spelled-spec =
     tie.close
     (tie.spec
-    slice-aggregate-print
-    print-requires
+    slice-aggregate-word
+    word-requires
     decoded-size-requires
-    print-size-requires
+    size-requires
     slice-aggregate-order-strings
     order-strings-requires
     print-order-requires

@@ -1,0 +1,2 @@
+-- What is printed of a refusal.
+pub mod Said
