@@ -1,0 +1,4 @@
+-- Laws of what C gets; the proofs of the functions cite them.
+pub mod Showing
+pub mod Keeping
+pub mod Standing

@@ -1,0 +1,4 @@
+-- What C gets, in the rules' terms.
+pub mod Codes
+pub mod Shows
+pub mod States

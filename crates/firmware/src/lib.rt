@@ -1,0 +1,15 @@
+// The entries for firmware that is not Rattle, over C's calling convention: a slice is a pointer and a length, an answer a struct by value.
+// include/kerumpase.h declares them.
+mod codes;
+mod shows;
+mod states;
+
+pub use codes::Refused;
+pub use shows::Place;
+pub use shows::RecordsShown;
+pub use shows::kerumpase_path_of;
+pub use shows::kerumpase_records_of;
+pub use states::DirectoryShown;
+pub use states::ManifestsKept;
+pub use states::kerumpase_directory;
+pub use states::kerumpase_keep;
