@@ -24,6 +24,8 @@ typedef struct {
 } shape;
 
 static const shape shapes[] = {
+    {'r', 2, {ANY, 4200}, 2, {5000, 1100000}},               /* version, room; query, bundle */
+    {'l', 1, {4200}, 2, {5000, 1100000}},                    /* room; query, bundle */
     {'m', 1, {1100}, 2, {5000, 1100000}},  /* room; query, state */
     {'d', 0, {0}, 2, {70000, 70000}},      /* path, directory */
     {'p', 0, {0}, 1, {70000}},             /* line */
@@ -125,6 +127,31 @@ static void print_bytes(const uint8_t *bytes, size_t length)
     printf("%zu %" PRIu64 "\n", length, sum(bytes, length));
 }
 
+static void print_listed(kerumpase_listed a, const uint64_t *rows, size_t n)
+{
+    printf("%" PRIu32 " %zu %zu %" PRIu64 " %zu %" PRIu64 " %" PRIu64 " %s %" PRIu64 "\n", a.refused.number,
+           a.refused.entry, a.refused.line, a.version, a.rows, a.reader, a.writer, a.writable ? "yes" : "no",
+           sum(rows, n * sizeof *rows));
+}
+
+static void read_at(const request *r)
+{
+    size_t n = (size_t)r->number[1];
+    uint64_t *rows = room(n, sizeof *rows);
+    print_listed(kerumpase_read_at(r->string[1].bytes, r->string[1].length, r->string[0].bytes,
+                                   r->string[0].length, r->number[0], rows, n), rows, n);
+    free(rows);
+}
+
+static void read_latest(const request *r)
+{
+    size_t n = (size_t)r->number[0];
+    uint64_t *rows = room(n, sizeof *rows);
+    print_listed(kerumpase_read_latest(r->string[1].bytes, r->string[1].length, r->string[0].bytes,
+                                       r->string[0].length, rows, n), rows, n);
+    free(rows);
+}
+
 static void keep(const request *r)
 {
     size_t n = (size_t)r->number[0];
@@ -160,6 +187,8 @@ static void records_of(const request *r)
 static void answer(const request *r)
 {
     switch (r->letter) {
+    case 'r': read_at(r); break;
+    case 'l': read_latest(r); break;
     case 'm': keep(r); break;
     case 'd': directory(r); break;
     case 'p': path_of(r); break;

@@ -46,8 +46,13 @@ enum {
 
 /* Rooms are so long at least; what is beyond is never touched. */
 enum {
+    KERUMPASE_ROWS_ROOM = 4096,          /* uint64_t, for rows */
     KERUMPASE_KEPT_ROOM = 256            /* uint32_t, for the numbers of manifests */
 };
+
+/* A row has so many numbers: the place in the bundle and the length of the line that adds the file,
+ * then the file's size and modificationTime as the line states them. */
+enum { KERUMPASE_ROW = 4 };
 
 /* number is 0 where the answer is accepted. Refusals 6 and 7 name a file of the bundle, from 0, and
  * a line of it, from 1 (0: something is missing at the file's end). All else is 0. */
@@ -56,6 +61,35 @@ typedef struct {
     size_t entry;
     size_t line;
 } kerumpase_refused;
+
+/* ---- bundles: a log as one byte string, contents first, then bodies ---- */
+
+/* The version listed, how many rows are in the room, the protocol in force and whether it may be
+ * written under; all 0 where refused. */
+typedef struct {
+    kerumpase_refused refused;
+    uint64_t version;
+    size_t rows;
+    uint64_t reader;
+    uint64_t writer;
+    bool writable;
+} kerumpase_listed;
+
+/*
+ * The files of the table at a version that a query (JSON, at most 4,096 bytes; `[]` picks all)
+ * picks: the first `rows` rows of the room, in the byte order of the decoded paths; the rest of the
+ * first 4,096 numbers are 0. kerumpase_path_of and kerumpase_records_of show more of a row's line.
+ * Refusals 1, 10, 2, 3, 4, 5, then 6 or 7, 8, 9, 11, the first that holds; after all but 1 the
+ * first 4,096 numbers are 0.
+ */
+kerumpase_listed kerumpase_read_at(const uint8_t *bundle, size_t bundle_length,
+                                   const uint8_t *query, size_t query_length, uint64_t version,
+                                   uint64_t *rows, size_t rows_length);
+
+/* The same at the latest version that the log reaches. */
+kerumpase_listed kerumpase_read_latest(const uint8_t *bundle, size_t bundle_length,
+                                       const uint8_t *query, size_t query_length,
+                                       uint64_t *rows, size_t rows_length);
 
 /* ---- state manifests ---- */
 
