@@ -156,8 +156,8 @@ static void keep(const request *r)
 {
     size_t n = (size_t)r->number[0];
     uint32_t *kept = room(n, sizeof *kept);
-    kerumpase_kept a = kerumpase_keep(r->string[1].bytes, r->string[1].length,
-                                      r->string[0].bytes, r->string[0].length, kept, n);
+    kerumpase_counted a = kerumpase_keep(r->string[1].bytes, r->string[1].length,
+                                         r->string[0].bytes, r->string[0].length, kept, n);
     printf("%" PRIu32 " %zu %" PRIu64 "\n", a.refused.number, a.count, sum(kept, n * sizeof *kept));
     free(kept);
 }

@@ -62,6 +62,12 @@ typedef struct {
     size_t line;
 } kerumpase_refused;
 
+/* How many numbers are in the room; 0 where refused. */
+typedef struct {
+    kerumpase_refused refused;
+    size_t count;
+} kerumpase_counted;
+
 /* ---- bundles: a log as one byte string, contents first, then bodies ---- */
 
 /* The version listed, how many rows are in the room, the protocol in force and whether it may be
@@ -93,20 +99,14 @@ kerumpase_listed kerumpase_read_latest(const uint8_t *bundle, size_t bundle_leng
 
 /* ---- state manifests ---- */
 
-/* count is 0 where refused. */
-typedef struct {
-    kerumpase_refused refused;
-    size_t count;
-} kerumpase_kept;
-
 /*
  * Which manifests of a state manifest (JSON) a query (JSON, at most 4,096 bytes) keeps. The first
  * `count` numbers of the room are theirs, from 0 and ascending, and the rest of the first 256 are 0.
  * Refusals 1, 10, 14, 15; after all but 1 the first 256 numbers are 0.
  */
-kerumpase_kept kerumpase_keep(const uint8_t *state, size_t state_length,
-                              const uint8_t *query, size_t query_length,
-                              uint32_t *kept, size_t kept_length);
+kerumpase_counted kerumpase_keep(const uint8_t *state, size_t state_length,
+                                 const uint8_t *query, size_t query_length,
+                                 uint32_t *kept, size_t kept_length);
 
 /* The first `length` bytes of the path, or (of_path is false) of the state's directory. */
 typedef struct {

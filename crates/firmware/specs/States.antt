@@ -1,20 +1,10 @@
--- What C gets of a state manifest.
+-- What C gets of a manifest's directory: so many bytes of the path or of the state's directory.
 use mathlib.Core.Path.{_≡_}
 use mathlib.Core.Bool.{Bool, true, false}
-use Prim.Native.Nat.{ℕ}
 use lib.ListN.{length, take}
 use Rattle.rules.specs.Bytes.{Bytes}
 use Rattle.rules.specs.Manifests.{standsAsIs, beforeLastSlash, directory}
-use Rattle.rules.specs.Refusals.{Answer, accepted, refused}
-use Rattle.firmware.specs.Codes.{refusedBy, notRefused}
-use Rattle.firmware.specs.declared.states.ManifestsKept.{ManifestsKept}
 use Rattle.firmware.specs.declared.states.DirectoryShown.{DirectoryShown}
-
-unfoldable pub keptBy : Answer ℕ → ManifestsKept
-keptBy (accepted n) = record { refused = notRefused; count = n }
-keptBy (refused r) = record { refused = refusedBy r; count = 0 }
-
--- ---- the directory, as so many bytes of the path or of the state's directory
 
 abbrev pub partBy : (stands : Bool) → (path stateDirectory : Bytes) → DirectoryShown
 partBy true p d = record { «of_path» = true; length = length (beforeLastSlash p) }

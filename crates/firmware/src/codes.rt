@@ -2,7 +2,7 @@
 use refusals::Refusal;
 ghost use mathlib.Core.Path.{_≡_};
 ghost use Rattle.refusals.specs.Numbered.{numbered};
-ghost use Rattle.firmware.specs.Codes.{refusedBy};
+ghost use Rattle.firmware.specs.Codes.{refusedBy, notRefused};
 
 // The paper's number, 0 where the answer is accepted; the entry and the line that 6 and 7 name, else 0.
 #[repr(C)]
@@ -12,9 +12,16 @@ pub struct Refused {
     pub line: usize,
 }
 
+// How many numbers are in the room; 0 where refused.
+#[repr(C)]
+pub struct Counted {
+    pub refused: Refused,
+    pub count: usize,
+}
+
 // Nothing is refused.
 pub fn accepted() -> Refused
-    ensures { λ r. ⌜ r ≡ record { number = 0; entry = 0; line = 0 } ⌝ }
+    ensures { λ r. ⌜ r ≡ notRefused ⌝ }
 {
     Refused {
         number: 0,

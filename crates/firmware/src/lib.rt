@@ -5,6 +5,7 @@ mod reads;
 mod shows;
 mod states;
 
+pub use codes::Counted;
 pub use codes::Refused;
 pub use reads::FilesListed;
 pub use reads::kerumpase_read_at;
@@ -14,6 +15,5 @@ pub use shows::RecordsShown;
 pub use shows::kerumpase_path_of;
 pub use shows::kerumpase_records_of;
 pub use states::DirectoryShown;
-pub use states::ManifestsKept;
 pub use states::kerumpase_directory;
 pub use states::kerumpase_keep;

@@ -1,5 +1,5 @@
 // The entries over a state manifest.
-use crate::codes::Refused;
+use crate::codes::Counted;
 use crate::codes::accepted;
 use crate::codes::refused_as;
 use manifests::Kept;
@@ -7,27 +7,21 @@ ghost use mathlib.Core.Path.{_≡_};
 ghost use lib.ListN.{length};
 ghost use Rattle.rules.specs.Keeping.{keeping, roomAfterKeeping};
 ghost use Rattle.manifests.specs.Rooms.{counted};
-ghost use Rattle.firmware.specs.States.{keptBy, directoryPart, DirectoryIs};
-
-// How many numbers of manifests are in the room; 0 where refused.
-#[repr(C)]
-pub struct ManifestsKept {
-    pub refused: Refused,
-    pub count: usize,
-}
+ghost use Rattle.firmware.specs.Codes.{countedBy};
+ghost use Rattle.firmware.specs.States.{DirectoryIs};
 
 // The numbers of the manifests of a state manifest that a query keeps, as `manifests::keep`.
 #[no_mangle]
-pub extern "C" fn kerumpase_keep(state: &[u8], q: &[u8], kept: &mut [u32]) -> ManifestsKept
-    ensures { λ r. ⌜ r ≡ keptBy (counted (keeping (length (now (kept .entry))) (now (state .entry)) (now (q .entry)))) ⌝ }
+pub extern "C" fn kerumpase_keep(state: &[u8], q: &[u8], kept: &mut [u32]) -> Counted
+    ensures { λ r. ⌜ r ≡ countedBy (counted (keeping (length (now (kept .entry))) (now (state .entry)) (now (q .entry)))) ⌝ }
     ensures { λ _. ⌜ now (kept .exit) ≡ roomAfterKeeping (keeping (length (now (kept .entry))) (now (state .entry)) (now (q .entry))) (now (kept .entry)) ⌝ }
 {
     match manifests::keep(state, q, kept) {
-        Kept::Numbers(n) => ManifestsKept {
+        Kept::Numbers(n) => Counted {
             refused: accepted(),
             count: n,
         },
-        Kept::Refused(x) => ManifestsKept {
+        Kept::Refused(x) => Counted {
             refused: refused_as(x),
             count: 0,
         },

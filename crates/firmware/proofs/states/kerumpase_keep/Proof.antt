@@ -1,5 +1,7 @@
 -- `kerumpase_keep` meets its contract.
-use Rattle.firmware.proofs.Keeping.{kept-numbers, kept-refused}
+use mathlib.Core.Path.{sym, ap, _∙_}
+use Rattle.manifests.specs.Rooms.{keptIs}
+use Rattle.firmware.proofs.Counting.{counted-accepted, counted-refused}
 use borrow.Author.Needs.{needs}
 use Rattle.firmware.proofs.states.kerumpase_keep.Statement.{statement}
 use Rattle.firmware.proofs.states.kerumpase_keep.Tie as tie
@@ -23,13 +25,15 @@ same-length : tie.Need-same-length
 same-length c = search needs
 
 returns : tie.Need-returns
-returns c = (kept-numbers (c .before .before .before .before .before .before .keep .result) (c .before .before .before .before .before .before .keep .ensures .answer) _ _ (c .before .before .n .given .1) (c .accepted .ensures), c .before .before .before .before .before .before .keep .ensures .holds)
+unfolding keptIs
+returns c = (counted-accepted (ap keptIs (sym (c .before .before .n .given .1)) ∙ c .before .before .before .before .before .before .keep .ensures .answer) (c .accepted .ensures), c .before .before .before .before .before .before .keep .ensures .holds)
 
 same-length-2 : tie.Need-same-length-2
 same-length-2 c = search needs
 
 returns-2 : tie.Need-returns-2
-returns-2 c = (kept-refused (c .before .before .before .before .before .before .keep .result) (c .before .before .before .before .before .before .keep .ensures .answer) _ _ (c .before .before .x .given .1) (c .refused-as .ensures), c .before .before .before .before .before .before .keep .ensures .holds)
+unfolding keptIs
+returns-2 c = (counted-refused (ap keptIs (sym (c .before .before .x .given .1)) ∙ c .before .before .before .before .before .before .keep .ensures .answer) (c .refused-as .ensures), c .before .before .before .before .before .before .keep .ensures .holds)
 
 pub kerumpase-keep-spec : {M : Type 1} → statement M
 kerumpase-keep-spec =
