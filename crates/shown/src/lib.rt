@@ -6,13 +6,13 @@ ghost use Rattle.rules.specs.Actions.{pathShown, recordsShown};
 ghost use Rattle.shown.specs.Shown.{shownIs, AddingIs};
 
 // From where to where an add writes its path, and its number of records; or that there is no add.
-enum Adding {
+pub enum Adding {
     Writes(usize, usize, Records),
     Nothing,
 }
 
 // What is shown of the line's action.
-fn judge(line: &[u8]) -> Adding
+pub fn judge(line: &[u8]) -> Adding
     ensures { λ r. ⌜ AddingIs (now (line .entry)) r ⌝ }
 {
     if !lines::is_line(line) {

@@ -1,0 +1,24 @@
+-- What is shown of a line in numbers.
+use mathlib.Core.Path.{_≡_, refl, sym, ap, _∙_}
+use Rattle.rules.specs.Json.Text.{Text}
+use Rattle.rules.specs.Actions.{Records, records, missing, noAdd, recordsShown}
+use Rattle.shown.specs.Shown.{shownIs}
+use Rattle.shown.specs.declared.Shown.{Shown}
+use Rattle.shown.specs.declared.Shown.the-variants.{Number, Missing, NoAdd}
+use Rattle.firmware.specs.Shows.{recordsBy}
+use Rattle.firmware.specs.declared.shows.RecordsShown.{RecordsShown}
+
+-- as the code answers it
+abbrev pub recordsFrom : Shown → RecordsShown
+recordsFrom NoAdd = record { stated = 0; number = 0 }
+recordsFrom Missing = record { stated = 1; number = 0 }
+recordsFrom (Number n) = record { stated = 2; number = n }
+
+pub records-by : (s : Text) {r x : Shown} → r ≡ shownIs (recordsShown s) → r ≡ x → recordsFrom x ≡ recordsBy (recordsShown s)
+unfolding shownIs recordsBy
+records-by s e f = ap recordsFrom (sym f ∙ e) ∙ each (recordsShown s)
+  where
+    each : (x : Records) → recordsFrom (shownIs x) ≡ recordsBy x
+    each (records n) = refl
+    each missing = refl
+    each noAdd = refl

@@ -1,0 +1,203 @@
+-- Each case has the paper's number for it.
+use mathlib.Core.Path.{_≡_, sym, ap, _∙_}
+use borrow.Author.Needs.{needs}
+use Rattle.refusals.specs.Numbered.{numbered}
+use Rattle.refusals.specs.declared.Refusal.{Refusal}
+use Rattle.firmware.specs.Codes.{refusedBy}
+use Rattle.firmware.proofs.codes.refused_as.Statement.{statement}
+use Rattle.firmware.proofs.codes.refused_as.Tie as tie
+
+by-case : {x y : Refusal} → x ≡ y → refusedBy (numbered y) ≡ refusedBy (numbered x)
+by-case e = ap (λ (z : Refusal). refusedBy (numbered z)) (sym e)
+
+enum-told : tie.Need-enum-told
+enum-told c = search needs
+
+plain-requires : tie.Need-plain-requires
+plain-requires c κs = search needs
+
+enum-told-2 : tie.Need-enum-told-2
+enum-told-2 c = search needs
+
+plain-requires-2 : tie.Need-plain-requires-2
+plain-requires-2 c κs = search needs
+
+enum-told-3 : tie.Need-enum-told-3
+enum-told-3 c = search needs
+
+plain-requires-3 : tie.Need-plain-requires-3
+plain-requires-3 c κs = search needs
+
+enum-told-4 : tie.Need-enum-told-4
+enum-told-4 c = search needs
+
+plain-requires-4 : tie.Need-plain-requires-4
+plain-requires-4 c κs = search needs
+
+enum-told-5 : tie.Need-enum-told-5
+enum-told-5 c = search needs
+
+plain-requires-5 : tie.Need-plain-requires-5
+plain-requires-5 c κs = search needs
+
+enum-known-x : tie.Need-enum-known-x
+enum-known-x c = search needs
+
+enum-known-x-2 : tie.Need-enum-known-x-2
+enum-known-x-2 c = search needs
+
+enum-told-6 : tie.Need-enum-told-6
+enum-told-6 c = search needs
+
+plain-requires-6 : tie.Need-plain-requires-6
+plain-requires-6 c κs = search needs
+
+enum-told-7 : tie.Need-enum-told-7
+enum-told-7 c = search needs
+
+plain-requires-7 : tie.Need-plain-requires-7
+plain-requires-7 c κs = search needs
+
+enum-told-8 : tie.Need-enum-told-8
+enum-told-8 c = search needs
+
+plain-requires-8 : tie.Need-plain-requires-8
+plain-requires-8 c κs = search needs
+
+enum-told-9 : tie.Need-enum-told-9
+enum-told-9 c = search needs
+
+plain-requires-9 : tie.Need-plain-requires-9
+plain-requires-9 c κs = search needs
+
+enum-told-10 : tie.Need-enum-told-10
+enum-told-10 c = search needs
+
+plain-requires-10 : tie.Need-plain-requires-10
+plain-requires-10 c κs = search needs
+
+enum-told-11 : tie.Need-enum-told-11
+enum-told-11 c = search needs
+
+plain-requires-11 : tie.Need-plain-requires-11
+plain-requires-11 c κs = search needs
+
+enum-told-12 : tie.Need-enum-told-12
+enum-told-12 c = search needs
+
+plain-requires-12 : tie.Need-plain-requires-12
+plain-requires-12 c κs = search needs
+
+enum-told-13 : tie.Need-enum-told-13
+enum-told-13 c = search needs
+
+plain-requires-13 : tie.Need-plain-requires-13
+plain-requires-13 c κs = search needs
+
+returns : tie.Need-returns
+unfolding numbered
+returns c = c .plain .ensures ∙ by-case (c .before .enum-told .given .1)
+
+returns-2 : tie.Need-returns-2
+unfolding numbered
+returns-2 c = c .plain2 .ensures ∙ by-case (c .before .enum-told2 .given .1)
+
+returns-3 : tie.Need-returns-3
+unfolding numbered
+returns-3 c = c .plain3 .ensures ∙ by-case (c .before .enum-told3 .given .1)
+
+returns-4 : tie.Need-returns-4
+unfolding numbered
+returns-4 c = c .plain4 .ensures ∙ by-case (c .before .enum-told4 .given .1)
+
+returns-5 : tie.Need-returns-5
+unfolding numbered
+returns-5 c = c .plain5 .ensures ∙ by-case (c .before .enum-told5 .given .1)
+
+returns-6 : tie.Need-returns-6
+unfolding numbered
+returns-6 c = by-case (c .before .x .given .1)
+
+returns-7 : tie.Need-returns-7
+unfolding numbered
+returns-7 c = by-case (c .before .x2 .given .1)
+
+returns-8 : tie.Need-returns-8
+unfolding numbered
+returns-8 c = c .plain6 .ensures ∙ by-case (c .before .enum-told6 .given .1)
+
+returns-9 : tie.Need-returns-9
+unfolding numbered
+returns-9 c = c .plain7 .ensures ∙ by-case (c .before .enum-told7 .given .1)
+
+returns-10 : tie.Need-returns-10
+unfolding numbered
+returns-10 c = c .plain8 .ensures ∙ by-case (c .before .enum-told8 .given .1)
+
+returns-11 : tie.Need-returns-11
+unfolding numbered
+returns-11 c = c .plain9 .ensures ∙ by-case (c .before .enum-told9 .given .1)
+
+returns-12 : tie.Need-returns-12
+unfolding numbered
+returns-12 c = c .plain10 .ensures ∙ by-case (c .before .enum-told10 .given .1)
+
+returns-13 : tie.Need-returns-13
+unfolding numbered
+returns-13 c = c .plain11 .ensures ∙ by-case (c .before .enum-told11 .given .1)
+
+returns-14 : tie.Need-returns-14
+unfolding numbered
+returns-14 c = c .plain12 .ensures ∙ by-case (c .before .enum-told12 .given .1)
+
+returns-15 : tie.Need-returns-15
+unfolding numbered
+returns-15 c = c .plain13 .ensures ∙ by-case (c .before .enum-told13 .given .1)
+
+pub refused-as-spec : {M : Type 1} → statement M
+refused-as-spec =
+    tie.close
+    (tie.spec
+    enum-told
+    plain-requires
+    enum-told-2
+    plain-requires-2
+    enum-told-3
+    plain-requires-3
+    enum-told-4
+    plain-requires-4
+    enum-told-5
+    plain-requires-5
+    enum-known-x
+    enum-known-x-2
+    enum-told-6
+    plain-requires-6
+    enum-told-7
+    plain-requires-7
+    enum-told-8
+    plain-requires-8
+    enum-told-9
+    plain-requires-9
+    enum-told-10
+    plain-requires-10
+    enum-told-11
+    plain-requires-11
+    enum-told-12
+    plain-requires-12
+    enum-told-13
+    plain-requires-13
+    returns
+    returns-2
+    returns-3
+    returns-4
+    returns-5
+    returns-6
+    returns-7
+    returns-8
+    returns-9
+    returns-10
+    returns-11
+    returns-12
+    returns-13
+    returns-14
+    returns-15)
