@@ -2,3 +2,5 @@
 pub mod Values
 pub mod Each
 pub mod Adds
+pub mod Fronting
+pub mod Among

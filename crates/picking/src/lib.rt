@@ -1,18 +1,24 @@
 // Which live files a query picks: each by the partition values in the line of its add.
+mod columns;
+
 use actions::Action;
 use actions::Wording;
+pub use columns::all_columns;
 use members::Found;
 use query::Condition;
 use query::Query;
 use table::Cells;
 ghost use mathlib.Core.Path.{_≡_};
+ghost use Rattle.facts.specs.Lists.{All};
 ghost use Rattle.rules.specs.Actions.{Facts, Pairs};
 ghost use Rattle.rules.specs.Picking.{valueAt, meetsValue, meetsAll};
 ghost use Rattle.actions.specs.Line.{Pairing};
 ghost use Rattle.query.specs.Conditions.{conditionOf, Sound};
 ghost use Rattle.query.specs.Reading.{conditionsOf, Sounds};
+ghost use Rattle.table.specs.Table.{Room, rows};
 ghost use Rattle.replay.specs.Views.{factsAt, Stands};
 ghost use Rattle.picking.specs.Pairs.{Paired};
+ghost use Rattle.picking.specs.Picked.{Picks};
 
 // How deep values may nest inside of a field of an action.
 const IN_FIELD: usize = 29;
@@ -66,4 +72,24 @@ pub fn picks(src: &[u8], c: Cells, q: &[u8], asked: Query) -> bool
         Action::Other => false,
         Action::Malformed => false,
     }
+}
+
+// Moves the rows of the picked files to the front, in order. Answers how many they are; what else stands in the n rows may be anything.
+pub fn pick(src: &[u8], t: &mut [u64], n: usize, q: &[u8], asked: Query) -> usize
+    requires { ⌜ Room n (now t) × All (Stands (now src)) (rows n (now t)) × Sounds (now q) (asked .count) (asked .conditions) ⌝ }
+    ensures { λ m. ⌜ Picks (now (src .entry)) (conditionsOf (now (q .entry)) (asked .count) (asked .conditions)) n (now (t .entry)) m (now (t .exit)) ⌝ }
+{
+    let mut k = 0;
+    let mut m = 0;
+    while k < n {
+        let c = table::row_at(t, k);
+        if picks(src, c, q, asked) {
+            table::set_row(t, m, c);
+            m += 1;
+            k += 1;
+        } else {
+            k += 1;
+        }
+    }
+    m
 }

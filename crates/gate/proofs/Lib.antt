@@ -1,0 +1,3 @@
+-- Laws of the gate.
+pub mod Judging
+pub mod Alone

@@ -1,0 +1,107 @@
+-- `onward`: each turn reads the version file behind `w`, as `Onward` says.
+use mathlib.Core.Path.{subst, _∙_}
+use Prim.Native.Nat.{_-_}
+use Rattle.logs.specs.Logs.{PlaceIs}
+use Rattle.replay.specs.Answers.{OutcomeIs}
+use Rattle.history.proofs.Walking.{Onward, onward-start, onward-done, onward-gap, onward-next, onward-malformed, onward-many}
+use borrow.Author.Needs.{needs}
+use native.Mathlib.Omega.{arith}
+use Rattle.history.proofs.onward.Statement.{statement}
+use Rattle.history.proofs.onward.Tie as tie
+
+abbrev Inv-loop : tie.InvT-loop
+Inv-loop src v t₀ limit w₀ state₀ t w state = Onward src limit w₀ (v .0) t₀ state₀ t w state
+
+abbrev μ-loop : tie.MeasureT-loop
+μ-loop src v t₀ limit w₀ state₀ t w state = v .0 - w
+
+loop-holds : tie.Need-loop-holds Inv-loop μ-loop
+loop-holds c = onward-start _ _ _ _ _ _ (c .before .before .pre .2) (c .before .before .pre .1)
+
+add-next : tie.Need-add-next Inv-loop μ-loop
+add-next c = omega (arith, c .if1 .taken)
+
+version-file-requires : tie.Need-version-file-requires Inv-loop μ-loop
+version-file-requires c κs = c .before .before .before .before .before .pre .0
+
+enum-known-k : tie.Need-enum-known-k Inv-loop μ-loop
+enum-known-k c = search needs
+
+enum-told : tie.Need-enum-told Inv-loop μ-loop
+enum-told c = search needs
+
+same-length : tie.Need-same-length Inv-loop μ-loop
+same-length c = c .before .before .before .before .before .loop .inv .carried .left .length
+
+returns : tie.Need-returns Inv-loop μ-loop
+returns c = onward-gap _ _ _ _ _ _ _ _ _ (c .before .before .before .before .before .loop .inv) (c .before .before .before .if1 .taken) (subst (PlaceIs _ _) (c .enum-told .given .1) (c .before .before .version-file .ensures))
+
+read-file-requires : tie.Need-read-file-requires Inv-loop μ-loop
+read-file-requires c κs =
+    let p = subst (PlaceIs _ _) (c .before .before .k .given .1) (c .before .before .before .before .version-file .ensures) in
+    (c .before .before .before .before .before .before .before .loop .inv .carried .carries, p .0)
+
+enum-known-after : tie.Need-enum-known-after Inv-loop μ-loop
+enum-known-after c = search needs
+
+loop-less : tie.Need-loop-less Inv-loop μ-loop
+loop-less c = omega (arith, c .before .before .before .before .before .before .before .before .before .before .before .if1 .taken)
+
+loop-again : tie.Need-loop-again Inv-loop μ-loop
+loop-again c =
+    let p = subst (PlaceIs _ _) (c .before .before .before .before .before .before .before .before .k .given .1) (c .before .before .before .before .before .before .before .before .before .before .version-file .ensures) in
+    onward-next _ _ _ _ _ _ _ _ _ (c .before .before .before .before .before .before .before .before .before .before .before .before .before .loop .inv) (c .before .before .before .before .before .before .before .before .before .before .before .if1 .taken) (p .1) _ _ (subst (OutcomeIs _ _ _ _ _) (c .before .after .given .1) (c .before .before .before .before .before .read-file .ensures))
+
+enum-known-e : tie.Need-enum-known-e Inv-loop μ-loop
+enum-known-e c = search needs
+
+same-length-2 : tie.Need-same-length-2 Inv-loop μ-loop
+same-length-2 c = c .before .before .before .before .before .read-file .kept .1 .1 .1 .0 ∙ c .before .before .before .before .before .before .before .before .before .before .before .before .before .loop .inv .carried .left .length
+
+returns-2 : tie.Need-returns-2 Inv-loop μ-loop
+returns-2 c =
+    let p = subst (PlaceIs _ _) (c .before .before .before .before .before .before .before .before .k .given .1) (c .before .before .before .before .before .before .before .before .before .before .version-file .ensures) in
+    onward-malformed _ _ _ _ _ _ _ _ _ (c .before .before .before .before .before .before .before .before .before .before .before .before .before .loop .inv) (c .before .before .before .before .before .before .before .before .before .before .before .if1 .taken) (p .1) _ (subst (OutcomeIs _ _ _ _ _) (c .before .e .given .1) (c .before .before .before .before .before .read-file .ensures))
+
+enum-known-e-2 : tie.Need-enum-known-e-2 Inv-loop μ-loop
+enum-known-e-2 c = search needs
+
+same-length-3 : tie.Need-same-length-3 Inv-loop μ-loop
+same-length-3 c = c .before .before .before .before .before .read-file .kept .1 .1 .1 .0 ∙ c .before .before .before .before .before .before .before .before .before .before .before .before .before .loop .inv .carried .left .length
+
+returns-3 : tie.Need-returns-3 Inv-loop μ-loop
+returns-3 c =
+    let p = subst (PlaceIs _ _) (c .before .before .before .before .before .before .before .before .k .given .1) (c .before .before .before .before .before .before .before .before .before .before .version-file .ensures) in
+    onward-many _ _ _ _ _ _ _ _ _ (c .before .before .before .before .before .before .before .before .before .before .before .before .before .loop .inv) (c .before .before .before .before .before .before .before .before .before .before .before .if1 .taken) (p .1) _ (subst (OutcomeIs _ _ _ _ _) (c .before .e2 .given .1) (c .before .before .before .before .before .read-file .ensures))
+
+same-length-4 : tie.Need-same-length-4 Inv-loop μ-loop
+same-length-4 c = c .before .before .loop .inv .carried .left .length
+
+returns-4 : tie.Need-returns-4 Inv-loop μ-loop
+returns-4 c = onward-done _ _ _ _ _ _ _ _ _ (c .before .before .loop .inv) (c .if1 .left)
+
+pub onward-spec : {M : Type 1} → statement M
+onward-spec =
+    tie.close
+    (tie.spec
+    Inv-loop
+    μ-loop
+    loop-holds
+    add-next
+    version-file-requires
+    enum-known-k
+    enum-told
+    same-length
+    returns
+    read-file-requires
+    enum-known-after
+    loop-less
+    loop-again
+    enum-known-e
+    same-length-2
+    returns-2
+    enum-known-e-2
+    same-length-3
+    returns-3
+    same-length-4
+    returns-4)

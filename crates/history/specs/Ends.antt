@@ -1,0 +1,44 @@
+-- What is read at the end of a way: the rules' state, carried by the places of lines beside a table, or a refusal.
+use mathlib.Core.Path.{_≡_}
+use mathlib.Core.Option.{some}
+use mathlib.Core.List.{List}
+use Prim.Native.Nat.{ℕ}
+use Rattle.rules.specs.Bytes.{Bytes}
+use Rattle.rules.specs.Bundle.{File}
+use Rattle.rules.specs.Live.{mostLive}
+use Rattle.rules.specs.Refusals.{Answer, accepted, refused, _>>=_}
+use Rattle.rules.specs.History.{readZero}
+use Rattle.rules.specs.History.{State as rState}
+use Rattle.rules.specs.Starts.{logOf, Way, follow}
+use Rattle.bundle.specs.Files.{filesIn}
+use Rattle.refusals.specs.Numbered.{numbered}
+use Rattle.starts.specs.Ways.{Leads, StartIs}
+use Rattle.starts.specs.declared.Start.{Start}
+use Rattle.replay.specs.Views.{stateOf}
+use Rattle.replay.specs.Answers.{Left, Carried, OutcomeIs}
+use Rattle.replay.specs.declared.State.{State}
+use Rattle.replay.specs.declared.Outcome.{Outcome}
+use Rattle.history.specs.declared.Reached.{Reached}
+use Rattle.history.specs.declared.Reached.the-variants.{At, Refused}
+
+-- this start reaches v: a way to v begins there
+abbrev pub Reaches : Bytes → (v : ℕ) → Start → Type 0
+Reaches src v start = (w : Way) × StartIs src v (some w) start
+
+-- of the version files behind s up to v: whatever way came to s with the state st, this is how it ends at v
+abbrev pub OnwardIs : Bytes → (limit s v : ℕ) → State → List ℕ → List ℕ → Outcome → Type 0
+OnwardIs src limit s v st t t′ r =
+    (z : rState) (w₀ w : Way) → Leads (logOf (filesIn src)) w₀ s v w → follow limit z w₀ ≡ accepted (stateOf src st t) → OutcomeIs src limit (follow limit z w) t t′ r
+
+-- of the way from a start to v, where version 0 gave z
+abbrev pub FollowIs : Bytes → (limit v : ℕ) → State → Start → List ℕ → List ℕ → Outcome → Type 0
+FollowIs src limit v z start t t′ r = (w : Way) → StartIs src v (some w) start → OutcomeIs src limit (follow limit (stateOf src z t) w) t t′ r
+
+-- of a version, where the rules give o: the state, or the paper's refusal
+abbrev pub ReachedIs : Bytes → Answer rState → List ℕ → List ℕ → Reached → Type 0
+ReachedIs src o t t′ (At st) = (o ≡ accepted (stateOf src st t′)) × Carried src mostLive t st t′
+ReachedIs src o t t′ (Refused x) = (o ≡ refused (numbered x)) × Left mostLive t t′
+
+-- of version file 0, which is f, and then the way from a start to v
+abbrev pub ReadIs : Bytes → File → (v : ℕ) → Start → List ℕ → List ℕ → Reached → Type 0
+ReadIs src f v start t t′ r = (w : Way) → StartIs src v (some w) start → ReachedIs src (readZero f >>= (λ z. follow mostLive z w)) t t′ r

@@ -1,0 +1,39 @@
+-- The promise of each entry fixes the answer and the room: what two of them allow is the same.
+use mathlib.Core.Path.{_≡_, sym, ap, _∙_}
+use Rattle.rules.specs.Bytes.{Bytes}
+use Rattle.rules.specs.Rooms.{Room}
+use Rattle.rules.specs.Reading.{Asked, theLatest, theVersion}
+use Rattle.rules.proofs.Tests.{apart}
+use Rattle.names.specs.declared.Version.{Version}
+use Rattle.refusals.specs.Numbered.{numbered}
+use Rattle.refusals.proofs.Alone.{numbered-alone}
+use Rattle.reading.specs.Answers.{Shown, readIs, ReadIs}
+use Rattle.reading.specs.declared.Listing.{Listing}
+use Rattle.reading.specs.declared.Read.{Read}
+use Rattle.reading.specs.declared.Read.the-variants.{Listed, Refused}
+
+-- what is shown of a listing is all of it
+listingOf : Shown → Listing
+listingOf s = record { version = record { 0 = s .version }; rows = s .rows; reader = s .reader; writer = s .writer; writable = s .writable }
+
+readIs-alone : (r s : Read) → readIs r ≡ readIs s → r ≡ s
+unfolding readIs listingOf
+readIs-alone (Listed l) (Listed m) e =
+    let same : _≡_ {A = Shown} (record { version = l .version .0; rows = l .rows; reader = l .reader; writer = l .writer; writable = l .writable })
+    (record { version = m .version .0; rows = m .rows; reader = m .reader; writer = m .writer; writable = m .writable }) = cc in
+    ap (λ (x : Shown). Listed (listingOf x)) same
+readIs-alone (Listed l) (Refused y) e = apart (cc)
+readIs-alone (Refused x) (Listed m) e = apart (cc)
+readIs-alone (Refused x) (Refused y) e =
+    let same : numbered x ≡ numbered y = cc in
+    ap Refused (numbered-alone x y same)
+
+pub read-alone : (src q : Bytes) (asked : Asked) (room after later : Room) (r s : Read) → ReadIs src q asked room after r → ReadIs src q asked room later s → (r ≡ s) × (after ≡ later)
+read-alone src q asked room after later r s a b = (readIs-alone r s (a .answer ∙ sym (b .answer)), a .holds ∙ sym (b .holds))
+
+pub read-at-alone : (src q : Bytes) (v : Version) (room after later : Room) (r s : Read) → ReadIs src q (theVersion (v .0)) room after r → ReadIs src q (theVersion (v .0)) room later s
+    → (r ≡ s) × (after ≡ later)
+read-at-alone src q v = read-alone src q (theVersion (v .0))
+
+pub read-latest-alone : (src q : Bytes) (room after later : Room) (r s : Read) → ReadIs src q theLatest room after r → ReadIs src q theLatest room later s → (r ≡ s) × (after ≡ later)
+read-latest-alone src q = read-alone src q theLatest

@@ -1,0 +1,113 @@
+-- The rows of the picked files as the room holds them at the end: the paper's four numbers of each, then zeros.
+use mathlib.Core.Path.{_≡_, refl, sym, ap, _∙_}
+use mathlib.Core.Bool.{Bool, true, false}
+use mathlib.Core.List.{List, [], _∷_, _++_, map}
+use Prim.Native.Nat.{ℕ, _*_, _≤_}
+use native.Mathlib.Omega.{arith}
+use lib.ListN.{length, drop, length-map}
+use Rattle.facts.specs.Lists.{All}
+use Rattle.facts.specs.Kept.{kept}
+use Rattle.facts.specs.Moves.{zeroed}
+use Rattle.facts.specs.Rows.{flat}
+use Rattle.facts.proofs.Lists.{drop-later}
+use Rattle.facts.proofs.Rows.{length-rowsOf}
+use Rattle.rules.specs.Bytes.{allAmong}
+use Rattle.rules.specs.Json.Text.{Text}
+use Rattle.rules.specs.Actions.{Facts}
+use Rattle.rules.specs.Live.{mostLive}
+use Rattle.rules.specs.Query.{Condition, columnOf}
+use Rattle.rules.specs.Picking.{meetsAll, picked}
+use Rattle.rules.specs.Rooms.{rowsRoom, filled, rowNumbers, rowsNumbers}
+use Rattle.rules.specs.Refusals.{Answer, accepted}
+use Rattle.rules.specs.Reading.{listing, roomAfterReading}
+use Rattle.rules.specs.Reading.{Listing as rListing}
+use Rattle.rules.proofs.Rooms.{zeroed-rows-filled, leaves-accepted}
+use Rattle.names.specs.declared.Version.{Version}
+use Rattle.table.specs.Table.{wide, cells, row, layout, rows, Changed}
+use Rattle.table.specs.declared.Cells.{Cells}
+use Rattle.live.specs.Live.{placeOf, bared}
+use Rattle.replay.specs.Views.{factsAt, rowOf, stateOf, Stands, Carries}
+use Rattle.replay.specs.declared.State.{State}
+use Rattle.replay.proofs.Standing.{stands-facts}
+use Rattle.gate.specs.Judged.{Passes}
+use Rattle.gate.specs.declared.Numbers.{Numbers}
+use Rattle.picking.specs.Picked.{Picks}
+use Rattle.picking.proofs.Fronting.{picked-map}
+use Rattle.reading.specs.Answers.{shown, readIs, AnswerIs}
+use Rattle.reading.specs.declared.Read.the-variants.{Listed}
+use Rattle.reading.proofs.Rooms.{numbers}
+use Rattle.reading.proofs.Rules.{listed, listing-listed}
+
+-- ---- the numbers of rows
+
+All-kept : {A : Type 0} (P : A → Type 0) (test : A → Bool) (xs : List A) → All P xs → All P (kept test xs)
+unfolding kept All
+All-kept P test [] h = tt
+All-kept {A} P test (x ∷ xs) h = go (test x) (h .0) (All-kept P test xs (h .1))
+  where
+    go : (b : Bool) → P x → All P (kept test xs) → All P (elim b [ true ↦ x ∷ kept test xs | false ↦ kept test xs ])
+    go true p q = (p, q)
+    go false p q = q
+
+module _ (src : Text) where
+  row-bared : (c : Cells) → Stands src c → cells (bared c) ≡ rowNumbers (rowOf src c)
+  unfolding cells rowNumbers rowOf
+  row-bared c s =
+      let size : c .size ≡ factsAt src c .size = sym (ap (λ (f : Facts). f .size) (stands-facts src c s) ∙ s .size) in
+      let time : c .time ≡ factsAt src c .modificationTime = sym (ap (λ (f : Facts). f .modificationTime) (stands-facts src c s) ∙ s .time) in
+      ap (λ (n : ℕ). placeOf c ∷ c .len ∷ n ∷ c .time ∷ []) size ∙ ap (λ (n : ℕ). placeOf c ∷ c .len ∷ factsAt src c .size ∷ n ∷ []) time
+
+  rows-bared : (rs : List Cells) → All (Stands src) rs → flat cells (map bared rs) ≡ rowsNumbers (map (rowOf src) rs)
+  unfolding flat rowsNumbers All
+  rows-bared [] h = refl
+  rows-bared (c ∷ rs) h =
+      ap (λ (xs : List ℕ). xs ++ flat cells (map bared rs)) (row-bared c (h .0)) ∙ ap (λ (xs : List ℕ). rowNumbers (rowOf src c) ++ xs) (rows-bared rs (h .1))
+
+-- ---- the answer
+
+module _ (src : Text) (cs : List Condition) (st : State) (t : List ℕ) (w : Carries src mostLive st t) where
+  -- the rows of the picked files
+  picks : List Cells
+  picks = kept (λ (c : Cells). meetsAll cs (factsAt src c)) (rows (st .live) t)
+
+  module _ (m : ℕ) (t₁ t₂ : List ℕ) (p : Picks src cs (st .live) t m t₁) (b : Changed m (map bared (rows m t₁)) m t₁ t₂) where
+    pub picks-few : m * 4 ≤ 4096
+    unfolding mostLive
+    picks-few = let a : m ≤ st .live = p .few in let l : st .live ≤ 1024 = w .few in omega arith
+
+    pub picks-long : 4096 ≤ length t₂
+    unfolding mostLive
+    picks-long = omega (arith, w .room, p .length, b .length)
+
+    count : length (picked cs (stateOf src st t .live)) ≡ m
+    unfolding stateOf picks
+    count =
+        ap length (picked-map src cs (rows (st .live) t)) ∙ length-map picks (rowOf src) ∙ ap length (sym (p .holds)) ∙ length-rowsOf wide row m t₁
+
+    beyond : drop 4096 t₂ ≡ drop 4096 t
+    unfolding mostLive
+    beyond =
+        drop-later (m * 4) 4096 t₂ t₁ picks-few (b .rest)
+        ∙ drop-later (st .live * 4) 4096 t₁ t (let l : st .live ≤ 1024 = w .few in omega arith) (p .rest)
+
+    room : zeroed (m * 4) 4096 t₂ ≡ filled 4096 (rowsNumbers (picked cs (stateOf src st t .live))) t
+    unfolding stateOf picks
+    room =
+        zeroed-rows-filled layout m 4096 (map bared picks) t₂ t picks-few picks-long (b .rows ∙ ap (map bared) (p .holds)) beyond
+        ∙ ap (λ (xs : List ℕ). filled 4096 xs t)
+        (rows-bared src picks (All-kept (Stands src) (λ (c : Cells). meetsAll cs (factsAt src c)) (rows (st .live) t) (w .stands))
+        ∙ ap rowsNumbers (sym (picked-map src cs (rows (st .live) t))))
+
+    pub answer-listed : (v : Version) (after : List ℕ) (n : Numbers) → Passes (stateOf src st t .inForce) n
+        → allAmong (stateOf src st t .table .partitionColumns) (map columnOf cs) ≡ true → after ≡ zeroed (m * 4) 4096 t₂
+        → AnswerIs (listing cs (v .0) (stateOf src st t)) t after (Listed (record { version = v; rows = m; reader = n .reader; writer = n .writer; writable = n .writable }))
+    unfolding readIs shown roomAfterReading rowsRoom numbers
+    answer-listed v after n g e f =
+        let k : listing cs (v .0) (stateOf src st t) ≡ accepted (listed cs (v .0) (stateOf src st t)) = listing-listed cs (v .0) (stateOf src st t) (g .accepts) e in
+        record {
+          answer = says ∙ sym (ap shown k);
+          holds = f ∙ room ∙ sym (ap (λ (a : Answer rListing). roomAfterReading a t) k ∙ leaves-accepted 4096 numbers t (listed cs (v .0) (stateOf src st t)));
+        }
+      where
+        says : readIs (Listed (record { version = v; rows = m; reader = n .reader; writer = n .writer; writable = n .writable })) ≡ shown (accepted (listed cs (v .0) (stateOf src st t)))
+        says = rw (count, g .reader, g .writer, g .writable) refl

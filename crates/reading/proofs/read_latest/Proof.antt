@@ -1,0 +1,18 @@
+-- `read_latest`: the latest version.
+use Rattle.reading.specs.Answers.{askedIs}
+use borrow.Author.Needs.{needs}
+use Rattle.reading.proofs.read_latest.Statement.{statement}
+use Rattle.reading.proofs.read_latest.Tie as tie
+
+read-asked-requires : tie.Need-read-asked-requires
+read-asked-requires c κs = search needs
+
+same-length : tie.Need-same-length
+same-length c = search needs
+
+returns : tie.Need-returns
+unfolding askedIs
+returns c = c .before .before .read-asked .ensures
+
+pub read-latest-spec : {M : Type 1} → statement M
+read-latest-spec = tie.close (tie.spec read-asked-requires same-length returns)

@@ -1,0 +1,17 @@
+-- `refuse`: zeros up to 4,096 are what a refusal leaves.
+use Rattle.reading.proofs.Rooms.{answer-refused}
+use borrow.Author.Needs.{needs}
+use Rattle.reading.proofs.refuse.Statement.{statement}
+use Rattle.reading.proofs.refuse.Tie as tie
+
+zero-requires : tie.Need-zero-requires
+zero-requires c κs = search needs
+
+same-length : tie.Need-same-length
+same-length c = search needs
+
+returns : tie.Need-returns
+returns c = answer-refused _ _ _ (c .before .before .before .before .before .pre .0) (c .before .before .before .before .before .pre .1) (c .before .before .zero .ensures)
+
+pub refuse-spec : {M : Type 1} → statement M
+refuse-spec = tie.close (tie.spec zero-requires same-length returns)

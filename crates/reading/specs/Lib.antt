@@ -1,0 +1,2 @@
+-- What the entries of reading promise, in the rules' terms.
+pub mod Answers

@@ -1,0 +1,170 @@
+// The two entries of reading: the files of a table at a version, or at the latest, that a query picks, as rows in a lent room.
+use bundle::Opened;
+use gate::Numbers;
+use gate::Verdict;
+use history::Reached;
+use names::Version;
+use query::Query;
+use refusals::Refusal;
+use replay::State;
+ghost use mathlib.Core.Path.{_≡_};
+ghost use mathlib.Core.Bool.{true};
+ghost use Prim.Native.Nat.{_≤_};
+ghost use lib.ListN.{length};
+ghost use Rattle.rules.specs.Bundle.{bundle as rBundle};
+ghost use Rattle.rules.specs.Live.{mostLive};
+ghost use Rattle.rules.specs.Starts.{logOf};
+ghost use Rattle.rules.specs.Refusals.{refused};
+ghost use Rattle.rules.specs.Reading.{theLatest, theVersion, listing, listingAt};
+ghost use Rattle.bundle.specs.Files.{isSome, filesIn};
+ghost use Rattle.refusals.specs.Numbered.{numbered};
+ghost use Rattle.query.specs.Reading.{conditionsOf, Sounds};
+ghost use Rattle.replay.specs.Views.{stateOf, Carries};
+ghost use Rattle.gate.specs.Judged.{Passes};
+ghost use Rattle.reading.specs.Answers.{askedIs, answering, AnswerIs, ReadIs};
+
+// A room for rows has so many numbers at least.
+const ROWS_ROOM: usize = 4096;
+
+// ---- what is answered
+
+// The version, how many rows are in the room, the numbers of the protocol, and whether the table is writable.
+pub struct Listing {
+    pub version: Version,
+    pub rows: usize,
+    pub reader: u64,
+    pub writer: u64,
+    pub writable: bool,
+}
+
+// The files that are picked; or a refusal.
+pub enum Read {
+    Listed(Listing),
+    Refused(Refusal),
+}
+
+// The version that is asked for.
+enum Asked {
+    Latest,
+    At(Version),
+}
+
+// ---- from the state at a version
+
+// A refusal that leaves zeros.
+fn refuse(t: &mut [u64], x: Refusal) -> Read
+    requires { ⌜ (4096 ≤ length (now t)) × (numbered x .number ≡ 1 → ⊥) ⌝ }
+    ensures { λ r. ⌜ AnswerIs (refused (numbered x)) (now (t .entry)) (now (t .exit)) r ⌝ }
+{
+    table::zero(t, 0, ROWS_ROOM);
+    Read::Refused(x)
+}
+
+// What the state st at version v answers, where the gate passed its protocol with the numbers n.
+fn list_picked(
+    src: &[u8],
+    q: &[u8],
+    asked: Query,
+    v: Version,
+    st: State,
+    n: Numbers,
+    t: &mut [u64],
+) -> Read
+    requires { ⌜ Carries (now src) mostLive st (now t) × Sounds (now q) (asked .count) (asked .conditions) × Passes (stateOf (now src) st (now t) .inForce) n ⌝ }
+    ensures { λ r. ⌜ AnswerIs (listing (conditionsOf (now (q .entry)) (asked .count) (asked .conditions)) (v .0) (stateOf (now (src .entry)) st (now (t .entry)))) (now (t .entry)) (now (t .exit)) r ⌝ }
+{
+    let columns = st.table;
+    let live = st.live;
+    if picking::all_columns(src, columns, q, asked) {
+        let picked = picking::pick(src, t, live, q, asked);
+        live::bare(t, picked);
+        let end = picked * table::ROW;
+        table::zero(t, end, ROWS_ROOM);
+        let listed = Listing {
+            version: v,
+            rows: picked,
+            reader: n.reader,
+            writer: n.writer,
+            writable: n.writable,
+        };
+        return Read::Listed(listed);
+    }
+    refuse(t, Refusal::NoSuchColumn)
+}
+
+// What the state st at version v answers.
+fn list_state(src: &[u8], q: &[u8], asked: Query, v: Version, st: State, t: &mut [u64]) -> Read
+    requires { ⌜ Carries (now src) mostLive st (now t) × Sounds (now q) (asked .count) (asked .conditions) ⌝ }
+    ensures { λ r. ⌜ AnswerIs (listing (conditionsOf (now (q .entry)) (asked .count) (asked .conditions)) (v .0) (stateOf (now (src .entry)) st (now (t .entry)))) (now (t .entry)) (now (t .exit)) r ⌝ }
+{
+    let protocol = st.protocol;
+    match gate::judge(src, protocol) {
+        Verdict::TooHigh => refuse(t, Refusal::ReaderTooHigh),
+        Verdict::Unknown => refuse(t, Refusal::UnknownFeature),
+        Verdict::Passed(n) => list_picked(src, q, asked, v, st, n, t),
+    }
+}
+
+// ---- from a bundle
+
+// What the well-formed bundle src answers at version v.
+fn list_at(src: &[u8], q: &[u8], asked: Query, v: Version, t: &mut [u64]) -> Read
+    requires { ⌜ (isSome (rBundle (now src)) ≡ true) × (4096 ≤ length (now t)) × Sounds (now q) (asked .count) (asked .conditions) ⌝ }
+    ensures { λ r. ⌜ AnswerIs (listingAt (conditionsOf (now (q .entry)) (asked .count) (asked .conditions)) (logOf (filesIn (now (src .entry)))) (v .0)) (now (t .entry)) (now (t .exit)) r ⌝ }
+{
+    match history::state_at(src, v, t) {
+        Reached::At(st) => list_state(src, q, asked, v, st, t),
+        Reached::Refused(x) => refuse(t, x),
+    }
+}
+
+// What the well-formed bundle src answers at the version that is asked for.
+fn list_asked(src: &[u8], q: &[u8], asked: Query, version: Asked, t: &mut [u64]) -> Read
+    requires { ⌜ (isSome (rBundle (now src)) ≡ true) × (4096 ≤ length (now t)) × Sounds (now q) (asked .count) (asked .conditions) ⌝ }
+    ensures { λ r. ⌜ AnswerIs (answering (conditionsOf (now (q .entry)) (asked .count) (asked .conditions)) (filesIn (now (src .entry))) (askedIs version)) (now (t .entry)) (now (t .exit)) r ⌝ }
+{
+    if bundle::any_too_large(src) {
+        return refuse(t, Refusal::VersionTooLarge);
+    }
+    match version {
+        Asked::Latest => {
+            let latest = starts::latest(src);
+            list_at(src, q, asked, latest, t)
+        }
+        Asked::At(v) => list_at(src, q, asked, v, t),
+    }
+}
+
+// ---- the entries
+
+// The refusals in the paper's order: the room, the query, the bundle, then what its files say.
+fn read_asked(src: &[u8], q: &[u8], version: Asked, rows: &mut [u64]) -> Read
+    ensures { λ r. ⌜ ReadIs (now (src .entry)) (now (q .entry)) (askedIs version) (now (rows .entry)) (now (rows .exit)) r ⌝ }
+{
+    if rows.len() < ROWS_ROOM {
+        return Read::Refused(Refusal::RoomTooShort);
+    }
+    let asked = query::read(q);
+    if !asked.good {
+        return refuse(rows, Refusal::QueryMalformed);
+    }
+    let Opened::Entries(_) = bundle::open(src) else {
+        return refuse(rows, Refusal::BundleMalformed);
+    };
+    list_asked(src, q, asked, version, rows)
+}
+
+// The files that the query q picks at version v of the bundle src, as rows in a room of at least 4,096 numbers; the rest of the
+// 4,096 are zero, and any beyond stay.
+pub fn read_at(src: &[u8], q: &[u8], v: Version, rows: &mut [u64]) -> Read
+    ensures { λ r. ⌜ ReadIs (now (src .entry)) (now (q .entry)) (theVersion (v .0)) (now (rows .entry)) (now (rows .exit)) r ⌝ }
+{
+    read_asked(src, q, Asked::At(v), rows)
+}
+
+// The same at the latest version of the bundle.
+pub fn read_latest(src: &[u8], q: &[u8], rows: &mut [u64]) -> Read
+    ensures { λ r. ⌜ ReadIs (now (src .entry)) (now (q .entry)) theLatest (now (rows .entry)) (now (rows .exit)) r ⌝ }
+{
+    read_asked(src, q, Asked::Latest, rows)
+}
