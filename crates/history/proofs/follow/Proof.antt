@@ -23,7 +23,8 @@ nothing-live-requires c κs = search needs
 read-file-requires : tie.Need-read-file-requires
 read-file-requires c κs =
     let a = c .before .before .before .before .before .before .before .args in
-    (c .before .nothing-live .ensures .1 _ _ _ (c .before .before .before .before .before .before .before .pre .1), reaches-checkpoint (now (a .src)) (a .v .0) (a .start) (c .before .before .before .start .given .1) (c .before .before .before .before .before .before .before .pre .2) .0)
+    let renewed = c .before .nothing-live .ensures .1 (now (a .src)) (a .limit) (now (a .t)) (c .before .before .before .before .before .before .before .pre .1) in
+    (search (needs, renewed), reaches-checkpoint (now (a .src)) (a .v .0) (a .start) (c .before .before .before .start .given .1) (c .before .before .before .before .before .before .before .pre .2) .0)
 
 enum-known-st : tie.Need-enum-known-st
 enum-known-st c = search needs

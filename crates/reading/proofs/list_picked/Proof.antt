@@ -25,7 +25,7 @@ mul-end : tie.Need-mul-end
 mul-end c = search needs
 
 zero-requires : tie.Need-zero-requires
-zero-requires c κs = (picks-few _ _ _ _ (c .before .before .before .before .before .before .before .before .before .before .before .before .before .before .before .pre .0) _ _ _ (c .before .before .before .before .before .before .before .pick .ensures) (c .before .before .before .bare .ensures), picks-long _ _ _ _ (c .before .before .before .before .before .before .before .before .before .before .before .before .before .before .before .pre .0) _ _ _ (c .before .before .before .before .before .before .before .pick .ensures) (c .before .before .before .bare .ensures))
+zero-requires c κs = (omega (arith, picks-few _ _ _ _ (c .before .before .before .before .before .before .before .before .before .before .before .before .before .before .before .pre .0) _ _ _ (c .before .before .before .before .before .before .before .pick .ensures) (c .before .before .before .bare .ensures)), picks-long _ _ _ _ (c .before .before .before .before .before .before .before .before .before .before .before .before .before .before .before .pre .0) _ _ _ (c .before .before .before .before .before .before .before .pick .ensures) (c .before .before .before .bare .ensures))
 
 same-length : tie.Need-same-length
 same-length c = search needs
