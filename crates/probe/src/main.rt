@@ -1,9 +1,13 @@
 // Gives every public entry to tests outside: it reads requests from standard input and prints a line for each. A request is a letter, then numbers
 // (8 bytes each, little-endian), then byte strings (a number, their length, and the bytes). It stops where the input ends.
-mod answers;
+mod cleanings;
+mod readings;
 mod requests;
 mod rooms;
+mod showings;
+mod states;
 mod sums;
+mod words;
 
 // So many requests are answered at most.
 const MOST_REQUESTS: usize = 1000000;
@@ -11,10 +15,13 @@ const MOST_REQUESTS: usize = 1000000;
 // Answers the request that this letter begins; false if it is cut short, over a limit or of no letter that is known.
 fn answered(letter: u8) -> bool {
     match letter {
-        b'd' => answers::directory(),
-        b'm' => answers::manifests(),
-        b'n' => answers::records(),
-        b'p' => answers::path(),
+        b'c' => cleanings::files(),
+        b'd' => showings::directory(),
+        b'l' => readings::latest(),
+        b'm' => states::manifests(),
+        b'n' => showings::records(),
+        b'p' => showings::path(),
+        b'r' => readings::version(),
         _ => false,
     }
 }

@@ -45,7 +45,7 @@ const NO_PART: Part = Part {
 };
 
 // The next number, as a part of a room of so many.
-pub fn next_room(most: usize) -> Part
+fn next_part(most: usize) -> Part
     ensures { λ r. ⌜ r .size ≤ most ⌝ }
 {
     let n = next_number();
@@ -61,11 +61,25 @@ pub fn next_room(most: usize) -> Part
     }
 }
 
+// So much of a table is lent.
+pub fn next_of_table(room: &[u64]) -> Part
+    ensures { λ r. ⌜ Counts (r .size) (now (room .entry)) ⌝ }
+{
+    next_part(room.len())
+}
+
+// So much of a room for names is lent.
+pub fn next_of_names(room: &[u32]) -> Part
+    ensures { λ r. ⌜ Counts (r .size) (now (room .entry)) ⌝ }
+{
+    next_part(room.len())
+}
+
 // The next byte string, at the start of the room. The room's length is its limit.
 pub fn next_text(room: &mut [u8]) -> Part
     ensures { λ r. ⌜ Counts (r .size) (now (room .exit)) ⌝ }
 {
-    let p = next_room(room.len());
+    let p = next_part(room.len());
     let size = p.size;
     let got = io::read_full(libc::STDIN_FILENO, &mut room[..size]);
     if got == size {

@@ -3,37 +3,36 @@
 ghost use mathlib.Core.Path.{_≡_};
 ghost use lib.ListN.{length};
 
-pub const QUERY: usize = 5000;
-
-// A line, a path or a directory.
-pub const SHORT: usize = 70000;
-
-// A bundle or a state manifest.
-pub const LONG: usize = 1100000;
-
-// Numbers of entries, or of manifests kept.
-pub const NAMES: usize = 1100;
-
-pub fn query() -> [u8; QUERY]
+pub fn query() -> [u8; 5000]
     ensures { λ r. ⌜ 5000 ≡ length r ⌝ }
 {
-    [0; QUERY]
+    [0; 5000]
 }
 
-pub fn short() -> [u8; SHORT]
+// A line, a path or a directory.
+pub fn short() -> [u8; 70000]
     ensures { λ r. ⌜ 70000 ≡ length r ⌝ }
 {
-    [0; SHORT]
+    [0; 70000]
 }
 
-pub fn long() -> [u8; LONG]
+// A bundle or a state manifest.
+pub fn long() -> [u8; 1100000]
     ensures { λ r. ⌜ 1100000 ≡ length r ⌝ }
 {
-    [0; LONG]
+    [0; 1100000]
 }
 
-pub fn names() -> [u32; NAMES]
+// The rows of a reading.
+pub fn table() -> [u64; 4200]
+    ensures { λ r. ⌜ 4200 ≡ length r ⌝ }
+{
+    [0xA5A5A5A5A5A5A5A5; 4200]
+}
+
+// Numbers of entries, or of manifests kept.
+pub fn names() -> [u32; 1100]
     ensures { λ r. ⌜ 1100 ≡ length r ⌝ }
 {
-    [0xA5A5A5A5; NAMES]
+    [0xA5A5A5A5; 1100]
 }

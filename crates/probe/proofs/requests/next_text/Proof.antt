@@ -1,19 +1,18 @@
 -- The room keeps its length, and the part read lies within it.
-use mathlib.Core.Path.{sym}
 use native.Mathlib.Omega.{arith}
-use lib.Seq.{length-take-le}
+use Rattle.io.proofs.Counting.{counts}
 use borrow.Author.Needs.{needs}
 use Rattle.probe.proofs.requests.next_text.Statement.{statement}
 use Rattle.probe.proofs.requests.next_text.Tie as tie
 
-next-room-requires : tie.Need-next-room-requires
-next-room-requires c κs = search needs
+next-part-requires : tie.Need-next-part-requires
+next-part-requires c κs = search needs
 
 slice-relend-prefix-read-full : tie.Need-slice-relend-prefix-read-full
 slice-relend-prefix-read-full c = search needs
 
 slice-aggregate-read-full : tie.Need-slice-aggregate-read-full
-slice-aggregate-read-full c = sym (length-take-le (c .before .next-room .result .size) _ (omega arith))
+slice-aggregate-read-full c = counts (c .before .next-part .result .size) (c .before .before .before .args .room .now) (omega arith) .1
 
 read-full-requires : tie.Need-read-full-requires
 read-full-requires c κs = search needs
@@ -22,7 +21,7 @@ same-length : tie.Need-same-length
 same-length c = search needs
 
 returns : tie.Need-returns
-returns c = (omega (arith, same-length c), sym (length-take-le _ _ (omega (arith, same-length c))))
+returns c = counts _ _ (omega (arith, same-length c))
 
 same-length-2 : tie.Need-same-length-2
 same-length-2 c = search needs
@@ -34,7 +33,7 @@ pub next-text-spec : {M : Type 1} → statement M
 next-text-spec =
     tie.close
     (tie.spec
-    next-room-requires
+    next-part-requires
     slice-relend-prefix-read-full
     slice-aggregate-read-full
     read-full-requires
