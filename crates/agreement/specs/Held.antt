@@ -1,0 +1,22 @@
+-- What is held of a state and its table where it is compared with another.
+use Prim.Native.Nat.{ℕ}
+use mathlib.Core.List.{List}
+use Rattle.facts.specs.Lists.{All}
+use Rattle.rules.specs.Json.Text.{Text}
+use Rattle.table.specs.Table.{rows, Room}
+use Rattle.replay.specs.Views.{Inside, Stands, Carries}
+use Rattle.replay.specs.declared.State.{State}
+
+-- the first n rows of t are each of a line of src that is an add
+pub record HeldRows (src : Text) (n : ℕ) (t : List ℕ) : Type 0 where
+  pub room : Room n t
+  pub stands : All (Stands src) (rows n t)
+
+pub record Held (src : Text) (st : State) (t : List ℕ) : Type 0 where
+  pub room : Room (st .live) t
+  pub stands : All (Stands src) (rows (st .live) t)
+  pub protocol : Inside src (st .protocol)
+
+-- what is carried while a log is read is so held
+pub carries-held : {src : Text} {limit : ℕ} {st : State} {t : List ℕ} → Carries src limit st t → Held src st t
+carries-held c = record { room = c .table .room; stands = c .stands; protocol = c .protocol }
