@@ -26,6 +26,7 @@ typedef struct {
 static const shape shapes[] = {
     {'r', 2, {ANY, 4200}, 2, {5000, 1100000}},               /* version, room; query, bundle */
     {'l', 1, {4200}, 2, {5000, 1100000}},                    /* room; query, bundle */
+    {'c', 5, {ANY, ANY, 1100, 4200, 4200}, 1, {1100000}},    /* today, retention, rooms; bundle */
     {'m', 1, {1100}, 2, {5000, 1100000}},  /* room; query, state */
     {'d', 0, {0}, 2, {70000, 70000}},      /* path, directory */
     {'p', 0, {0}, 1, {70000}},             /* line */
@@ -152,6 +153,21 @@ static void read_latest(const request *r)
     free(rows);
 }
 
+static void clean(const request *r)
+{
+    size_t n = (size_t)r->number[2], n1 = (size_t)r->number[3], n2 = (size_t)r->number[4];
+    uint32_t *names = room(n, sizeof *names);
+    uint64_t *one = room(n1, sizeof *one), *two = room(n2, sizeof *two);
+    kerumpase_counted a = kerumpase_clean(r->string[0].bytes, r->string[0].length, r->number[0],
+                                          r->number[1], names, n, one, n1, two, n2);
+    printf("%" PRIu32 " %zu %zu %zu %" PRIu64 " %" PRIu64 " %" PRIu64 "\n", a.refused.number, a.refused.entry,
+           a.refused.line, a.count, sum(names, n * sizeof *names), sum(one, n1 * sizeof *one),
+           sum(two, n2 * sizeof *two));
+    free(names);
+    free(one);
+    free(two);
+}
+
 static void keep(const request *r)
 {
     size_t n = (size_t)r->number[0];
@@ -189,6 +205,7 @@ static void answer(const request *r)
     switch (r->letter) {
     case 'r': read_at(r); break;
     case 'l': read_latest(r); break;
+    case 'c': clean(r); break;
     case 'm': keep(r); break;
     case 'd': directory(r); break;
     case 'p': path_of(r); break;

@@ -47,6 +47,7 @@ enum {
 /* Rooms are so long at least; what is beyond is never touched. */
 enum {
     KERUMPASE_ROWS_ROOM = 4096,          /* uint64_t, for rows */
+    KERUMPASE_NAMES_ROOM = 1024,         /* uint32_t, for the numbers of files that may go */
     KERUMPASE_KEPT_ROOM = 256            /* uint32_t, for the numbers of manifests */
 };
 
@@ -96,6 +97,20 @@ kerumpase_listed kerumpase_read_at(const uint8_t *bundle, size_t bundle_length,
 kerumpase_listed kerumpase_read_latest(const uint8_t *bundle, size_t bundle_length,
                                        const uint8_t *query, size_t query_length,
                                        uint64_t *rows, size_t rows_length);
+
+/*
+ * Which version files may go: those above version 0 and below the marker's checkpoint that were
+ * modified more than `retention` before `today` (both in milliseconds), if another start reaches the
+ * checkpoint and says the same. The first `count` numbers of the room are their places in the
+ * bundle's contents, from 0 and ascending; the rest of the first 1,024 are 0. The two tables are lent
+ * for the work: their first 4,096 numbers are 0 at the end.
+ * Refusals 1, 2, 3, 4, then 6 or 7, 8, 9, 12, 13; after all but 1 the rooms hold zeros.
+ */
+kerumpase_counted kerumpase_clean(const uint8_t *bundle, size_t bundle_length,
+                                  uint64_t today, uint64_t retention,
+                                  uint32_t *names, size_t names_length,
+                                  uint64_t *table_one, size_t table_one_length,
+                                  uint64_t *table_two, size_t table_two_length);
 
 /* ---- state manifests ---- */
 

@@ -1,8 +1,8 @@
 -- The directory of a path over an empty state directory is what the path shows of itself; it is never empty, since the path begins with a letter.
 use mathlib.Core.Path.{_≡_, refl, sym, ap, subst, _∙_}
-use mathlib.Core.Bool.{Bool, true, false, _||_, _&&_}
+use mathlib.Core.Bool.{Bool, true, false, _&&_}
 use mathlib.Core.List.{[], _∷_}
-use Prim.Native.Nat.{ℕ, suc, _<_, _≤_}
+use Prim.Native.Nat.{ℕ, _<_, _≤_}
 use native.Mathlib.Omega.{arith}
 use borrow.Author.Tests.{eqb-true}
 use lib.Dec.{eqb}
@@ -12,7 +12,7 @@ use Rattle.rules.specs.Bytes.{Bytes, ascii, begins}
 use Rattle.rules.specs.Manifests.{slash, hasSlash, beforeLastSlash, standsAsIs, directory}
 use Rattle.rules.proofs.Tests.{apart, by, and-left, and-right}
 use Rattle.manifests.proofs.Slashes.{directory-slashless, directory-manifests}
-use Rattle.firmware.specs.States.{partBy, bytesOf, DirectoryIs}
+use Rattle.firmware.specs.States.{partBy, DirectoryIs}
 
 -- ---- what stands before the last slash
 

@@ -1,6 +1,6 @@
 -- What C gets of one line.
 use mathlib.Core.Path.{_≡_}
-use Prim.Native.Nat.{ℕ, _+_, _≤_}
+use Prim.Native.Nat.{_+_, _≤_}
 use lib.ListN.{length, take, drop}
 use Rattle.rules.specs.Json.Text.{Text}
 use Rattle.rules.specs.Actions.{Records, records, missing, noAdd, pathShown}

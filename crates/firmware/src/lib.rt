@@ -1,10 +1,12 @@
 // The entries for firmware that is not Rattle, over C's calling convention: a slice is a pointer and a length, an answer a struct by value.
 // include/kerumpase.h declares them.
+mod cleans;
 mod codes;
 mod reads;
 mod shows;
 mod states;
 
+pub use cleans::kerumpase_clean;
 pub use codes::Counted;
 pub use codes::Refused;
 pub use reads::FilesListed;
