@@ -1,12 +1,13 @@
 -- `weigh` meets its contract: by the verdict of the gate, and then by whether the states agree.
 use borrow.Author.Needs.{needs}
 use mathlib.Core.Path.{sym, _∙_}
+use Rattle.agreement.specs.Held.{carries-held}
 use Rattle.cleaning.proofs.Weighing.{weigh-high, weigh-unknown, weigh-unwritable, weigh-differs, weigh-agrees}
 use Rattle.cleaning.proofs.comparing.weigh.Statement.{statement}
 use Rattle.cleaning.proofs.comparing.weigh.Tie as tie
 
 agree-requires : tie.Need-agree-requires
-agree-requires c κs = search needs
+agree-requires c κs = (carries-held (c .before .before .before .before .pre .0), carries-held (c .before .before .before .before .pre .1))
 
 judge-requires : tie.Need-judge-requires
 judge-requires c κs = search needs
