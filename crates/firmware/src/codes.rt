@@ -30,44 +30,14 @@ pub fn accepted() -> Refused
     }
 }
 
-// A refusal that names neither entry nor line.
-fn plain(k: u32) -> Refused
-    ensures { λ r. ⌜ r ≡ record { number = k; entry = 0; line = 0 } ⌝ }
-{
-    Refused {
-        number: k,
-        entry: 0,
-        line: 0,
-    }
-}
-
 // The paper's number for a refusal, and what it names.
 pub fn refused_as(x: Refusal) -> Refused
     ensures { λ r. ⌜ r ≡ refusedBy (numbered x) ⌝ }
 {
-    match x {
-        Refusal::RoomTooShort => plain(1),
-        Refusal::BundleMalformed => plain(2),
-        Refusal::VersionTooLarge => plain(3),
-        Refusal::NoVersionZero => plain(4),
-        Refusal::NotKept => plain(5),
-        Refusal::Malformed(entry, line) => Refused {
-            number: 6,
-            entry,
-            line,
-        },
-        Refusal::TooManyLive(entry, line) => Refused {
-            number: 7,
-            entry,
-            line,
-        },
-        Refusal::ReaderTooHigh => plain(8),
-        Refusal::UnknownFeature => plain(9),
-        Refusal::QueryMalformed => plain(10),
-        Refusal::NoSuchColumn => plain(11),
-        Refusal::NotWritable => plain(12),
-        Refusal::CheckpointDisagrees => plain(13),
-        Refusal::StateMalformed => plain(14),
-        Refusal::TooManyManifests => plain(15),
+    let n = refusals::numbers_of(x);
+    Refused {
+        number: n.number,
+        entry: n.entry,
+        line: n.line,
     }
 }

@@ -26,9 +26,9 @@ fn table() -> [u64; 4096]
 }
 
 fn print_refusal(x: Refusal) {
-    let n = printing::numbers_of(x);
+    let n = refusals::numbers_of(x);
     printing::word(b"refused ");
-    printing::number(n.number);
+    printing::number(n.number as u64);
     printing::word(b" entry ");
     printing::size(n.entry);
     printing::word(b" line ");

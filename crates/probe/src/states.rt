@@ -12,7 +12,7 @@ fn print_kept(k: Kept) {
             printing::size(count);
         }
         Kept::Refused(x) => {
-            printing::number(printing::numbers_of(x).number);
+            printing::number(refusals::numbers_of(x).number as u64);
             printing::word(b" 0");
         }
     }

@@ -3,8 +3,8 @@ use refusals::Refusal;
 
 // The number, the entry and the line.
 pub fn print_refusal(x: Refusal) {
-    let n = printing::numbers_of(x);
-    printing::number(n.number);
+    let n = refusals::numbers_of(x);
+    printing::number(n.number as u64);
     printing::word(b" ");
     printing::size(n.entry);
     printing::word(b" ");

@@ -1,6 +1,7 @@
 -- The paper's number, entry and line for each case of a refusal.
 use Rattle.rules.specs.Refusals as Rules
 use Rattle.rules.specs.Refusals.{roomTooShort, bundleMalformed, versionTooLarge, noVersionZero, notKept, malformed, tooManyLive, readerTooHigh, unknownFeature, queryMalformed, noSuchColumn, notWritable, checkpointDisagrees, stateMalformed, tooManyManifests}
+use Rattle.refusals.specs.declared.Numbers.{Numbers}
 use Rattle.refusals.specs.declared.Refusal.{Refusal}
 use Rattle.refusals.specs.declared.Refusal.the-variants.{RoomTooShort, BundleMalformed, VersionTooLarge, NoVersionZero, NotKept, Malformed, TooManyLive, ReaderTooHigh, UnknownFeature, QueryMalformed, NoSuchColumn, NotWritable, CheckpointDisagrees, StateMalformed, TooManyManifests}
 
@@ -20,3 +21,7 @@ numbered NotWritable = notWritable
 numbered CheckpointDisagrees = checkpointDisagrees
 numbered StateMalformed = stateMalformed
 numbered TooManyManifests = tooManyManifests
+
+-- the refusal that three numbers say
+abbrev pub said : Numbers → Rules.Refusal
+said n = record { number = n .number; entry = n .entry; line = n .line }

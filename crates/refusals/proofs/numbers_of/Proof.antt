@@ -1,9 +1,9 @@
 -- Each case says the paper's number for it.
 use mathlib.Core.Path.{sym, ap, _∙_}
 use borrow.Author.Needs.{needs}
 use Rattle.refusals.specs.Numbered.{numbered}
-use Rattle.printing.proofs.numbers_of.Statement.{statement}
-use Rattle.printing.proofs.numbers_of.Tie as tie
+use Rattle.refusals.proofs.numbers_of.Statement.{statement}
+use Rattle.refusals.proofs.numbers_of.Tie as tie
 
 enum-told : tie.Need-enum-told
 enum-told c = search needs

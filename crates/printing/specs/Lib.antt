@@ -1,2 +1,0 @@
--- What is printed of a refusal.
-pub mod Said
