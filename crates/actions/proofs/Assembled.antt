@@ -1,5 +1,5 @@
 -- An action from the fields of its object: where one of them is malformed the action is, and else it has them all.
-use mathlib.Core.Path.{_≡_, refl, sym, ap, _∙_, subst}
+use mathlib.Core.Path.{_≡_, refl, sym, ap, _∙_}
 use mathlib.Core.Bool.{Bool, true, false}
 use mathlib.Core.Option.{Option, none, some}
 use mathlib.Core.List.{List, _∷_}
@@ -18,12 +18,11 @@ use Rattle.rules.specs.Json.Strings.{string}
 use Rattle.rules.specs.Json.Values.{Member, objectOf}
 use Rattle.rules.specs.Json.Fields.{once, optional, stringOf, unquoted, boolOf, ifThere, stringsOf, stringAt, wholeAt}
 use Rattle.rules.proofs.Tests.{apart}
-use Rattle.rules.proofs.Json.Suffix.{bound, some-same, reads-fewer}
+use Rattle.rules.proofs.Json.Suffix.{bound, reads-fewer}
 use Rattle.rules.proofs.Json.Shadows.{behind-some}
 use Rattle.rules.proofs.Json.StringReads.{string-reads}
 use Rattle.rules.proofs.Json.Places.{unquoted-place}
 use Rattle.values.specs.Answers.{truthIs}
-use Rattle.strings.specs.Decoded.{decoded}
 use Rattle.strings.proofs.Decoding.{decoded-some}
 use Rattle.kinds.specs.Kinds.{namesOf}
 use Rattle.fields.specs.Slots.{missing, textIn}
@@ -34,15 +33,13 @@ use Rattle.actions.specs.Begun.{Lined}
 use Rattle.slots.specs.Counts.{recordsIs, isKnown, isBool}
 use Rattle.slots.specs.Inside.{Inside, wholeIn, boolIn, stringIn, optionalWholeIn}
 use Rattle.nested.specs.Nested.{Pairing, valuesIn, featuresIn, Known, columnsOf, columnsIn, ColumnsIs}
-use Rattle.actions.specs.Line.{AddIs, ActionIs}
+use Rattle.actions.specs.Line.{ActionIs}
 use Rattle.slots.specs.Texts.{pathOf, idOf, Told, Read}
 use Rattle.slots.specs.Versions.{versionOf}
-use Rattle.actions.specs.declared.line.Added.{Added}
 use Rattle.actions.specs.declared.line.Action.the-variants.{Add, Remove, Protocol, MetaData}
 use Rattle.nested.specs.declared.Columns.the-variants.{Within}
 use Rattle.slots.specs.declared.Records.{Records}
 use Rattle.actions.proofs.Lines.{lined-action}
-use Rattle.nested.proofs.Placed.{byte-next}
 use Rattle.slots.proofs.Single.{inside-single}
 use Rattle.slots.proofs.Stated.{field-whole, field-bool, field-string, field-optional, field-path, field-version}
 use Rattle.nested.proofs.Stated.{field-values, field-features, field-columns}

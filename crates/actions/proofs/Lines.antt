@@ -7,14 +7,14 @@ use Prim.Native.Nat.{ℕ, zero, suc, _+_, _-_, _≤_, _<_}
 use native.Mathlib.Omega.{arith}
 use borrow.Author.Tests.{eq-eqb}
 use lib.ListN.{length, take, drop, length-drop}
-use Rattle.rules.specs.Actions.{inLine, inAction, Key, keyAdd, keyRemove, keyProtocol, keyMetaData, keyMergeskip, keyOther, keyOf, Action, add, remove, protocol, metaData, mergeskip, other, addOf, pathAt, protocolOf, metaDataOf, actionBy, onlyOne, lineMember, action}
+use Rattle.rules.specs.Actions.{inLine, inAction, Key, keyOf, add, remove, protocol, metaData, mergeskip, other, addOf, pathAt, protocolOf, metaDataOf, actionBy, onlyOne, lineMember, action}
 use Rattle.rules.specs.Bytes.{Bytes, ascii, _>>=_, guard, first, same, isEmpty}
 use Rattle.rules.specs.Json.Text.{Text, Taker, behind as left, spelled, ws, byte}
 use Rattle.rules.specs.Json.Strings.{string}
 use Rattle.rules.specs.Json.Values.{Member, Behind, closed, onward, neither, opening, closing, andThen, afterItem, items, colon, member, contents, value, alone, objectOf}
-use Rattle.rules.proofs.Tests.{apart, by}
-use Rattle.rules.proofs.Json.Suffix.{some-same, bound, answered-none}
-use Rattle.rules.proofs.Json.TextReads.{spelled-some, spelled-none, spelled-left, byte-same}
+use Rattle.rules.proofs.Tests.{by}
+use Rattle.rules.proofs.Json.Suffix.{answered-none}
+use Rattle.rules.proofs.Json.TextReads.{spelled-none, spelled-left, byte-same}
 use Rattle.rules.proofs.Json.ValueReads.{value-reads, member-reads}
 use Rattle.rules.proofs.Json.Steps.{value-object, value-end, objectOf-contents, objectOf-none, contents-list, list-closed, list-onward, list-neither, rest, rest-none, rest-closed, rest-neither, rest-onward}
 use Rattle.rules.proofs.Json.InPlace.{objectOf-other}

@@ -1,9 +1,9 @@
 // Protocols of two lines: the same numbers, and the same sets of features, in any order and however often each is named.
 use actions::Action;
 use actions::Stated;
-use lists::CLOSE_BRACKET;
-use keys::Name;
 use json::Tail;
+use keys::Name;
+use lists::CLOSE_BRACKET;
 use replay::Span;
 ghost use mathlib.Core.Path.{_≡_};
 ghost use mathlib.Core.List.{List};

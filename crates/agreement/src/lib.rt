@@ -5,10 +5,10 @@ mod partitions;
 
 use actions::Action;
 use actions::Added;
-use slots::Records;
 use features::same_protocols;
 use partitions::same_pairs;
 use replay::State;
+use slots::Records;
 use table::Cells;
 ghost use mathlib.Core.Path.{_≡_};
 ghost use mathlib.Core.List.{map};

@@ -1,9 +1,9 @@
 // Partition values of two lines: the same columns with the same values, in any order; null is a value.
-use slots::Wording;
 use fields::CLOSE_BRACE;
 use fields::Met;
 use json::Tail;
 use members::Found;
+use slots::Wording;
 ghost use mathlib.Core.Path.{_≡_};
 ghost use mathlib.Core.Option.{Option, some};
 ghost use Prim.Native.Nat.{_-_, _≤_};

@@ -1,11 +1,10 @@
 -- Laws of the elements that pass a test: lists joined and mapped, and the moves of those that are kept to the front.
 use mathlib.Core.Path.{_≡_, refl, sym, ap, _∙_}
 use mathlib.Core.Bool.{Bool, true, false}
-use mathlib.Core.List.{List, [], _∷_, _++_, map}
-use Prim.Native.Nat.{ℕ, zero, _+_, _≤_, _<_}
+use mathlib.Core.List.{List, [], _∷_, _++_}
+use Prim.Native.Nat.{ℕ, _+_, _≤_, _<_}
 use native.Mathlib.Omega.{arith}
-use native.Mathlib.Numerals.{add-one}
-use lib.ListN.{length, take, drop, getD, set, length-set}
+use lib.ListN.{length, take, getD, set, length-set}
 use lib.Seq.{take-length, drop-set-lt}
 use Rattle.facts.specs.Kept.{kept, Compacting}
 use Rattle.facts.proofs.Lists.{take-one-more, take-set-here, getD-behind, drop-later}

@@ -5,7 +5,7 @@ use native.Mathlib.Nat.{add-zero, sub-zero}
 use native.Mathlib.Omega.{arith}
 use mathlib.Core.List.{List, [], _∷_, _++_, append-assoc, append-nil}
 use lib.ListN.{length, take, drop, getD, set, replicate, length-append, length-drop, length-replicate, take-append-drop, List·getD-append}
-use lib.Seq.{take-all, take-take, getD-drop, length-take-le, take-append-le, drop-at, set-at, set-append-seam, take-append-seam, drop-append-seam, append-snoc}
+use lib.Seq.{take-take, getD-drop, length-take-le, take-append-le, drop-at, set-at, set-append-seam, take-append-seam, drop-append-seam, append-snoc}
 use Rattle.facts.specs.Parts.{part}
 use Rattle.facts.specs.Moves.{putAt, stores, movedUp, movedDown, zeroed}
 use Rattle.facts.proofs.Lists.{drop-here, drop-later, take-one-more, drop-past, take-past, set-past, replicate-one-more, getD-behind, getD-before}
@@ -110,16 +110,6 @@ putAt-stores {A} at v vs t h = rw (← putAt-one at v t (omega arith)) (go (v �
     go us (w ∷ vs) l =
         let e : length (us ++ (w ∷ [])) ≡ suc (length us) = simp length-append (omega arith) in
         rw (putAt-snoc at us t w (omega arith), ← e, ← append-snoc us w vs) (go (us ++ (w ∷ [])) vs (omega arith))
-
--- a loop that writes vs from the first on: the first i are written
-pub putAt-step : {A : Type 0} (at : ℕ) (vs t : List A) (i : ℕ) (d : A) → i < length vs → at + length vs ≤ length t
-    → set (putAt at (take i vs) t) (at + i) (getD vs i d) ≡ putAt at (take (i + 1) vs) t
-putAt-step at vs t i d l h =
-    let e : length (take i vs) ≡ i = length-take-le i vs (omega arith) in
-    rw (take-one-more vs i d l) (rw e at (putAt-snoc at (take i vs) t (getD vs i d) (omega arith)))
-
-pub putAt-end : {A : Type 0} (at : ℕ) (vs t : List A) (i : ℕ) → length vs ≤ i → putAt at (take i vs) t ≡ putAt at vs t
-putAt-end at vs t i h = rw (take-all i vs h)
 
 -- ---- elements moved up: the loop goes from the last down to the first
 

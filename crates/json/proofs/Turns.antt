@@ -5,7 +5,7 @@ use Prim.Native.Nat.{ℕ, _+_, _-_, _≤_, _<_}
 use native.Mathlib.Omega.{arith}
 use lib.ListN.{length, drop, length-drop}
 use Rattle.rules.specs.Json.Text.{Text, Reader, Taker, behind}
-use Rattle.rules.specs.Json.Values.{neither, opening, closing, list}
+use Rattle.rules.specs.Json.Values.{opening, closing, list}
 use Rattle.rules.proofs.Json.Suffix.{EachReads, EachTakes, reads-fewer}
 use Rattle.rules.proofs.Json.ValueReads.{behind-reads, list-reads}
 use Rattle.rules.proofs.Json.Steps.{rest}

@@ -7,12 +7,12 @@ use Prim.Native.Nat.{ℕ, _+_, _≤_, _<_}
 use lib.ListN.{length, drop, getD}
 use Rattle.rules.specs.Bytes.{Bytes, _>>=_, same}
 use Rattle.rules.specs.Query.{Condition}
-use Rattle.rules.specs.Manifests.{Bounds, Manifest, inBounds, boundsOf, columnsIn, outsideAs, bothThere, drops, dropped}
+use Rattle.rules.specs.Manifests.{Bounds, Manifest, boundsOf, columnsIn, outsideAs, bothThere, drops, dropped}
 use Rattle.rules.specs.Json.Text.{Text}
 use Rattle.rules.specs.Json.Values.{Member}
 use Rattle.rules.proofs.Tests.{apart, by}
 use Rattle.rules.proofs.Json.Suffix.{some-same, bound, answered-none}
-use Rattle.members.specs.Lookup.{lookup, Standing}
+use Rattle.members.specs.Lookup.{lookup}
 use Rattle.conditions.specs.Conditions.{conditionOf}
 use Rattle.query.specs.Reading.{noCondition, conditionsOf}
 use Rattle.conditions.specs.declared.conditions.Condition.{Condition as Said}

@@ -2,17 +2,17 @@
 use mathlib.Core.Path.{_≡_, refl, sym, ap, _∙_, subst}
 use mathlib.Core.Bool.{Bool, true, false}
 use mathlib.Core.Option.{none, some}
-use mathlib.Core.List.{List, []}
+use mathlib.Core.List.{List}
 use Prim.Native.Nat.{ℕ, _≤_, _<_}
 use native.Mathlib.Omega.{arith}
 use borrow.Author.Tests.{le-leb, lt-leb}
-use lib.ListN.{length, take}
+use lib.ListN.{length}
 use lib.Seq.{length-take-le}
 use Rattle.facts.specs.Moves.{zeroed}
 use Rattle.rules.specs.Bytes.{Bytes}
 use Rattle.rules.specs.Query.{Condition, query}
 use Rattle.rules.specs.Manifests.{Manifest, manifests, mostManifests, keptFrom}
-use Rattle.rules.specs.Rooms.{Room, keptRoom, filled, counted}
+use Rattle.rules.specs.Rooms.{Room, keptRoom, counted}
 use Rattle.rules.specs.Refusals.{Answer, accepted, refused, roomTooShort, queryMalformed, stateMalformed, tooManyManifests}
 use Rattle.rules.specs.Keeping.{keeping, roomAfterKeeping}
 use Rattle.rules.proofs.Tests.{apart}

@@ -3,8 +3,8 @@ use mathlib.Core.Path.{_≡_, refl, sym, ap, _∙_}
 use mathlib.Core.Bool.{true, false}
 use mathlib.Core.Option.{none, some}
 use mathlib.Core.List.{List, [], _∷_}
-use Prim.Native.Nat.{ℕ, _+_, _-_, _≤_}
-use lib.ListN.{length, take, drop}
+use Prim.Native.Nat.{ℕ, _+_, _-_}
+use lib.ListN.{drop}
 use Rattle.rules.specs.Bytes.{Bytes, same}
 use Rattle.rules.specs.Json.Text.{Text}
 use Rattle.rules.specs.Json.Values.{Member, opening, closing, list, member, value}

@@ -8,10 +8,10 @@ use borrow.Author.Tests.{eqb-true, eqb-false}
 use lib.Dec.{eqb}
 use lib.ListN.{length}
 use Rattle.rules.specs.Bytes.{_>>=_}
-use Rattle.rules.specs.Json.Text.{Text, Taker, isWs, ws, spelled}
+use Rattle.rules.specs.Json.Text.{Text, Taker, isWs, ws}
 use Rattle.rules.specs.Json.Values.{Member, Behind, closed, onward, neither, openedBy, opening, closedBy, closing, andThen, afterItem, items, itemsBehind, list, contents, elements, value}
 use Rattle.rules.proofs.Tests.{apart, by}
-use Rattle.rules.proofs.Json.Suffix.{EachTakes, alike, bound, some-same, answered-none, reads-fewer}
+use Rattle.rules.proofs.Json.Suffix.{EachTakes, alike, bound, some-same, reads-fewer}
 use Rattle.rules.proofs.Json.Bounds.{within-more}
 use Rattle.rules.proofs.Json.TextReads.{ws-more, ws-stop, spelled-reads}
 use Rattle.rules.proofs.Json.ValueReads.{items-within, member-reads, value-reads}

@@ -26,10 +26,10 @@ use Rattle.fields.specs.Standing.{Stands}
 use Rattle.keys.specs.declared.Spell.{Spell}
 use Rattle.fields.specs.declared.notes.Slot.{Slot}
 use Rattle.fields.proofs.Passing.{Passed, passed-start, passed-none, passed-neither, passed-closed, passed-more, items-first}
-use Rattle.nested.specs.Nested.{Pairing, Opened, valuesOf, valuesIn, ValuesIs}
+use Rattle.nested.specs.Nested.{Opened, valuesOf, valuesIn, ValuesIs}
 use Rattle.nested.specs.Valued.{Proper}
 use Rattle.slots.specs.Texts.{Told}
-use Rattle.nested.specs.declared.Values.the-variants.{Behind, NoValues}
+use Rattle.nested.specs.declared.Values.the-variants.{Behind}
 use Rattle.slots.proofs.Single.{text-single}
 use Rattle.slots.proofs.Strings.{byte-text}
 use Rattle.nested.proofs.Valued.{proper-single}

@@ -1,19 +1,19 @@
 -- The text of a value from v to e, by its first byte: an object or an array stands there, read in its place, or none does.
-use mathlib.Core.Path.{_≡_, refl, sym, ap, _∙_, subst}
-use mathlib.Core.Option.{Option, none, some}
+use mathlib.Core.Path.{_≡_, refl, sym, ap, _∙_}
+use mathlib.Core.Option.{none, some}
 use mathlib.Core.List.{List, [], _∷_, _++_}
 use Prim.Native.Nat.{ℕ, zero, suc, _+_, _-_, _≤_}
 use native.Mathlib.Omega.{arith}
 use borrow.Author.Tests.{eq-eqb}
 use lib.ListN.{length, take, drop, length-drop}
-use lib.Seq.{take-all, drop-drop}
+use lib.Seq.{take-all}
 use Rattle.facts.specs.Parts.{part}
 use Rattle.facts.proofs.Parts.{part-rest}
 use Rattle.rules.specs.Json.Text.{Text, Taker, behind, spelled, byte}
 use Rattle.rules.specs.Json.Values.{Member, contents, elements, value, objectOf, arrayOf}
-use Rattle.rules.proofs.Tests.{apart, by}
-use Rattle.rules.proofs.Json.Suffix.{some-same, answered-none}
-use Rattle.rules.proofs.Json.TextReads.{byte-same, byte-other, spelled-some}
+use Rattle.rules.proofs.Tests.{by}
+use Rattle.rules.proofs.Json.Suffix.{answered-none}
+use Rattle.rules.proofs.Json.TextReads.{byte-same, spelled-some}
 use Rattle.rules.proofs.Json.Steps.{value-end, value-object, value-array}
 use Rattle.rules.proofs.Json.Shadows.{behind-some}
 use Rattle.rules.proofs.Json.InPlace.{objectOf-other, arrayOf-other}

@@ -1,5 +1,5 @@
 -- The texts of the members of an object that was read are values, and so are those in the slots of a scan.
-use mathlib.Core.Path.{_≡_, refl, sym, ap, _∙_, subst}
+use mathlib.Core.Path.{_≡_, refl, sym, _∙_, subst}
 use mathlib.Core.Bool.{Bool, true, false}
 use mathlib.Core.Option.{some}
 use mathlib.Core.List.{List, [], _∷_}
@@ -20,7 +20,6 @@ use Rattle.fields.specs.Slots.{missing, Times, Each}
 use Rattle.fields.specs.declared.notes.Slot.{Slot}
 use Rattle.fields.proofs.Passing.{andThen-some}
 use Rattle.nested.specs.Valued.{Valued, ProperBy, Proper}
-use Rattle.slots.specs.Inside.{InsideBy, Inside}
 
 pub member-valued : (d : ℕ) (t : Text) (m : Member) (r : Text) → member (value d) t ≡ some (m, r) → value d (m .1) ≡ some []
 unfolding member
@@ -81,14 +80,6 @@ pub each-proper : (s : Text) (names : List Bytes) (ms : List Member) (slots : Li
 each-proper s names ms slots k b each w =
     let x = getD slots k missing in
     times-proper s (x .seen) (x .start) (x .end) (under (getD names k []) ms) (each k b) (under-values inAction (getD names k []) ms w)
-
-pub proper-inside : (s : Text) (x : Slot) → Proper s x → Inside s x
-proper-inside s x p = go (x .seen) p
-  where
-    go : (seen : ℕ) → ProperBy s seen (x .start) (x .end) → InsideBy s seen (x .start) (x .end)
-    go zero q = tt
-    go (suc zero) q = (q .0, q .1)
-    go (suc (suc n)) q = tt
 
 pub proper-single : (s : Text) (x : Slot) → x .seen ≡ 1 → Proper s x
     → (x .start ≤ x .end) × (x .end ≤ length s) × (value inAction (take (x .end - x .start) (drop (x .start) s)) ≡ some [])

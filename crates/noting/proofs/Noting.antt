@@ -7,14 +7,14 @@ use native.Mathlib.Nat.{add-zero}
 use native.Mathlib.Omega.{arith}
 use borrow.Author.Tests.{ltb-true, ltb-false}
 use lib.Dec.{ltb}
-use lib.ListN.{length, take, drop, set, length-append, length-set}
+use lib.ListN.{length, take, set, length-append, length-set}
 use lib.Seq.{drop-set-lt}
 use Rattle.facts.proofs.Lists.{take-set-here}
 use Rattle.rules.specs.Bytes.{keepIf}
 use Rattle.rules.specs.Query.{Condition}
 use Rattle.rules.specs.Manifests.{Manifest, dropped, keptFrom}
 use Rattle.rules.specs.Rooms.{Room}
-use Rattle.noting.specs.Walks.{written, Stepped, Beyond, Noted}
+use Rattle.noting.specs.Walks.{written, Stepped, Noted}
 
 -- ---- one more at the end
 

@@ -98,9 +98,6 @@ distinct-of (x ∷ xs) h =
     distinct-cons x xs (nowhere-holds x xs (λ i l e. h (suc i) zero (suc-le-suc zero-le) (suc-le-suc l) e))
     ∙ distinct-of xs (λ i j l m e. h (suc i) (suc j) (suc-le-suc l) (suc-le-suc m) e)
 
-pub twice-distinct : (xs : List Bytes) (i j : ℕ) → j < i → i < length xs → getD xs i [] ≡ getD xs j [] → distinct xs ≡ false
-twice-distinct xs i j l m e = false-of (distinct xs) (λ d. distinct-at xs d i j l m e)
-
 -- one more at the end
 pub distinct-snoc : (xs : List Bytes) (x : Bytes) → distinct (xs ++ x ∷ []) ≡ (distinct xs && not (holds x xs))
 unfolding distinct holds
@@ -176,9 +173,6 @@ pub allAmong-of : (names xs : List Bytes) → ((i : ℕ) → i < length xs → h
 unfolding allAmong
 allAmong-of names [] h = refl
 allAmong-of names (x ∷ xs) h = allAmong-cons names x xs (h zero (suc-le-suc zero-le)) ∙ allAmong-of names xs (λ i l. h (suc i) (suc-le-suc l))
-
-pub allAmong-fails : (names xs : List Bytes) (i : ℕ) → i < length xs → holds (getD xs i []) names ≡ false → allAmong names xs ≡ false
-allAmong-fails names xs i l h = false-of (allAmong names xs) (λ t. true-not-false (allAmong-at names xs t i l) h)
 
 -- the same by names in place of places
 pub allAmong-holds : (names xs : List Bytes) → allAmong names xs ≡ true → (x : Bytes) → holds x xs ≡ true → holds x names ≡ true

@@ -198,15 +198,6 @@ order-trans (a ∷ x) (b ∷ y) (c ∷ z) h k = go (order-trans x y z) (trichoto
 pub order-trans-more : (x y z : Bytes) → order x y ≡ more → order y z ≡ more → order x z ≡ more
 order-trans-more x y z h k = less-more z x (order-trans z y x (more-less y z k) (more-less x y h))
 
--- one is below the other, or they are the same
-pub order-cases : (x y : Bytes) → (order x y ≡ less) ⊎ ((order y x ≡ less) ⊎ (x ≡ y))
-order-cases x y = go (order x y) refl
-  where
-    go : (o : Order) → order x y ≡ o → (order x y ≡ less) ⊎ ((order y x ≡ less) ⊎ (x ≡ y))
-    go less e = inl e
-    go equal e = inr (inr (order-equal x y e))
-    go more e = inr (inl (more-less x y e))
-
 pub order-append : (p x y : Bytes) → order (p ++ x) (p ++ y) ≡ order x y
 order-append [] x y = refl
 order-append (b ∷ p) x y = order-cons-equal b b (p ++ x) (p ++ y) refl ∙ order-append p x y

@@ -82,15 +82,6 @@ same-state-trans h k = record { inForce = same-protocol-trans (h .inForce) (k .i
 pub same-listing-refl : (l : Listing) → SameListing l l
 same-listing-refl l = record { version = refl; table = refl; inForce = same-protocol-refl (l .inForce); canWrite = refl; rows = same-rows-refl (l .rows) }
 
-pub same-listing-sym : {l m : Listing} → SameListing l m → SameListing m l
-same-listing-sym s = record {
-  version = sym (s .version);
-  table = sym (s .table);
-  inForce = same-protocol-sym (s .inForce);
-  canWrite = sym (s .canWrite);
-  rows = same-rows-sym (s .rows);
-}
-
 pub same-listing-trans : {l m n : Listing} → SameListing l m → SameListing m n → SameListing l n
 same-listing-trans s t = record {
   version = s .version ∙ t .version;

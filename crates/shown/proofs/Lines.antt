@@ -4,9 +4,8 @@ use mathlib.Core.Bool.{true, false}
 use mathlib.Core.Option.{Option, none, some}
 use mathlib.Core.List.{[]}
 use Prim.Native.Nat.{ℕ}
-use Rattle.facts.specs.Parts.{part}
 use Rattle.rules.specs.Json.Text.{Text}
-use Rattle.rules.specs.Actions.{Facts, Action, add, remove, protocol, metaData, mergeskip, other, action, isLine, orNothing, pathWritten, pathIn, pathShown, noAdd, recordsOf, recordsIn, recordsShown}
+use Rattle.rules.specs.Actions.{Facts, Action, add, remove, protocol, metaData, mergeskip, other, action, isLine, orNothing, pathIn, pathShown, noAdd, recordsOf, recordsIn, recordsShown}
 use Rattle.actions.specs.Line.{AddIs}
 use Rattle.actions.specs.declared.line.Added.{Added}
 use Rattle.slots.specs.Counts.{recordsIs}

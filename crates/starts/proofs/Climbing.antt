@@ -1,7 +1,7 @@
 -- The climb to the latest version: its bound is never met, since no version is above 2^63 - 1.
 use mathlib.Core.Path.{_≡_, refl, sym, ap, _∙_}
 use mathlib.Core.Option.{none, some}
-use Prim.Native.Nat.{ℕ, zero, suc, _+_, _-_, _≤_, _<_}
+use Prim.Native.Nat.{ℕ, zero, suc, _+_, _-_, _<_}
 use native.Mathlib.Omega.{arith}
 use Rattle.rules.specs.Bundle.{File}
 use Rattle.rules.specs.Starts.{Log}

@@ -2,16 +2,15 @@
 use mathlib.Core.Path.{_≡_, refl, sym, ap, _∙_, subst}
 use mathlib.Core.Bool.{true, false}
 use mathlib.Core.Option.{Option, none, some}
-use Prim.Native.Nat.{ℕ, zero, suc, _+_, _-_, _<_}
+use Prim.Native.Nat.{ℕ, zero, suc, _-_}
 use native.Mathlib.Omega.{arith}
-use lib.ListN.{length}
 use Rattle.rules.specs.Bytes.{Bytes, _>>=_}
 use Rattle.rules.specs.Numbers.{most}
 use Rattle.rules.specs.Bundle.{File}
 use Rattle.rules.specs.Starts.{Log, logOf, wellFormed, ifWellFormed, startAt, Way, fromZero, fromCheckpoint, andThen, onwardBy, byFile, byStart, wayTo, otherWayTo}
 use Rattle.rules.specs.Marker.{markerVersion, marked, climb, orZero, latest}
 use Rattle.rules.proofs.Tests.{apart}
-use Rattle.bundle.specs.Files.{filesIn, fileIn}
+use Rattle.bundle.specs.Files.{filesIn}
 use Rattle.names.specs.declared.Version.{Version}
 use Rattle.starts.specs.Marks.{markIs}
 use Rattle.starts.specs.declared.Mark.the-variants.{At, Nothing}

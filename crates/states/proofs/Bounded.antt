@@ -1,23 +1,20 @@
 -- The bounds of a column, by the fields that state them.
-use mathlib.Core.Path.{_≡_, refl, sym, ap, _∙_, subst}
-use mathlib.Core.Bool.{true, false}
+use mathlib.Core.Path.{_≡_, refl, ap, _∙_}
 use mathlib.Core.Option.{Option, none, some}
-use mathlib.Core.List.{List, [], _∷_}
+use mathlib.Core.List.{List}
 use Prim.Native.Nat.{ℕ}
 use native.Mathlib.Omega.{arith}
-use lib.ListN.{drop, getD}
-use Rattle.rules.specs.Bytes.{Bytes, ascii, _>>=_}
-use Rattle.rules.specs.Query.{Condition}
+use lib.ListN.{getD}
+use Rattle.rules.specs.Bytes.{Bytes, _>>=_}
 use Rattle.rules.specs.Manifests.{Bounds, inColumn, boundsOf, bothThere}
 use Rattle.rules.specs.Json.Text.{Text}
 use Rattle.rules.specs.Json.Values.{Member, objectOf}
-use Rattle.rules.specs.Json.Fields.{isNull, soleOrNone, optional, ifThere, stringOf}
+use Rattle.rules.specs.Json.Fields.{ifThere, stringOf}
 use Rattle.kinds.specs.Kinds.{namesOf}
 use Rattle.fields.specs.Slots.{missing, Each, optionalIn}
 use Rattle.kinds.specs.declared.Kind.the-variants.{Bounds as OfBounds}
 use Rattle.fields.specs.declared.notes.Slot.{Slot}
 use Rattle.fields.proofs.Slots.{slot-optional}
-use Rattle.strings.specs.Decoded.{decoded, WellSpelled}
 use Rattle.slots.specs.Texts.{Read}
 use Rattle.states.specs.Ranges.{optionalStringIn, BoundIs, Both, OneMissing}
 use Rattle.states.specs.declared.bounds.Bound.the-variants.{Spelled}

@@ -1,5 +1,5 @@
 -- The columns of a manifest: one after another, and as a text of their own.
-use mathlib.Core.Path.{_≡_, refl, sym, ap, _∙_}
+use mathlib.Core.Path.{_≡_, refl, ap, _∙_}
 use mathlib.Core.Bool.{Bool, true, false}
 use mathlib.Core.Option.{Option, none, some}
 use mathlib.Core.List.{List, [], _∷_}
@@ -10,7 +10,7 @@ use Rattle.rules.specs.Manifests.{Bounds, inBounds, boundsOf, columnsIn, column
 use Rattle.rules.specs.Json.Text.{Text, ws}
 use Rattle.rules.specs.Json.Values.{Member, list, member, contents, value, alone, objectOf}
 use Rattle.rules.proofs.Json.Steps.{contents-list}
-use Rattle.states.specs.Tables.{Table, Tabled, Columns, Standing}
+use Rattle.states.specs.Tables.{Table, Tabled, Standing}
 use Rattle.states.proofs.Gathering.{each, made, Listed}
 
 -- a column with its bounds

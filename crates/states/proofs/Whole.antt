@@ -9,11 +9,10 @@ use Rattle.facts.proofs.Lists.{drop-here}
 use Rattle.rules.specs.Bytes.{Bytes}
 use Rattle.rules.specs.Json.Text.{Text, ws, byte}
 use Rattle.rules.specs.Json.Values.{Member, contents, value, alone, objectOf}
-use Rattle.rules.proofs.Json.Steps.{alone-none, alone-end, alone-more, objectOf-contents, objectOf-none}
+use Rattle.rules.proofs.Json.Steps.{alone-end, alone-more, objectOf-contents, objectOf-none}
 use Rattle.text.specs.Answers.{Skips}
 use Rattle.fields.specs.Slots.{Filled, ScannedBy, Scanned}
 use Rattle.fields.specs.declared.notes.Fields.{Fields}
-use Rattle.fields.specs.declared.notes.Slot.{Slot}
 use Rattle.states.specs.Objects.{Object, ObjectBy, ObjectIs}
 
 -- ---- behind what was read up to `end`

@@ -1,5 +1,5 @@
 -- Strings that are well spelled: those that a scan found, and the one that others are compared with.
-use mathlib.Core.Path.{_≡_, refl, ap}
+use mathlib.Core.Path.{refl, ap}
 use mathlib.Core.List.{[], _∷_}
 use Prim.Native.Nat.{ℕ}
 use Rattle.rules.specs.Json.Text.{Text, behind}

@@ -1,6 +1,6 @@
 -- The text of a value, by its first byte: what the paper asks of the text is answered in its place, so that code reads it once.
 use mathlib.Core.Path.{_≡_, refl, sym, ap, _∙_, subst}
-use mathlib.Core.Bool.{true, false, true≢false}
+use mathlib.Core.Bool.{true, false}
 use mathlib.Core.Option.{Option, none, some}
 use mathlib.Core.List.{List, _∷_, _++_}
 use Prim.Native.Nat.{ℕ, suc, _+_, _-_, _≤_}
@@ -11,16 +11,16 @@ use lib.ListN.{length, take, length-append}
 use lib.Seq.{take-at}
 use Rattle.rules.specs.Bytes.{Bytes, ascii, first, among, same, isEmpty}
 use Rattle.rules.specs.Numbers.{isDigit}
-use Rattle.rules.specs.Json.Text.{Text, Taker, behind, spelled, isWs, ws, byte, word}
+use Rattle.rules.specs.Json.Text.{Text, Taker, behind, spelled, isWs, ws, byte}
 use Rattle.rules.specs.Json.Numbers.{digits1, minus, int, number, whole}
 use Rattle.rules.specs.Json.Strings.{string}
 use Rattle.rules.specs.Json.Values.{Member, contents, elements, scalar, value, objectOf, arrayOf}
-use Rattle.rules.specs.Json.Fields.{isNull, stringOf, boolOf}
+use Rattle.rules.specs.Json.Fields.{isNull, stringOf}
 use Rattle.rules.proofs.Tests.{apart, by}
 use Rattle.rules.proofs.Json.Suffix.{reads-fewer, answered-none}
-use Rattle.rules.proofs.Json.TextReads.{before, ws-stop, byte-other, spelled-left, spelled-text, word-text}
+use Rattle.rules.proofs.Json.TextReads.{before, ws-stop, byte-other, spelled-left, spelled-text}
 use Rattle.rules.proofs.Json.ValueReads.{value-reads}
-use Rattle.rules.proofs.Json.Steps.{value-object, value-array, value-scalar, scalar-string, scalar-false, scalar-null, scalar-true, objectOf-contents, objectOf-none, arrayOf-elements, arrayOf-none, alone-end}
+use Rattle.rules.proofs.Json.Steps.{value-object, value-scalar, scalar-string, objectOf-contents, objectOf-none, arrayOf-elements, arrayOf-none, alone-end}
 use Rattle.rules.proofs.Json.Shadows.{behind-some}
 use Rattle.rules.proofs.Json.Local.{contents-alone, elements-alone, string-alone}
 
@@ -103,10 +103,6 @@ pub arrayOf-alone : (d : ℕ) (vs : List Text) (t r : Text) → elements (value 
 unfolding ws isWs first byte
 arrayOf-alone d vs t r e = arrayOf-elements d (0x5B ∷ before t r) refl ∙ alone-end (elements-alone d vs t r e) refl
 
-pub array-text : (d : ℕ) (t x r : Text) → spelled (value (suc d)) (0x5B ∷ t) ≡ some (x, r)
-    → (vs : List Text) × (elements (value d) t ≡ some (vs, r)) × (arrayOf d x ≡ some vs)
-array-text d t x r e = inside-text (arrayOf d) (suc d) 0x5B t x r e (elements (value d)) (value-array (suc d) d t refl) (λ vs f. arrayOf-alone d vs t r f)
-
 pub arrayOf-other : (c d b : ℕ) (t x r : Text) → (b ≡ 0x5B → ⊥) → spelled (value d) (b ∷ t) ≡ some (x, r) → arrayOf c x ≡ none
 arrayOf-other c d b t x r n e = other-text (arrayOf c) d b t x r e 0x5B (arrayOf-none c) n
 
@@ -127,49 +123,8 @@ string-text d t x r e =
 
 -- ---- null, true and false
 
-constant-text : (d b : ℕ) (w t x r : Text) → value d (b ∷ t) ≡ word w t → spelled (value d) (b ∷ t) ≡ some (x, r) → x ≡ b ∷ w
-constant-text d b w t x r f e = value-text d b t x r e
-    ∙ ap (λ (u : Text). b ∷ before u r) (word-text w t r (sym f ∙ spelled-left (value d) (b ∷ t) e)) ∙ ap (λ (u : Text). b ∷ u) (before-append w r)
-
-pub null-text : (d : ℕ) (t x r : Text) → spelled (value d) (0x6E ∷ t) ≡ some (x, r) → x ≡ ascii "null"
-unfolding ascii
-null-text d t x r e = constant-text d 0x6E (ascii "ull") t x r (value-scalar d 0x6E t (λ h. omega arith) (λ h. omega arith) ∙ scalar-null t) e
-
-pub true-text : (d : ℕ) (t x r : Text) → spelled (value d) (0x74 ∷ t) ≡ some (x, r) → x ≡ ascii "true"
-unfolding ascii
-true-text d t x r e = constant-text d 0x74 (ascii "rue") t x r (value-scalar d 0x74 t (λ h. omega arith) (λ h. omega arith) ∙ scalar-true t) e
-
-pub false-text : (d : ℕ) (t x r : Text) → spelled (value d) (0x66 ∷ t) ≡ some (x, r) → x ≡ ascii "false"
-unfolding ascii
-false-text d t x r e = constant-text d 0x66 (ascii "alse") t x r (value-scalar d 0x66 t (λ h. omega arith) (λ h. omega arith) ∙ scalar-false t) e
-
-pub isNull-null : isNull (ascii "null") ≡ true
-unfolding isNull same ascii
-isNull-null = refl
-
 pub isNull-other : (b : ℕ) (y : Text) → (b ≡ 0x6E → ⊥) → isNull (b ∷ y) ≡ false
 unfolding isNull same ascii
 isNull-other b y n = rw (isNull, same, ne-eqb b 0x6E n)
 
-pub boolOf-true : boolOf (ascii "true") ≡ some true
-unfolding boolOf same ascii first
-boolOf-true = refl
-
-pub boolOf-false : boolOf (ascii "false") ≡ some false
-unfolding boolOf same ascii first
-boolOf-false = refl
-
-pub boolOf-other : (b : ℕ) (y : Text) → (b ≡ 0x74 → ⊥) → (b ≡ 0x66 → ⊥) → boolOf (b ∷ y) ≡ none
-unfolding boolOf same ascii first
-boolOf-other b y m n = rw (boolOf, same, ne-eqb b 0x74 m, ne-eqb b 0x66 n)
-
 -- ---- whole numbers
-
-pub whole-other : (b : ℕ) (y : Text) → isDigit b ≡ false → whole (b ∷ y) ≡ none
-unfolding whole int digits1 isDigit among
-whole-other b y n = rw stop
-  where
-    stop : int (b ∷ y) ≡ none
-    stop = by (eqb b 0x30)
-        (λ p. let z : isDigit 0x30 ≡ false = subst (λ (c : ℕ). isDigit c ≡ false) (eqb-true b 0x30 p) n in absurd (true≢false z))
-        (λ p. rw (int, p, digits1, n))

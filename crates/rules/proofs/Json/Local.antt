@@ -37,9 +37,6 @@ module _ {A : Type 0} {read : Taker A} {least : ℕ} (each : EachTakes least rea
 
 -- ---- values
 
-pub value-local : (d : ℕ) (p u v : Text) → value d (p ++ u) ≡ some u → Beside u v → value d (p ++ v) ≡ some v
-value-local d = reader-local (value-reads d)
-
 pub value-alone : (d : ℕ) (x t r : Text) → spelled (value d) t ≡ some (x, r) → value d x ≡ some []
 value-alone d = spelled-alone (value-reads d)
 

@@ -1,18 +1,16 @@
 -- What a reader leaves, without what it read: a recogniser is the shadow of the taker, step by step.
 use mathlib.Core.Path.{_≡_, refl, ap, _∙_}
 use mathlib.Core.Option.{Option, none, some}
-use mathlib.Core.List.{List, _∷_, _++_}
+use mathlib.Core.List.{List}
 use Prim.Native.Nat.{ℕ, suc, _-_}
-use borrow.Author.Tests.{ne-eqb}
 use lib.ListN.{length, take}
 use Rattle.rules.specs.Bytes.{Bytes, _>>=_}
 use Rattle.rules.specs.Json.Text.{Text, Reader, Taker, behind, spelled, byte}
-use Rattle.rules.specs.Json.Strings.{unescaped, escaped, utf8, char, chars, string}
+use Rattle.rules.specs.Json.Strings.{string}
 use Rattle.rules.specs.Json.Values.{Behind, closed, onward, neither, opening, closing, andThen, afterItem, items, list, Member, colon, member}
 use Rattle.rules.proofs.Tests.{apart}
 use Rattle.rules.proofs.Json.Suffix.{EachTakes, some-same}
-use Rattle.rules.proofs.Json.StringReads.{chars-char}
-use Rattle.rules.proofs.Json.Steps.{char-escape, char-plain, string-none, string-char, rest, list-closed, list-onward, list-neither, rest-none, rest-closed, rest-neither, rest-onward}
+use Rattle.rules.proofs.Json.Steps.{rest, list-closed, list-onward, list-neither, rest-none, rest-closed, rest-neither, rest-onward}
 
 -- what is left behind an item
 abbrev pub ahead : Behind → (others : Reader) → Option Text
@@ -67,26 +65,6 @@ behind-spelled read t = go (read t)
     go (some r) = refl
 
 -- ---- strings
-
-pub behind-escape : (t : Text) → behind (char (0x5C ∷ t)) ≡ behind (escaped t)
-behind-escape t = ap behind (char-escape t) ∙ behind-made utf8 (escaped t)
-
-pub behind-plain : (b : ℕ) (t : Text) → (b ≡ 0x5C → ⊥) → behind (char (b ∷ t)) ≡ unescaped (b ∷ t)
-behind-plain b t n = ap behind (char-plain b t n) ∙ behind-spelled unescaped (b ∷ t)
-
-pub behind-string-none : (b : ℕ) (t : Text) → (b ≡ 0x22 → ⊥) → behind (char (b ∷ t)) ≡ none → behind (string (b ∷ t)) ≡ none
-behind-string-none b t n e = ap behind (string-none b t n (behind-none (char (b ∷ t)) e))
-
-pub behind-string-char : (b : ℕ) (t : Text) {r : Text} → (b ≡ 0x22 → ⊥) → behind (char (b ∷ t)) ≡ some r → behind (string (b ∷ t)) ≡ behind (string r)
-behind-string-char b t {r} n e =
-    let (x, f) = behind-some (char (b ∷ t)) e in
-    ap behind (string-char b t n f) ∙ behind-made (λ (xs : Bytes). x ++ xs) (string r)
-
--- the same of the loop over characters, whatever its bound
-pub behind-chars-char : (n b : ℕ) (t : Text) {r : Text} → (b ≡ 0x22 → ⊥) → behind (char (b ∷ t)) ≡ some r → behind (chars (suc n) (b ∷ t)) ≡ behind (chars n r)
-behind-chars-char n b t {r} h e =
-    let (x, f) = behind-some (char (b ∷ t)) e in
-    ap behind (chars-char n b t (ne-eqb b 0x22 h) f) ∙ behind-made (λ (xs : Bytes). x ++ xs) (chars n r)
 
 -- ---- containers, with no bound
 

@@ -70,10 +70,6 @@ pub hexDigits-more : (n sofar b : ℕ) (t : Text) {d : ℕ} → hexDigit b ≡ s
 unfolding hexDigits
 hexDigits-more n sofar b t e = rw (hexDigits, e)
 
-pub hexDigits-none : (n sofar b : ℕ) (t : Text) → hexDigit b ≡ none → hexDigits (suc n) sofar (b ∷ t) ≡ none
-unfolding hexDigits
-hexDigits-none n sofar b t e = rw (hexDigits, e)
-
 pub hexDigits-reads : (n sofar : ℕ) → EachTakes n (hexDigits n sofar)
 unfolding hexDigits
 hexDigits-reads zero sofar x t r e = taken e (reads-none (λ w. refl))

@@ -1,5 +1,5 @@
 -- `records_of` meets its contract.
-use mathlib.Core.Path.{sym, subst}
+use mathlib.Core.Path.{subst}
 use borrow.Author.Needs.{needs}
 use Rattle.shown.specs.Shown.{WritesIt, AddingIs}
 use Rattle.shown.proofs.Lines.{shown-records, shown-nothing}

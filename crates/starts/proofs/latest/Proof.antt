@@ -3,7 +3,6 @@ use mathlib.Core.Path.{sym, _∙_}
 use Rattle.rules.specs.Starts.{logOf}
 use Rattle.bundle.specs.Files.{filesIn}
 use Rattle.starts.proofs.Starting.{latest-marked, latest-unmarked}
-use native.Mathlib.Omega.{arith}
 use borrow.Author.Needs.{needs}
 use Rattle.starts.proofs.latest.Statement.{statement}
 use Rattle.starts.proofs.latest.Tie as tie

@@ -1,13 +1,12 @@
 -- The marker file, its version and the start there, one after the other.
-use mathlib.Core.Path.{_≡_, sym, ap, subst, _∙_}
+use mathlib.Core.Path.{sym, ap, subst, _∙_}
 use Rattle.rules.specs.Starts.{logOf}
-use Rattle.bundle.specs.Files.{filesIn, fileIn}
+use Rattle.bundle.specs.Files.{filesIn}
 use Rattle.logs.specs.Logs.{PlaceIs}
 use Rattle.rules.specs.Marker.{markerVersion}
 use Rattle.values.proofs.Back.{whole-number, whole-not}
 use Rattle.starts.specs.Marks.{markIs}
 use Rattle.starts.proofs.Starting.{marked-none, marked-unread, marked-dead, marked-at}
-use native.Mathlib.Omega.{arith}
 use borrow.Author.Needs.{needs}
 use Rattle.starts.proofs.marked.Statement.{statement}
 use Rattle.starts.proofs.marked.Tie as tie

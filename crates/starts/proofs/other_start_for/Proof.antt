@@ -4,7 +4,6 @@ use Rattle.rules.specs.Starts.{logOf}
 use Rattle.bundle.specs.Files.{filesIn}
 use Rattle.logs.specs.Logs.{PlaceIs}
 use Rattle.starts.proofs.Starting.{other-zero, other-gap, other-falling, start-onward}
-use native.Mathlib.Omega.{arith}
 use borrow.Author.Needs.{needs}
 use Rattle.starts.proofs.other_start_for.Statement.{statement}
 use Rattle.starts.proofs.other_start_for.Tie as tie

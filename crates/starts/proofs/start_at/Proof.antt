@@ -1,10 +1,9 @@
 -- The checkpoint at v, where its body is well formed.
-use mathlib.Core.Path.{_≡_, sym, ap, subst, _∙_}
+use mathlib.Core.Path.{sym, ap, subst, _∙_}
 use Rattle.rules.specs.Starts.{logOf, wellFormed}
 use Rattle.bundle.specs.Files.{filesIn, fileIn}
 use Rattle.logs.specs.Logs.{PlaceIs}
 use Rattle.starts.proofs.Starting.{start-none, start-good, start-bad}
-use native.Mathlib.Omega.{arith}
 use borrow.Author.Needs.{needs}
 use Rattle.starts.proofs.start_at.Statement.{statement}
 use Rattle.starts.proofs.start_at.Tie as tie

@@ -1,6 +1,5 @@
 -- `protocol_in` meets its contract. Its fields, one after another.
 use mathlib.Core.Path.{sym, subst, _∙_}
-use mathlib.Core.Bool.{true, false}
 use Rattle.kinds.specs.Kinds.{namesOf}
 use Rattle.kinds.specs.declared.Kind.the-variants.{Protocol}
 use Rattle.values.proofs.Back.{whole-number, whole-not}

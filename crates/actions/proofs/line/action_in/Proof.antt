@@ -1,6 +1,6 @@
 -- `action_in` meets its contract, by the places.
-use mathlib.Core.Path.{_≡_, subst}
-use Prim.Native.Nat.{ℕ, _<_}
+use mathlib.Core.Path.{subst}
+use Prim.Native.Nat.{ℕ}
 use Rattle.actions.specs.Begun.{Lined}
 use Rattle.actions.proofs.Lines.{place-three}
 use borrow.Author.Needs.{needs}

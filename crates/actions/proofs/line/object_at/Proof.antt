@@ -1,7 +1,7 @@
 -- `object_at` meets its contract. One scan of the object in its place, and the end of the line.
 use mathlib.Core.Path.{sym, subst, _∙_}
 use Prim.Native.Nat.{_+_, _≤_}
-use lib.ListN.{length, drop}
+use lib.ListN.{drop}
 use Rattle.rules.specs.Actions.{inAction}
 use Rattle.rules.specs.Json.Values.{contents, value}
 use Rattle.text.specs.Answers.{Answer}

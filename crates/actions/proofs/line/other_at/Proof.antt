@@ -1,6 +1,6 @@
 -- `other_at` meets its contract. Any value, and the end of the line.
 use mathlib.Core.Path.{sym, subst, _∙_}
-use Prim.Native.Nat.{_+_, _≤_, _<_}
+use Prim.Native.Nat.{_+_, _≤_}
 use Rattle.rules.specs.Actions.{inLine}
 use Rattle.text.specs.Answers.{Answer}
 use Rattle.actions.proofs.Lines.{begun-no-value, begun-unended, begun-mergeskip, begun-other, above}

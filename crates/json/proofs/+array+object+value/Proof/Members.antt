@@ -2,7 +2,7 @@
 use Prim.Native.Nat.{ℕ, _-_}
 use borrow.Author.Needs.{needs}
 use lib.ListN.{length}
-use mathlib.Core.Path.{subst, _∙_}
+use mathlib.Core.Path.{subst}
 use native.Mathlib.Nat.{le-trans}
 use native.Mathlib.Omega.{arith}
 use Rattle.rules.specs.Json.Values.{member, contents, value as rValue}

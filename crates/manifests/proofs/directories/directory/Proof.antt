@@ -1,5 +1,5 @@
 -- `directory` meets its contract. By where the last slash stands and how the path begins.
-use mathlib.Core.Path.{sym, ap, _∙_, subst}
+use mathlib.Core.Path.{sym, _∙_, subst}
 use native.Mathlib.Omega.{arith}
 use lib.Seq.{length-take-le}
 use Prim.Native.Nat.{_<_}

@@ -6,7 +6,6 @@ use lib.ListN.{length, drop}
 use lib.Seq.{drop-length}
 use Rattle.rules.specs.Manifests.{slash, hasSlash}
 use Rattle.manifests.proofs.Slashes.{slashed-at, slash-not-at}
-use borrow.Author.Needs.{needs}
 use native.Mathlib.Omega.{arith}
 use Rattle.manifests.proofs.directories.last_slash.Statement.{statement}
 use Rattle.manifests.proofs.directories.last_slash.Tie as tie

@@ -1,5 +1,5 @@
 -- `keep` meets its contract. By the room, the query, the state manifest and the number of its manifests, in the paper's order.
-use mathlib.Core.Path.{_≡_, refl, sym, _∙_, subst}
+use mathlib.Core.Path.{refl, _∙_, subst}
 use Prim.Native.Nat.{_≤_, _<_}
 use native.Mathlib.Omega.{arith}
 use borrow.Author.Needs.{needs}

@@ -1,5 +1,5 @@
 -- `object_of` meets its contract. By the brace, by what the scan says, and by what stands behind.
-use mathlib.Core.Path.{sym, ap, _∙_, subst}
+use mathlib.Core.Path.{_∙_, subst}
 use lib.ListN.{drop}
 use borrow.Author.Needs.{needs}
 use borrow.Author.Tests.{not-true, not-false}
