@@ -4,7 +4,7 @@ use mathlib.Core.Bool.{Bool, true, false}
 use mathlib.Core.Option.{Option, none, some}
 use mathlib.Core.List.{List, [], _∷_}
 use Prim.Native.Nat.{ℕ}
-use Rattle.rules.specs.Bytes.{Bytes, ascii, _>>=_, guard, same, isEmpty}
+use Rattle.rules.specs.Bytes.{Bytes, ascii, _>>=_, same}
 use Rattle.rules.specs.Json.Text.{Text, byte}
 use lib.ListN.{drop}
 use Rattle.rules.specs.Json.Values.{Member, contents, value}

@@ -1,11 +1,9 @@
 -- `picks` meets its contract: the line of the row is an add, whose values are asked.
 use mathlib.Core.Path.{sym, ap, subst, _∙_}
-use native.Mathlib.Omega.{arith}
 use borrow.Author.Needs.{needs}
 use Rattle.rules.specs.Picking.{meetsAll}
 use Rattle.facts.specs.Parts.{part}
 use Rattle.actions.specs.Line.{ActionIs}
-use Rattle.query.specs.Reading.{conditionsOf}
 use Rattle.picking.proofs.Adds.{facts-at, not-malformed, not-remove, not-protocol, not-metaData, not-mergeskip, not-other}
 use Rattle.picking.proofs.picks.Statement.{statement}
 use Rattle.picking.proofs.picks.Tie as tie
