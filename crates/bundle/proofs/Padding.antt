@@ -1,20 +1,20 @@
 -- A name and the zeros behind it, byte by byte.
-use mathlib.Core.Path.{_≡_, refl}
-use mathlib.Core.Bool.{Bool, true, false}
+use mathlib.Core.Path.{_≡_, refl, ap}
+use mathlib.Core.Bool.{Bool, true, false, _||_, true≢false}
 use mathlib.Core.Option.{Option, none, some}
 use mathlib.Core.List.{[], _∷_}
 use Prim.Native.Nat.{ℕ, suc, _+_, _≤_, _<_}
 use native.Mathlib.Nat.{not-suc-le-zero}
 use native.Mathlib.Omega.{arith}
-use lib.Dec.{leb}
+use lib.Dec.{eqb, leb}
 use lib.ListN.{length, drop, getD, drop-of-length-le}
-use borrow.Author.Tests.{eq-eqb, ne-eqb, le-leb}
+use borrow.Author.Tests.{eq-eqb, ne-eqb, eqb-false, le-leb}
 use Rattle.facts.proofs.Lists.{drop-here}
 use Rattle.rules.specs.Bytes.{Bytes, among, _>>=_, guard}
 use Rattle.rules.specs.Bundle.{zeros, unpadded, nameIn}
 use Rattle.rules.proofs.Order.{le-among, among-true}
 use Rattle.rules.proofs.Tests.{false-of}
-use Rattle.bundle.specs.Files.{isSome, nameSize}
+use Rattle.bundle.specs.Files.{isSome, nameSize, Filled}
 
 -- ---- a byte of a name
 
@@ -61,6 +61,17 @@ module _ (p : Bytes) (i : ℕ) (h : i < length p) where
       go : (z : Bool) → isSome {A = Bytes} (elim z [ true ↦ some [] | false ↦ none ]) ≡ z
       go true = refl
       go false = refl
+
+-- ---- from place i on, by tests side by side
+
+pub filled-one : (p : Bytes) (i : ℕ) → i < length p → eqb (getD p i 0) 0 ≡ false → Filled p i 1
+filled-one p i h e = omega (arith, nameSize-more p i h (eqb-false (getD p i 0) 0 e))
+
+pub filled-both : (p : Bytes) (i m n k : ℕ) (x y : Bool) → m + n ≡ k → (x ≡ false → Filled p i m) → (y ≡ false → Filled p (i + m) n) → x || y ≡ false → Filled p i k
+filled-both p i m n k true y q f g e = absurd (true≢false e)
+filled-both p i m n k false y q f g e =
+    let place : i + m + n ≡ i + k = omega arith in
+    omega (arith, f refl, g e, ap (λ (l : ℕ). nameSize (drop l p)) place)
 
 -- ---- at its end
 

@@ -1,4 +1,5 @@
 -- The files of a bundle by their number, and what is left of a bundle behind the entries that were passed.
+use mathlib.Core.Path.{_≡_}
 use mathlib.Core.Bool.{Bool, true, false, _&&_}
 use mathlib.Core.Option.{Option, none, some}
 use mathlib.Core.List.{List, [], _∷_}
@@ -36,6 +37,10 @@ fileIn s k = getD (filesIn s) k noFile
 unfoldable pub nameSize : Bytes → ℕ
 nameSize [] = 0
 nameSize (b ∷ bs) = elim (eqb b 0) [ true ↦ 0 | false ↦ suc (nameSize bs) ]
+
+-- there is no zero among the n bytes from i on
+abbrev pub Filled : Bytes → (i n : ℕ) → Type 0
+Filled p i n = nameSize (drop i p) ≡ n + nameSize (drop (i + n) p)
 
 -- ---- what is left
 

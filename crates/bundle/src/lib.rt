@@ -1,5 +1,7 @@
 // The bundle: which byte strings are well-formed, and of one that is, each file's name, body and modified time.
 // Names and bodies are handed on as parts of the bundle; nothing is copied.
+mod sized;
+
 use names::Millis;
 use names::Name;
 use values::Order;
@@ -109,7 +111,7 @@ fn name_fits(p: &[u8]) -> bool
 fn name_size(p: &[u8]) -> usize
     ensures { λ r. ⌜ (r ≡ nameSize (now (p .entry))) × (r ≤ length (now (p .entry))) ⌝ }
 {
-    let mut i = 0;
+    let mut i = sized::skip_filled(p);
     while i < p.len() {
         if p[i] == 0 {
             return i;

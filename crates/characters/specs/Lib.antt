@@ -1,2 +1,3 @@
 -- What the scanners of characters promise, in the rules' terms.
 pub mod Leading
+pub mod Runs

@@ -1,7 +1,9 @@
 // The characters of JSON's strings, as they are, in UTF-8, or escaped; and strings up to their closing quote.
+mod plain;
 mod strings;
 mod utf8;
 
+pub use plain::skip_plain;
 pub use strings::skip_char;
 pub use strings::skip_string;
 pub use utf8::is_plain;

@@ -1,4 +1,5 @@
 // Strings of JSON, behind the opening quote: characters up to the closing one.
+use crate::plain::skip_plain;
 use crate::utf8::BACKSLASH;
 use crate::utf8::QUOTE;
 use crate::utf8::is_plain;
@@ -34,7 +35,7 @@ pub fn skip_string(s: &[u8], at: usize) -> Next
     requires { ⌜ at ≤ length (now s) ⌝ }
     ensures { λ r. ⌜ Answer (behind (string (drop at (now (s .entry))))) (now (s .entry)) (at + 1) r ⌝ }
 {
-    let mut i = at;
+    let mut i = skip_plain(s, at);
     while i < s.len() {
         let b = s[i];
         if is_plain(b) {

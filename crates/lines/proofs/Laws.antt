@@ -1,21 +1,21 @@
 -- What the end of a line says of the lines of a text, and of bytes lent as one.
-use mathlib.Core.Path.{_≡_, refl, sym, _∙_}
+use mathlib.Core.Path.{_≡_, refl, sym, _∙_, subst}
 use mathlib.Core.Logic.{_⊎_, inl, inr}
-use mathlib.Core.Bool.{true, false}
+use mathlib.Core.Bool.{Bool, true, false, _||_, true≢false}
 use mathlib.Core.List.{[], _∷_}
 use Prim.Native.Nat.{ℕ, zero, suc, _+_, _≤_, _<_}
 use native.Mathlib.Omega.{arith}
 use native.Mathlib.Nat.{not-suc-le-zero, eq-or-lt-of-le}
-use lib.Dec.{eqb}
+use lib.Dec.{eqb, leb}
 use lib.ListN.{length, getD}
-use borrow.Author.Tests.{eq-eqb, ne-eqb, eqb-true, eqb-false}
+use borrow.Author.Tests.{eq-eqb, ne-eqb, eqb-true, eqb-false, leb-true, leb-false}
 use Rattle.facts.specs.Parts.{part}
 use Rattle.rules.specs.Bytes.{Bytes}
 use Rattle.rules.specs.Lines.{lines}
 use Rattle.rules.specs.Actions.{isLine}
 use Rattle.rules.proofs.Tests.{by}
 use Rattle.rules.proofs.Lines.{lines-part}
-use Rattle.lines.specs.Ends.{EndsLine}
+use Rattle.lines.specs.Ends.{EndsLine, Free}
 
 -- the first line, and then the lines of the rest
 pub ends-lines : (s : Bytes) (a e b : ℕ) → a < b → b ≤ length s → EndsLine s a b e → lines (part s a b) ≡ part s a e ∷ lines (part s (e + 1) b)
@@ -52,10 +52,6 @@ ends-isLine l e x = by (eqb e (length l)) whole cut
 
 -- ---- the search
 
--- no 0x0A from a up to i
-abbrev pub Free : Bytes → (a i : ℕ) → Type 0
-Free s a i = (j : ℕ) → a ≤ j → j < i → getD s j 0 ≡ 0x0A → ⊥
-
 pub free-none : (s : Bytes) (a : ℕ) → Free s a a
 free-none s a j h m e = absurd (omega arith)
 
@@ -65,3 +61,15 @@ free-more s a i f n j h m e = go (eq-or-lt-of-le {n = j} {m = i} (omega arith))
     go : (j ≡ i) ⊎ (j < i) → ⊥
     go (inl q) = n (rw q at e)
     go (inr l) = f j h l e
+
+pub free-joined : (s : Bytes) (a b c : ℕ) → Free s a b → Free s b c → Free s a c
+free-joined s a b c f g j h m e =
+    by (leb b j) (λ t. g j (leb-true b j t) m e) (λ u. f j h (leb-false b j u) e)
+
+pub free-one : (s : Bytes) (i : ℕ) → eqb (getD s i 0) 0x0A ≡ false → Free s i (i + 1)
+free-one s i e = free-more s i i (free-none s i) (eqb-false (getD s i 0) 0x0A e)
+
+-- two tests side by side, of what lies before b and of what lies behind it
+pub free-both : (s : Bytes) (a b c : ℕ) {d : ℕ} (x y : Bool) → d ≡ c → (x ≡ false → Free s a b) → (y ≡ false → Free s b d) → x || y ≡ false → Free s a c
+free-both s a b c true y q f g e = absurd (true≢false e)
+free-both s a b c false y q f g e = subst (Free s a) q (free-joined s a b _ (f refl) (g e))

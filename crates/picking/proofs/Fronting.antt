@@ -12,6 +12,7 @@ use Rattle.facts.proofs.Rows.{length-rowsOf, take-rowsOf}
 use Rattle.facts.proofs.Kept.{compacting-start, compacting-past, compacting-keep, compacting-end}
 use Rattle.rules.specs.Bytes.{keepIf}
 use Rattle.rules.specs.Json.Text.{Text}
+use Rattle.rules.specs.Actions.{Facts}
 use Rattle.rules.specs.Query.{Condition}
 use Rattle.rules.specs.Picking.{meetsAll, picked}
 use Rattle.table.specs.Table.{wide, row, rows, rowAt, behind, Changed}
@@ -29,6 +30,24 @@ picked-map src cs (c ∷ xs) = go (picked-map src cs xs) (meetsAll cs (factsAt s
         → picked cs (map (rowOf src) (c ∷ xs)) ≡ map (rowOf src) (kept (λ (c : Cells). meetsAll cs (factsAt src c)) (c ∷ xs))
     go ih true e = rw (picked, kept, keepIf, e, ih)
     go ih false e = rw (picked, kept, keepIf, e, ih)
+
+kept-all : {A : Type 0} (test : A → Bool) → ((x : A) → test x ≡ true) → (xs : List A) → kept test xs ≡ xs
+unfolding kept
+kept-all test h [] = refl
+kept-all test h (x ∷ xs) = rw (kept, h x, kept-all test h xs)
+
+meetsAll-none : (cs : List Condition) (f : Facts) → cs ≡ [] → meetsAll cs f ≡ true
+unfolding meetsAll
+meetsAll-none cs f e = rw (e, meetsAll)
+
+-- where nothing is asked every row is picked, as it stands
+pub picks-all : (src : Text) (cs : List Condition) (n : ℕ) (t : List ℕ) → cs ≡ [] → Picks src cs n t n t
+picks-all src cs n t e = record {
+  few = omega arith;
+  holds = sym (kept-all (λ (c : Cells). meetsAll cs (factsAt src c)) (λ c. meetsAll-none cs (factsAt src c) e) (rows n t));
+  rest = refl;
+  length = refl;
+}
 
 -- of the n rows of t₀, k are passed, and the m of them that are picked stand at the front of t
 pub record Fronting (src : Text) (cs : List Condition) (n : ℕ) (t₀ t : List ℕ) (k m : ℕ) : Type 0 where

@@ -74,8 +74,8 @@ pub fn picks(src: &[u8], c: Cells, q: &[u8], asked: Query) -> bool
     }
 }
 
-// Moves the rows of the picked files to the front, in order. Answers how many they are; what else stands in the n rows may be anything.
-pub fn pick(src: &[u8], t: &mut [u64], n: usize, q: &[u8], asked: Query) -> usize
+// Moves the rows of the picked files to the front, in order, each row tested. Answers how many they are.
+fn move_picked(src: &[u8], t: &mut [u64], n: usize, q: &[u8], asked: Query) -> usize
     requires { ⌜ Room n (now t) × All (Stands (now src)) (rows n (now t)) × Sounds (now q) (asked .count) (asked .conditions) ⌝ }
     ensures { λ m. ⌜ Picks (now (src .entry)) (conditionsOf (now (q .entry)) (asked .count) (asked .conditions)) n (now (t .entry)) m (now (t .exit)) ⌝ }
 {
@@ -92,4 +92,15 @@ pub fn pick(src: &[u8], t: &mut [u64], n: usize, q: &[u8], asked: Query) -> usiz
         }
     }
     m
+}
+
+// Moves the rows of the picked files to the front, in order. Answers how many they are; what else stands in the n rows may be anything.
+pub fn pick(src: &[u8], t: &mut [u64], n: usize, q: &[u8], asked: Query) -> usize
+    requires { ⌜ Room n (now t) × All (Stands (now src)) (rows n (now t)) × Sounds (now q) (asked .count) (asked .conditions) ⌝ }
+    ensures { λ m. ⌜ Picks (now (src .entry)) (conditionsOf (now (q .entry)) (asked .count) (asked .conditions)) n (now (t .entry)) m (now (t .exit)) ⌝ }
+{
+    if asked.count == 0 {
+        return n; // no condition: every file is picked, and no line has to be read again
+    }
+    move_picked(src, t, n, q, asked)
 }

@@ -21,7 +21,7 @@ pub fn scan_string(s: &[u8], at: usize) -> Spelling
     requires { ⌜ at ≤ length (now s) ⌝ }
     ensures { λ r. ⌜ Scanned (now (s .entry)) at r ⌝ }
 {
-    let mut i = at;
+    let mut i = characters::skip_plain(s, at);
     while i < s.len() {
         let b = s[i];
         if is_plain(b) {

@@ -11,3 +11,7 @@ pub record Common (s : Text) (i : ℕ) (t : Text) (j n : ℕ) : Type 0 where
   pub same : order (flat (drop i s)) (flat (drop j t)) ≡ order (flat (drop (i + n) s)) (flat (drop (j + n) t))
   pub first : i + n ≤ length s
   pub second : j + n ≤ length t
+
+-- a byte that is the same in both and stands for itself
+abbrev pub Themselves : (b c : ℕ) → Type 0
+Themselves b c = (b ≡ c) × (b ≡ 0x22 → ⊥) × (b ≡ 0x5C → ⊥)

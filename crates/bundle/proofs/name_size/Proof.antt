@@ -1,5 +1,6 @@
 -- The bytes passed, and the size of what is left.
 use native.Mathlib.Omega.{arith}
+use borrow.Author.Needs.{needs}
 use Rattle.bundle.proofs.name_size.Statement.{statement}
 use Rattle.bundle.proofs.name_size.Tie as tie
 use mathlib.Core.Path.{_≡_}
@@ -14,8 +15,11 @@ Inv-loop p i₀ i = (i ≤ length p) × (nameSize p ≡ i + nameSize (drop i p))
 abbrev μ-loop : tie.MeasureT-loop
 μ-loop p i₀ i = length p - i
 
+skip-filled-requires : tie.Need-skip-filled-requires Inv-loop μ-loop
+skip-filled-requires c κs = search needs
+
 loop-holds : tie.Need-loop-holds Inv-loop μ-loop
-loop-holds c = (omega arith, omega arith)
+loop-holds c = c .skip-filled .ensures
 
 shared-slice-read-if1 : tie.Need-shared-slice-read-if1 Inv-loop μ-loop
 shared-slice-read-if1 c = omega arith
@@ -23,7 +27,7 @@ shared-slice-read-if1 c = omega arith
 returns : tie.Need-returns Inv-loop μ-loop
 returns c =
     let h = c .before .before .before .loop in
-    let z = nameSize-here (c .before .before .before .before .args .p .now) (h .i) (omega arith) (c .if1 .taken) in
+    let z = nameSize-here (c .before .before .before .before .before .before .args .p .now) (h .i) (omega arith) (c .if1 .taken) in
     (omega arith, omega arith)
 
 add-i : tie.Need-add-i Inv-loop μ-loop
@@ -35,13 +39,13 @@ loop-less c = omega arith
 loop-again : tie.Need-loop-again Inv-loop μ-loop
 loop-again c =
     let h = c .before .before .before .loop in
-    let z = nameSize-more (c .before .before .before .before .args .p .now) (h .i) (omega arith) (c .if1 .left) in
+    let z = nameSize-more (c .before .before .before .before .before .before .args .p .now) (h .i) (omega arith) (c .if1 .left) in
     (omega arith, omega arith)
 
 returns-2 : tie.Need-returns-2 Inv-loop μ-loop
 returns-2 c =
     let h = c .before .loop in
-    let z = nameSize-end (c .before .before .args .p .now) (h .i) (omega arith) in
+    let z = nameSize-end (c .before .before .before .before .args .p .now) (h .i) (omega arith) in
     (omega arith, omega arith)
 
 pub name-size-spec : {M : Type 1} → statement M
@@ -50,6 +54,7 @@ name-size-spec =
     (tie.spec
     Inv-loop
     μ-loop
+    skip-filled-requires
     loop-holds
     shared-slice-read-if1
     returns

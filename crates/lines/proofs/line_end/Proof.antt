@@ -1,7 +1,9 @@
--- The invariant: no line feed has been passed. The measure is what is left before `to`.
+-- The invariant: no line feed has been passed, neither by sixteens nor one by one. The measure is what is left before `to`.
 use native.Mathlib.Omega.{arith}
+use borrow.Author.Needs.{needs}
 use Prim.Native.Nat.{_≤_, _-_}
-use Rattle.lines.proofs.Laws.{Free, free-none, free-more}
+use Rattle.lines.specs.Ends.{Free}
+use Rattle.lines.proofs.Laws.{free-more}
 use Rattle.lines.proofs.line_end.Statement.{statement}
 use Rattle.lines.proofs.line_end.Tie as tie
 
@@ -11,8 +13,11 @@ Inv-loop s from to i₀ i = (from ≤ i) × (i ≤ to) × Free s from i
 abbrev μ-loop : tie.MeasureT-loop
 μ-loop s from to i₀ i = to - i
 
+skip-sixteens-requires : tie.Need-skip-sixteens-requires Inv-loop μ-loop
+skip-sixteens-requires c κs = search needs
+
 loop-holds : tie.Need-loop-holds Inv-loop μ-loop
-loop-holds c = (omega arith, omega arith, free-none (c .args .s .now) (c .args .from))
+loop-holds c = c .skip-sixteens .ensures
 
 shared-slice-read-if1 : tie.Need-shared-slice-read-if1 Inv-loop μ-loop
 shared-slice-read-if1 c = omega arith
@@ -36,8 +41,8 @@ loop-again c = (
   omega arith,
   omega arith,
   free-more
-      (c .before .before .before .before .args .s .now)
-      (c .before .before .before .before .args .from)
+      (c .before .before .before .before .before .before .args .s .now)
+      (c .before .before .before .before .before .before .args .from)
       (c .before .before .before .loop .i)
       (c .before .before .before .loop .inv .2)
       (c .if1 .left),
@@ -57,6 +62,7 @@ line-end-spec =
     (tie.spec
     Inv-loop
     μ-loop
+    skip-sixteens-requires
     loop-holds
     shared-slice-read-if1
     returns

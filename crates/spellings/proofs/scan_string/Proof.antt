@@ -4,6 +4,7 @@ use borrow.Author.Needs.{needs}
 use lib.ListN.{length}
 use mathlib.Core.Path.{sym, subst, _∙_}
 use native.Mathlib.Omega.{arith}
+use Rattle.characters.proofs.Runs.{plains-keep}
 use Rattle.text.specs.Answers.{Answer}
 use Rattle.spellings.proofs.Scanning.{Scanning, scanning-start, scanning-no-rest, scanning-ended, scanning-quote, scanning-backslash, scanning-bad, scanning-more, scanning-plain}
 use Rattle.spellings.proofs.scan_string.Statement.{statement}
@@ -15,8 +16,13 @@ Inv-loop s at i₀ i = Scanning s at i
 abbrev μ-loop : tie.MeasureT-loop
 μ-loop s at i₀ i = length s - i
 
+skip-plain-requires : tie.Need-skip-plain-requires Inv-loop μ-loop
+skip-plain-requires c κs = search needs
+
 loop-holds : tie.Need-loop-holds Inv-loop μ-loop
-loop-holds c = scanning-start (c .before .pre)
+loop-holds c =
+    let e = c .skip-plain .ensures in
+    plains-keep (Scanning _ _) (c .before .before .args .s .now) (λ i t h p. scanning-plain t h p) (c .before .before .args .at) (c .skip-plain .result) (e .0) (e .1) (e .2) (scanning-start (c .before .before .pre))
 
 shared-slice-read-b : tie.Need-shared-slice-read-b Inv-loop μ-loop
 shared-slice-read-b c = omega arith
@@ -70,7 +76,7 @@ loop-less-2 : tie.Need-loop-less-2 Inv-loop μ-loop
 loop-less-2 c =
     let e = subst (Answer _ _ _) (c .before .k .given .1) (c .before .before .before .skip-unescaped .ensures) in
     let l : (c .before .before .before .before .before .before .before .before .before .before .loop .i) + 1 ≤ (c .before .k .given .0 .0) = e .1 in
-    let w : (c .before .k .given .0 .0) ≤ length (c .before .before .before .before .before .before .before .before .before .before .before .before .args .s .now) = e .2 in
+    let w : (c .before .k .given .0 .0) ≤ length (c .before .before .before .before .before .before .before .before .before .before .before .before .before .args .s .now) = e .2 in
     omega arith
 
 loop-again-2 : tie.Need-loop-again-2 Inv-loop μ-loop
@@ -87,6 +93,7 @@ scan-string-spec =
     (tie.spec
     Inv-loop
     μ-loop
+    skip-plain-requires
     loop-holds
     shared-slice-read-b
     is-plain-requires

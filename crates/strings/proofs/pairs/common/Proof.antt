@@ -4,7 +4,7 @@ use borrow.Author.Needs.{needs}
 use lib.ListN.{length}
 use native.Mathlib.Omega.{arith}
 use Rattle.strings.specs.Alike.{Common}
-use Rattle.strings.proofs.Orders.{common-start, common-more}
+use Rattle.strings.proofs.Orders.{common-more}
 use Rattle.strings.proofs.pairs.common.Statement.{statement}
 use Rattle.strings.proofs.pairs.common.Tie as tie
 
@@ -23,8 +23,13 @@ sub-lesser-2 c = omega arith
 lesser-requires : tie.Need-lesser-requires Inv-loop μ-loop
 lesser-requires c κs = search needs
 
+common-sixteens-requires : tie.Need-common-sixteens-requires Inv-loop μ-loop
+common-sixteens-requires c κs =
+    let p = c .before .before .before .pre in
+    (omega (arith, c .lesser .ensures .0, p .0), omega (arith, c .lesser .ensures .1, p .1))
+
 loop-holds : tie.Need-loop-holds Inv-loop μ-loop
-loop-holds c = (omega arith, (c .lesser .ensures .0), (c .lesser .ensures .1), common-start (c .before .before .before .pre .0) (c .before .before .before .pre .1))
+loop-holds c = (c .common-sixteens .ensures .0, c .before .lesser .ensures .0, c .before .lesser .ensures .1, c .common-sixteens .ensures .1)
 
 add-b : tie.Need-add-b Inv-loop μ-loop
 add-b c = omega arith
@@ -68,6 +73,7 @@ common-spec =
     sub-lesser
     sub-lesser-2
     lesser-requires
+    common-sixteens-requires
     loop-holds
     add-b
     shared-slice-read-b
