@@ -10,7 +10,7 @@ use Rattle.demands.proofs.Ending.{reading-ends, keeping-ends, cleaning-
 use Rattle.demands.proofs.LentRooms.{reading-room-ends, keeping-room-ends, cleaning-rooms-end}
 use Rattle.demands.proofs.Exactly.{reading-exactly}
 use Rattle.demands.proofs.KeepingExactly.{keeping-exactly}
-use Rattle.demands.proofs.CleaningWords.{named-exactly}
+use Rattle.demands.proofs.CleaningWords.{other-from-the-highest, named-exactly}
 use Rattle.demands.proofs.CleaningExactly.{cleaning-exactly}
 use Rattle.demands.proofs.Replayed.{replays-exactly}
 use Rattle.demands.proofs.Choosing.{picks-exactly, keeps-exactly, writable-exactly}
@@ -33,6 +33,7 @@ demand-1 = record {
 pub demand-2 : Demand2
 demand-2 = record {
   way = read-from-the-highest;
+  other = other-from-the-highest;
   latest = latest-stops;
   live = replays-exactly;
   verdict = writable-exactly;

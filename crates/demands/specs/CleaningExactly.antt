@@ -17,7 +17,7 @@ use Rattle.rules.specs.Rooms.{rowsRoom, namesRoom}
 use Rattle.rules.specs.Cleaning.{named, Lent, cleaning}
 use Rattle.rules.specs.Same.{SameState}
 use Rattle.rules.specs.Refusals.{Refusal, accepted, refused, roomTooShort, bundleMalformed, versionTooLarge, noVersionZero, malformed, tooManyLive, readerTooHigh, unknownFeature, notWritable, checkpointDisagrees}
-use Rattle.demands.specs.Reaching.{There, Reaches}
+use Rattle.demands.specs.Reaching.{Reaches, IsOther}
 use Rattle.demands.specs.Removed.{In}
 use Rattle.demands.specs.Met.{MetIn, MetInZero, MetOn}
 use Rattle.demands.specs.Exactly.{SomeTooLarge, Unknown, Readable}
@@ -30,10 +30,6 @@ Enough lent = (namesRoom ≤ lent .names) × (rowsRoom ≤ lent .table₁) × (r
 -- minWriterVersion above 3, or a writer feature that is unknown
 abbrev pub NotWritable : Protocol → Type 0
 NotWritable p = (knownWriter < p .minWriterVersion) ⊎ Unknown writerNames (p .writerFeatures)
-
--- a start other than the checkpoint at c: version file 0, or a checkpoint elsewhere
-abbrev pub IsOther : Log → (c s : ℕ) → Type 0
-IsOther log c s = ((s ≡ 0) × There (log .versionFile 0)) ⊎ (There (startAt log s) × (s ≡ c → ⊥))
 
 -- no start other than the checkpoint at c reaches c
 abbrev pub NoOther : Log → ℕ → Type 0

@@ -1,7 +1,7 @@
 -- The customer's three demands, as far as they speak of the rules. The promises of the code are equations with the rules' definitions,
 -- so that what is said here of `reading`, `keeping`, `cleaning` and of what is shown is said of the code.
 use Rattle.rules.specs.Edges.{Holds}
-use Rattle.demands.specs.Reaching.{ReadFromTheHighest, LatestStopsAtAGap}
+use Rattle.demands.specs.Reaching.{ReadFromTheHighest, OtherFromTheHighest, LatestStopsAtAGap}
 use Rattle.demands.specs.Removed.{RemovalKeepsOrder}
 use Rattle.demands.specs.FullHistory.{TrueIsReadable}
 use Rattle.demands.specs.FirstSentence.{FirstSentence, FullLogIsHistory}
@@ -31,6 +31,7 @@ pub record Demand1 : Type 0 where
 -- each refusal is given when its rule says so, and only then
 pub record Demand2 : Type 0 where
   pub way : ReadFromTheHighest
+  pub other : OtherFromTheHighest
   pub latest : LatestStopsAtAGap
   pub live : ReplaysExactly
   pub verdict : WritableExactly
