@@ -1,5 +1,5 @@
 -- The paper's words and the cleaner's tests: rooms long enough, not writable, another start, and what is named.
-use mathlib.Core.Path.{_≡_, refl, sym, subst}
+use mathlib.Core.Path.{_≡_, refl, subst}
 use mathlib.Core.Logic.{_⊎_, inl, inr}
 use mathlib.Core.Bool.{Bool, true, false, _&&_}
 use mathlib.Core.Option.{none, some}
@@ -13,14 +13,13 @@ use Rattle.rules.specs.Bytes.{allAmong, keepIf}
 use Rattle.rules.specs.Bundle.{File}
 use Rattle.rules.specs.Names.{nameOf, versionIn}
 use Rattle.rules.specs.Actions.{Protocol}
-use Rattle.rules.specs.Starts.{Log, Way, fromZero, andThen, onwardBy, byFile, wayTo, otherWayTo}
+use Rattle.rules.specs.Starts.{Log, Way, andThen, onwardBy, byFile, wayTo, otherWayTo}
 use Rattle.rules.specs.Gate.{knownWriter, writerNames, writable}
 use Rattle.rules.specs.Rooms.{rowsRoom, namesRoom}
 use Rattle.rules.specs.Cleaning.{isBetween, isOld, mayGo, named, Lent, enough}
 use Rattle.rules.proofs.Tests.{apart, and-left, and-right, and-both, and-fails-left, and-fails-right, true-not-false}
 use Rattle.demands.specs.Reaching.{There, IsStart, Reaches, From, at-checkpoint, at-zero, and-then, Highest, IsOther, FromOther, other-checkpoint, version-zero, and-after, HighestOther, OtherFromTheHighest}
-use Rattle.demands.specs.Removed.{In}
-use Rattle.demands.specs.CleaningExactly.{Enough, NotWritable, NoOther, IsNamed, SomeEntry, NamedExactly}
+use Rattle.demands.specs.CleaningExactly.{Enough, NotWritable, NoOther, IsNamed, Names, no-more, names, passes, NamedExactly}
 use Rattle.demands.proofs.Starts.{byFile-none, byFile-some, no-way-no-start, way-some-start, reaches-next, read-from-the-highest, not-there}
 use Rattle.demands.proofs.Words.{allAmong-unknown, unknown-allAmong}
 use Rattle.demands.proofs.LastSentence.{isBetween-version}
@@ -156,20 +155,9 @@ named-mayGo c now retention f ((w, n, a, b), old, more) =
 
 pub named-exactly : NamedExactly
 unfolding named keepIf
-named-exactly c now retention n [] = ((λ h. h), λ h. h)
-named-exactly c now retention n (f ∷ fs) = go (mayGo c now retention f) refl (named-exactly c now retention n fs)
+named-exactly c now retention [] = no-more
+named-exactly c now retention (f ∷ fs) = go (mayGo c now retention f) refl (named-exactly c now retention fs)
   where
-    go : (b : Bool) → mayGo c now retention f ≡ b → (In n (named c now retention fs) → SomeEntry (IsNamed c now retention) n fs) × (SomeEntry (IsNamed c now retention) n fs → In n (named c now retention fs))
-        → (In n (keepIf b (f .entry) (named c now retention fs)) → SomeEntry (IsNamed c now retention) n (f ∷ fs)) × (SomeEntry (IsNamed c now retention) n (f ∷ fs) → In n (keepIf b (f .entry) (named c now retention fs)))
-    go b e ih = (forth b e, back b e)
-      where
-        forth : (b : Bool) → mayGo c now retention f ≡ b → In n (keepIf b (f .entry) (named c now retention fs)) → SomeEntry (IsNamed c now retention) n (f ∷ fs)
-        forth true e (inl q) = inl (sym q, mayGo-named c now retention f e)
-        forth true e (inr h) = inr (ih .0 h)
-        forth false e h = inr (ih .0 h)
-
-        back : (b : Bool) → mayGo c now retention f ≡ b → SomeEntry (IsNamed c now retention) n (f ∷ fs) → In n (keepIf b (f .entry) (named c now retention fs))
-        back true e (inl (q, h)) = inl (sym q)
-        back true e (inr h) = inr (ih .1 h)
-        back false e (inl (q, h)) = absurd (true-not-false (named-mayGo c now retention f h) e)
-        back false e (inr h) = ih .1 h
+    go : (b : Bool) → mayGo c now retention f ≡ b → Names c now retention fs (named c now retention fs) → Names c now retention (f ∷ fs) (keepIf b (f .entry) (named c now retention fs))
+    go true e ih = names (mayGo-named c now retention f e) ih
+    go false e ih = passes (λ h. true-not-false (named-mayGo c now retention f h) e) ih
