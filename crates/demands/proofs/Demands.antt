@@ -13,6 +13,7 @@ use Rattle.demands.proofs.KeepingExactly.{keeping-exactly}
 use Rattle.demands.proofs.CleaningWords.{other-from-the-highest, named-exactly}
 use Rattle.demands.proofs.CleaningExactly.{cleaning-exactly}
 use Rattle.demands.proofs.Replayed.{replays-exactly}
+use Rattle.demands.proofs.Places.{rows-stand-in-the-bundle}
 use Rattle.demands.proofs.Choosing.{picks-exactly, keeps-exactly, writable-exactly}
 use Rattle.demands.proofs.Showing.{path-is-shown, records-are-shown, directory-is-shown}
 use Rattle.demands.proofs.WrongPrograms.{none-keeps-the-promise}
@@ -36,6 +37,7 @@ demand-2 = record {
   other = other-from-the-highest;
   latest = latest-stops;
   live = replays-exactly;
+  places = rows-stand-in-the-bundle;
   verdict = writable-exactly;
   picked = picks-exactly;
   kept = keeps-exactly;

@@ -11,6 +11,7 @@ use Rattle.demands.specs.Ending.{ReadingEnds, KeepingEnds, CleaningEnds,
 use Rattle.demands.specs.Exactly.{ReadingRefusesExactly, KeepingRefusesExactly}
 use Rattle.demands.specs.CleaningExactly.{CleaningRefusesExactly, NamedExactly}
 use Rattle.demands.specs.Replayed.{ReplaysExactly}
+use Rattle.demands.specs.Places.{RowsStandInTheBundle}
 use Rattle.demands.specs.Choosing.{PicksExactly, KeepsExactly, WritableExactly}
 use Rattle.demands.specs.Showing.{PathIsShown, RecordsAreShown, DirectoryIsShown}
 use Rattle.demands.specs.WrongPrograms.{NoneKeepsThePromise}
@@ -34,6 +35,7 @@ pub record Demand2 : Type 0 where
   pub other : OtherFromTheHighest
   pub latest : LatestStopsAtAGap
   pub live : ReplaysExactly
+  pub places : RowsStandInTheBundle
   pub verdict : WritableExactly
   pub picked : PicksExactly
   pub kept : KeepsExactly
