@@ -10,9 +10,10 @@ use Rattle.demands.proofs.Ending.{reading-ends, keeping-ends, cleaning-
 use Rattle.demands.proofs.LentRooms.{reading-room-ends, keeping-room-ends, cleaning-rooms-end}
 use Rattle.demands.proofs.Exactly.{reading-exactly}
 use Rattle.demands.proofs.KeepingExactly.{keeping-exactly}
-use Rattle.demands.proofs.CleaningWords.{named-exactly}
+use Rattle.demands.proofs.CleaningWords.{other-from-the-highest, named-exactly}
 use Rattle.demands.proofs.CleaningExactly.{cleaning-exactly}
 use Rattle.demands.proofs.Replayed.{replays-exactly}
+use Rattle.demands.proofs.Places.{rows-stand-in-the-bundle}
 use Rattle.demands.proofs.Choosing.{picks-exactly, keeps-exactly, writable-exactly}
 use Rattle.demands.proofs.Showing.{path-is-shown, records-are-shown, directory-is-shown}
 use Rattle.demands.proofs.WrongPrograms.{none-keeps-the-promise}
@@ -33,8 +34,10 @@ demand-1 = record {
 pub demand-2 : Demand2
 demand-2 = record {
   way = read-from-the-highest;
+  other = other-from-the-highest;
   latest = latest-stops;
   live = replays-exactly;
+  places = rows-stand-in-the-bundle;
   verdict = writable-exactly;
   picked = picks-exactly;
   kept = keeps-exactly;

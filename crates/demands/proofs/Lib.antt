@@ -16,6 +16,7 @@ pub mod KeepingExactly
 pub mod CleaningWords
 pub mod CleaningExactly
 pub mod Replayed
+pub mod Places
 pub mod Choosing
 pub mod Showing
 pub mod WrongPrograms

@@ -13,7 +13,7 @@ use Rattle.demands.specs.Removed.{SameFile, Without, end, keep, remove, 
 
 -- ---- lists
 
-all-both : (P Q : File → Type 0) (xs : List File) → All P xs → All Q xs → All (λ (x : File). P x × Q x) xs
+pub all-both : {A : Type 0} (P Q : A → Type 0) (xs : List A) → All P xs → All Q xs → All (λ (x : A). P x × Q x) xs
 unfolding All
 all-both P Q [] p q = tt
 all-both P Q (x ∷ xs) p q = ((p .0, q .0), all-both P Q xs (p .1) (q .1))

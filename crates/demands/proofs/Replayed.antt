@@ -1,9 +1,10 @@
--- Line by line, what is live at a path and what protocol is in force go as the actions say.
+-- Line by line, what is live at a path and what protocol is in force go as the lines say.
 use mathlib.Core.Path.{_≡_, refl, sym, _∙_, ap, subst}
 use mathlib.Core.Bool.{Bool, true, false}
 use mathlib.Core.Option.{Option, none, some}
 use mathlib.Core.List.{List, [], _∷_, _++_, append-nil}
 use Prim.Native.Nat.{ℕ, suc, _+_}
+use native.Mathlib.Omega.{arith}
 use lib.ListN.{length}
 use Rattle.rules.specs.Bytes.{Bytes, same}
 use Rattle.rules.specs.Bundle.{File}
@@ -22,55 +23,52 @@ use Rattle.rules.proofs.Replaying.{bind-accepted, withinLimit-accepted, effect-
 use Rattle.rules.proofs.Answers.{orRefuse-accepted}
 use Rattle.rules.proofs.Moving.{follow-table}
 use Rattle.rules.proofs.Json.Suffix.{some-same}
-use Rattle.demands.specs.Replayed.{actionsIn, actionsOn, after, afterAll, liveAt, lastProtocol, protocolBefore, tablesIn, ZeroSays, ReplaysExactly}
+use Rattle.demands.specs.Replayed.{Line, linesFrom, linesIn, linesOn, actions, after, afterAll, liveAt, lastProtocol, protocolBefore, tablesIn, ZeroSays, ReplaysExactly}
 
 -- ---- the live file at a path
 
-factsIn : Option Row → Option Facts
-factsIn none = none
-factsIn (some r) = some (r .facts)
-
-liveAt-lookup : (p : Bytes) (rs : List Row) → liveAt p rs ≡ factsIn (lookup pathOf p rs)
-unfolding liveAt lookup factsIn pathOf
+liveAt-lookup : (p : Bytes) (rs : List Row) → liveAt p rs ≡ lookup pathOf p rs
+unfolding liveAt lookup
 liveAt-lookup p [] = refl
-liveAt-lookup p (r ∷ rs) = go (same p (r .facts .path)) (liveAt-lookup p rs)
+liveAt-lookup p (r ∷ rs) = go (same p (pathOf r)) (liveAt-lookup p rs)
   where
-    go : (b : Bool) → liveAt p rs ≡ factsIn (lookup pathOf p rs)
-        → _≡_ {A = Option Facts} (elim b [ true ↦ some (r .facts) | false ↦ liveAt p rs ]) (factsIn (elim b as (λ _. Option Row) [ true ↦ some r | false ↦ lookup pathOf p rs ]))
+    go : (b : Bool) → liveAt p rs ≡ lookup pathOf p rs → _≡_ {A = Option Row} (elim b [ true ↦ some r | false ↦ liveAt p rs ]) (elim b [ true ↦ some r | false ↦ lookup pathOf p rs ])
     go true ih = refl
     go false ih = ih
 
-liveAt-put : (p : Bytes) (r : Row) (rs : List Row) → liveAt p (put pathOf r rs) ≡ after p (add (r .facts)) (liveAt p rs)
-unfolding after pathOf factsIn
-liveAt-put p r rs = by (same p (r .facts .path)) here there
+liveAt-put : (p : Bytes) (at size : ℕ) (f : Facts) (rs : List Row) → liveAt p (put pathOf (record { at = at; size = size; facts = f }) rs) ≡ after at size p (add f) (liveAt p rs)
+unfolding after pathOf
+liveAt-put p at size f rs = by (same p (f .path)) here there
   where
-    here : same p (r .facts .path) ≡ true → liveAt p (put pathOf r rs) ≡ after p (add (r .facts)) (liveAt p rs)
+    r : Row
+    r = record { at = at; size = size; facts = f }
+
+    here : same p (f .path) ≡ true → liveAt p (put pathOf r rs) ≡ after at size p (add f) (liveAt p rs)
     here e =
-        let q : p ≡ r .facts .path = same-true p (r .facts .path) e in
+        let q : p ≡ f .path = same-true p (f .path) e in
         let found : lookup pathOf p (put pathOf r rs) ≡ some r = subst (λ (x : Bytes). lookup pathOf x (put pathOf r rs) ≡ some r) (sym q) (lookup-put pathOf r rs) in
-        rw (after, e) (liveAt-lookup p (put pathOf r rs) ∙ ap factsIn found)
+        rw (after, e) (liveAt-lookup p (put pathOf r rs) ∙ found)
 
-    there : same p (r .facts .path) ≡ false → liveAt p (put pathOf r rs) ≡ after p (add (r .facts)) (liveAt p rs)
-    there e =
-        rw (after, e) (liveAt-lookup p (put pathOf r rs) ∙ ap factsIn (lookup-put-other pathOf p r rs (same-false p (r .facts .path) e)) ∙ sym (liveAt-lookup p rs))
+    there : same p (f .path) ≡ false → liveAt p (put pathOf r rs) ≡ after at size p (add f) (liveAt p rs)
+    there e = rw (after, e) (liveAt-lookup p (put pathOf r rs) ∙ lookup-put-other pathOf p r rs (same-false p (f .path) e) ∙ sym (liveAt-lookup p rs))
 
-liveAt-takeOut : (p q : Bytes) (rs : List Row) → Ascends pathOf rs → liveAt p (takeOut pathOf q rs) ≡ after p (remove q) (liveAt p rs)
-unfolding after factsIn
-liveAt-takeOut p q rs s = by (same p q) here there
+liveAt-takeOut : (p : Bytes) (at size : ℕ) (q : Bytes) (rs : List Row) → Ascends pathOf rs → liveAt p (takeOut pathOf q rs) ≡ after at size p (remove q) (liveAt p rs)
+unfolding after
+liveAt-takeOut p at size q rs s = by (same p q) here there
   where
-    here : same p q ≡ true → liveAt p (takeOut pathOf q rs) ≡ after p (remove q) (liveAt p rs)
+    here : same p q ≡ true → liveAt p (takeOut pathOf q rs) ≡ after at size p (remove q) (liveAt p rs)
     here e =
         let f : p ≡ q = same-true p q e in
         let gone : lookup pathOf p (takeOut pathOf q rs) ≡ none = subst (λ (x : Bytes). lookup pathOf x (takeOut pathOf q rs) ≡ none) (sym f) (lookup-takeOut pathOf q rs s) in
-        rw (after, e) (liveAt-lookup p (takeOut pathOf q rs) ∙ ap factsIn gone)
+        rw (after, e) (liveAt-lookup p (takeOut pathOf q rs) ∙ gone)
 
-    there : same p q ≡ false → liveAt p (takeOut pathOf q rs) ≡ after p (remove q) (liveAt p rs)
-    there e = rw (after, e) (liveAt-lookup p (takeOut pathOf q rs) ∙ ap factsIn (lookup-takeOut-other pathOf p q rs (same-false p q e)) ∙ sym (liveAt-lookup p rs))
+    there : same p q ≡ false → liveAt p (takeOut pathOf q rs) ≡ after at size p (remove q) (liveAt p rs)
+    there e = rw (after, e) (liveAt-lookup p (takeOut pathOf q rs) ∙ lookup-takeOut-other pathOf p q rs (same-false p q e) ∙ sym (liveAt-lookup p rs))
 
-effect-live : (p : Bytes) (at size : ℕ) (a : Action) (st : State) → Ordered st → liveAt p (effect at size a st .live) ≡ after p a (liveAt p (st .live))
+effect-live : (p : Bytes) (at size : ℕ) (a : Action) (st : State) → Ordered st → liveAt p (effect at size a st .live) ≡ after at size p a (liveAt p (st .live))
 unfolding effect after
-effect-live p at size (add f) st s = liveAt-put p (record { at = at; size = size; facts = f }) (st .live)
-effect-live p at size (remove q) st s = liveAt-takeOut p q (st .live) s
+effect-live p at size (add f) st s = liveAt-put p at size f (st .live)
+effect-live p at size (remove q) st s = liveAt-takeOut p at size q (st .live) s
 effect-live p at size (protocol x) st s = refl
 effect-live p at size (metaData m) st s = refl
 effect-live p at size mergeskip st s = refl
@@ -87,53 +85,63 @@ effect-protocol at size other acts st = refl
 
 -- ---- lines, files and ways
 
--- from one state to another, as the actions say
-record Goes (acts : List Action) (st to : State) : Type 0 where
-  live : (p : Bytes) → liveAt p (to .live) ≡ afterAll p acts (liveAt p (st .live))
-  inForce : to .inForce ≡ lastProtocol acts (st .inForce)
+-- from one state to another, as the lines say
+record Goes (ls : List Line) (st to : State) : Type 0 where
+  live : (p : Bytes) → liveAt p (to .live) ≡ afterAll p ls (liveAt p (st .live))
+  inForce : to .inForce ≡ lastProtocol (actions ls) (st .inForce)
   ordered : Ordered to
 
-goes-more : (at size : ℕ) (a : Action) (acts : List Action) (st to : State) → Ordered st → Goes acts (effect at size a st) to → Goes (a ∷ acts) st to
-unfolding afterAll
-goes-more at size a acts st to s g = record {
-  live = λ p. g .live p ∙ ap (afterAll p acts) (effect-live p at size a st s);
-  inForce = g .inForce ∙ effect-protocol at size a acts st;
+goes-more : (at size : ℕ) (a : Action) (ls : List Line) (st to : State) → Ordered st → Goes ls (effect at size a st) to → Goes (record { at = at; size = size; does = a } ∷ ls) st to
+unfolding afterAll actions
+goes-more at size a ls st to s g = record {
+  live = λ p. g .live p ∙ ap (afterAll p ls) (effect-live p at size a st s);
+  inForce = g .inForce ∙ effect-protocol at size a (actions ls) st;
   ordered = g .ordered;
 }
 
-readLines-goes : (e k at : ℕ) (ls : List Bytes) (st to : State) → Ordered st → readLines mostLive e k at ls st ≡ accepted to → Goes (actionsIn ls) st to
-unfolding readLines readLine actionsIn afterAll lastProtocol
+readLines-goes : (e k at : ℕ) (ls : List Bytes) (st to : State) → Ordered st → readLines mostLive e k at ls st ≡ accepted to → Goes (linesFrom at ls) st to
+unfolding readLines readLine linesFrom afterAll actions lastProtocol
 readLines-goes e k at [] st to s h =
     let q : st ≡ to = cc in
     subst (λ (x : State). Goes [] st x) q (record { live = λ p. refl; inForce = refl; ordered = s })
-readLines-goes e k at ([] ∷ ls) st to s h = readLines-goes e (suc k) (at + 0 + 1) ls st to s h
-readLines-goes e k at ((b ∷ bs) ∷ ls) st to s h = go (action (b ∷ bs)) h (λ next. readLines-goes e (suc k) (at + length (b ∷ bs) + 1) ls next to)
+readLines-goes e k at ([] ∷ ls) st to s h =
+    let q : at + 0 + 1 ≡ at + 1 = omega arith in
+    readLines-goes e (suc k) (at + 1) ls st to s (subst (λ (x : ℕ). readLines mostLive e (suc k) x ls st ≡ accepted to) q h)
+readLines-goes e k at ((b ∷ bs) ∷ ls) st to s h = go (action (b ∷ bs)) h (λ next. readLines-goes e (suc k) (at + size + 1) ls next to)
   where
+    size : ℕ
+    size = length (b ∷ bs)
+
     go : (o : Option Action)
-        → ((orRefuse (malformed e k) o >>= (λ a. withinLimit mostLive e k (effect at (length (b ∷ bs)) a st))) >>= (λ next. readLines mostLive e (suc k) (at + length (b ∷ bs) + 1) ls next)) ≡ accepted to
-        → ((next : State) → Ordered next → readLines mostLive e (suc k) (at + length (b ∷ bs) + 1) ls next ≡ accepted to → Goes (actionsIn ls) next to)
-        → Goes (elim o [ none ↦ actionsIn ls | some a ↦ a ∷ actionsIn ls ]) st to
+        → ((orRefuse (malformed e k) o >>= (λ a. withinLimit mostLive e k (effect at size a st))) >>= (λ next. readLines mostLive e (suc k) (at + size + 1) ls next)) ≡ accepted to
+        → ((next : State) → Ordered next → readLines mostLive e (suc k) (at + size + 1) ls next ≡ accepted to → Goes (linesFrom (at + size + 1) ls) next to)
+        → Goes (elim o [ none ↦ linesFrom (at + size + 1) ls | some a ↦ record { at = at; size = size; does = a } ∷ linesFrom (at + size + 1) ls ]) st to
     go none h ih = apart (cc)
     go (some a) h ih =
-        let r = bind-accepted (withinLimit mostLive e k (effect at (length (b ∷ bs)) a st)) (λ next. readLines mostLive e (suc k) (at + length (b ∷ bs) + 1) ls next) h in
-        let w = withinLimit-accepted mostLive e k (effect at (length (b ∷ bs)) a st) (r .1) in
-        let t : readLines mostLive e (suc k) (at + length (b ∷ bs) + 1) ls (effect at (length (b ∷ bs)) a st) ≡ accepted to =
-        subst (λ (x : State). readLines mostLive e (suc k) (at + length (b ∷ bs) + 1) ls x ≡ accepted to) (sym (w .0)) (r .2) in
-        goes-more at (length (b ∷ bs)) a (actionsIn ls) st to s (ih (effect at (length (b ∷ bs)) a st) (effect-ascends at (length (b ∷ bs)) a st s) t)
+        let r = bind-accepted (withinLimit mostLive e k (effect at size a st)) (λ next. readLines mostLive e (suc k) (at + size + 1) ls next) h in
+        let w = withinLimit-accepted mostLive e k (effect at size a st) (r .1) in
+        let t : readLines mostLive e (suc k) (at + size + 1) ls (effect at size a st) ≡ accepted to =
+        subst (λ (x : State). readLines mostLive e (suc k) (at + size + 1) ls x ≡ accepted to) (sym (w .0)) (r .2) in
+        goes-more at size a (linesFrom (at + size + 1) ls) st to s (ih (effect at size a st) (effect-ascends at size a st s) t)
 
-readFile-goes : (f : File) (st to : State) → Ordered st → readFile mostLive f st ≡ accepted to → Goes (actionsIn (lines (f .body))) st to
+readFile-goes : (f : File) (st to : State) → Ordered st → readFile mostLive f st ≡ accepted to → Goes (linesIn f) st to
 unfolding readFile
 readFile-goes f st to s h =
     let r = bind-accepted (readLines mostLive (f .entry) 1 (f .start) (lines (f .body)) st) (λ next. require (malformed (f .entry) 0) (anyObject (lines (f .body))) >>= (λ _. accepted next)) h in
     let t = bind-accepted (require (malformed (f .entry) 0) (anyObject (lines (f .body)))) (λ _. accepted (r .0)) (r .2) in
     let p : accepted (r .0) ≡ accepted to = t .2 in
     let q : r .0 ≡ to = cc in
-    subst (Goes (actionsIn (lines (f .body))) st) q (readLines-goes (f .entry) 1 (f .start) (lines (f .body)) st (r .0) s (r .1))
+    subst (Goes (linesIn f) st) q (readLines-goes (f .entry) 1 (f .start) (lines (f .body)) st (r .0) s (r .1))
 
-afterAll-append : (p : Bytes) (acts bs : List Action) (was : Option Facts) → afterAll p (acts ++ bs) was ≡ afterAll p bs (afterAll p acts was)
+afterAll-append : (p : Bytes) (ls ms : List Line) (was : Option Row) → afterAll p (ls ++ ms) was ≡ afterAll p ms (afterAll p ls was)
 unfolding afterAll
-afterAll-append p [] bs was = refl
-afterAll-append p (a ∷ acts) bs was = afterAll-append p acts bs (after p a was)
+afterAll-append p [] ms was = refl
+afterAll-append p (l ∷ ls) ms was = afterAll-append p ls ms (after (l .at) (l .size) p (l .does) was)
+
+actions-append : (ls ms : List Line) → actions (ls ++ ms) ≡ actions ls ++ actions ms
+unfolding actions
+actions-append [] ms = refl
+actions-append (l ∷ ls) ms = ap (λ (x : List Action). l .does ∷ x) (actions-append ls ms)
 
 lastProtocol-append : (acts bs : List Action) (was : Protocol) → lastProtocol (acts ++ bs) was ≡ lastProtocol bs (lastProtocol acts was)
 unfolding lastProtocol
@@ -147,12 +155,12 @@ lastProtocol-append (other ∷ acts) bs was = lastProtocol-append acts bs was
 
 -- along a way, from where nothing is live
 record Comes (w : Way) (p : Protocol) (to : State) : Type 0 where
-  live : (path : Bytes) → liveAt path (to .live) ≡ afterAll path (actionsOn w) none
-  inForce : to .inForce ≡ lastProtocol (actionsOn w) (protocolBefore w p)
+  live : (path : Bytes) → liveAt path (to .live) ≡ afterAll path (linesOn w) none
+  inForce : to .inForce ≡ lastProtocol (actions (linesOn w)) (protocolBefore w p)
   ordered : Ordered to
 
 follow-comes : (z : State) (w : Way) (st : State) → z .live ≡ [] → follow mostLive z w ≡ accepted st → Comes w (z .inForce) st
-unfolding follow actionsOn protocolBefore afterAll lastProtocol nothingLive liveAt
+unfolding follow linesOn protocolBefore afterAll actions lastProtocol nothingLive liveAt
 follow-comes z fromZero st e h =
     let q : z ≡ st = cc in
     subst (Comes fromZero (z .inForce)) q (record { live = λ p. ap (liveAt p) e; inForce = refl; ordered = subst (Ascends pathOf) (sym e) tt })
@@ -166,8 +174,10 @@ follow-comes z (andThen w g) st e h = go (bind-accepted (follow mostLive z w) (�
         let c = ih x a in
         let d = readFile-goes g x st (c .ordered) b in
         record {
-          live = λ p. d .live p ∙ ap (afterAll p (actionsIn (lines (g .body)))) (c .live p) ∙ sym (afterAll-append p (actionsOn w) (actionsIn (lines (g .body))) none);
-          inForce = d .inForce ∙ ap (lastProtocol (actionsIn (lines (g .body)))) (c .inForce) ∙ sym (lastProtocol-append (actionsOn w) (actionsIn (lines (g .body))) (protocolBefore w (z .inForce)));
+          live = λ p. d .live p ∙ ap (afterAll p (linesIn g)) (c .live p) ∙ sym (afterAll-append p (linesOn w) (linesIn g) none);
+          inForce =
+              d .inForce ∙ ap (lastProtocol (actions (linesIn g))) (c .inForce)
+              ∙ sym (ap (λ (x : List Action). lastProtocol x (protocolBefore w (z .inForce))) (actions-append (linesOn w) (linesIn g)) ∙ lastProtocol-append (actions (linesOn w)) (actions (linesIn g)) (protocolBefore w (z .inForce)));
           ordered = d .ordered;
         }
 
@@ -199,40 +209,43 @@ say-goes mergeskip left s next e = apart (cc)
 say-goes other left s next e =
     subst (λ (n : Said). (listOf (n .ofTable) ++ tablesIn left ≡ listOf (s .ofTable) ++ tablesIn left) × (lastProtocol left (orUnstated (n .ofProtocol)) ≡ lastProtocol left (orUnstated (s .ofProtocol)))) (some-same e) (refl, refl)
 
-record Said-so (ls : List Bytes) (s to : Said) : Type 0 where
-  table : listOf (to .ofTable) ≡ listOf (s .ofTable) ++ tablesIn (actionsIn ls)
-  inForce : orUnstated (to .ofProtocol) ≡ lastProtocol (actionsIn ls) (orUnstated (s .ofProtocol))
+record Said-so (ls : List Line) (s to : Said) : Type 0 where
+  table : listOf (to .ofTable) ≡ listOf (s .ofTable) ++ tablesIn (actions ls)
+  inForce : orUnstated (to .ofProtocol) ≡ lastProtocol (actions ls) (orUnstated (s .ofProtocol))
 
-zeroLines-goes : (e k : ℕ) (ls : List Bytes) (s to : Said) → zeroLines e k ls s ≡ accepted to → Said-so ls s to
-unfolding zeroLines actionsIn tablesIn lastProtocol
-zeroLines-goes e k [] s to h =
+zeroLines-goes : (e k at : ℕ) (ls : List Bytes) (s to : Said) → zeroLines e k ls s ≡ accepted to → Said-so (linesFrom at ls) s to
+unfolding zeroLines linesFrom actions tablesIn lastProtocol
+zeroLines-goes e k at [] s to h =
     let q : s ≡ to = cc in
     subst (Said-so [] s) q (record { table = sym (append-nil (listOf (s .ofTable))); inForce = refl })
-zeroLines-goes e k ([] ∷ ls) s to h = let r = zeroLines-goes e (suc k) ls s to h in record { table = r .table; inForce = r .inForce }
-zeroLines-goes e k ((b ∷ bs) ∷ ls) s to h = go (action (b ∷ bs)) refl h (λ next. zeroLines-goes e (suc k) ls next to)
+zeroLines-goes e k at ([] ∷ ls) s to h = let r = zeroLines-goes e (suc k) (at + 1) ls s to h in record { table = r .table; inForce = r .inForce }
+zeroLines-goes e k at ((b ∷ bs) ∷ ls) s to h = go (action (b ∷ bs)) refl h (λ next. zeroLines-goes e (suc k) (at + length (b ∷ bs) + 1) ls next to)
   where
+    rest : List Line
+    rest = linesFrom (at + length (b ∷ bs) + 1) ls
+
     said-so : (a : Action) (o : Option Said) → say a s ≡ o → (orRefuse (malformed e k) o >>= (λ next. zeroLines e (suc k) ls next)) ≡ accepted to
-        → ((next : Said) → zeroLines e (suc k) ls next ≡ accepted to → Said-so ls next to)
-        → (listOf (to .ofTable) ≡ listOf (s .ofTable) ++ tablesIn (a ∷ actionsIn ls)) × (orUnstated (to .ofProtocol) ≡ lastProtocol (a ∷ actionsIn ls) (orUnstated (s .ofProtocol)))
+        → ((next : Said) → zeroLines e (suc k) ls next ≡ accepted to → Said-so rest next to)
+        → (listOf (to .ofTable) ≡ listOf (s .ofTable) ++ tablesIn (a ∷ actions rest)) × (orUnstated (to .ofProtocol) ≡ lastProtocol (a ∷ actions rest) (orUnstated (s .ofProtocol)))
     said-so a none q h ih = apart (cc)
-    said-so a (some next) q h ih = let r = ih next h in let t = say-goes a (actionsIn ls) s next q in (r .table ∙ t .0, r .inForce ∙ t .1)
+    said-so a (some next) q h ih = let r = ih next h in let t = say-goes a (actions rest) s next q in (r .table ∙ t .0, r .inForce ∙ t .1)
 
     go : (o : Option Action) → action (b ∷ bs) ≡ o → (orRefuse (malformed e k) o >>= (λ a. orRefuse (malformed e k) (say a s) >>= (λ next. zeroLines e (suc k) ls next))) ≡ accepted to
-        → ((next : Said) → zeroLines e (suc k) ls next ≡ accepted to → Said-so ls next to) → Said-so ((b ∷ bs) ∷ ls) s to
+        → ((next : Said) → zeroLines e (suc k) ls next ≡ accepted to → Said-so rest next to) → Said-so (linesFrom at ((b ∷ bs) ∷ ls)) s to
     go none q h ih = apart (cc)
-    go (some a) q h ih = let r = said-so a (say a s) refl h ih in record { table = rw (actionsIn, q) (r .0); inForce = rw (actionsIn, q) (r .1) }
+    go (some a) q h ih = let r = said-so a (say a s) refl h ih in record { table = rw (linesFrom, q) (r .0); inForce = rw (linesFrom, q) (r .1) }
 
 readZero-says : (f : File) (z : State) → readZero f ≡ accepted z → ZeroSays f z
 unfolding readZero listOf saidNothing orUnstated
 readZero-says f z h =
     let a = bind-accepted (zeroLines (f .entry) 1 (lines (f .body)) saidNothing) (λ s. orRefuse (malformed (f .entry) 0) (s .ofTable) >>= (λ m. accepted (stateOf s m))) h in
     let b = bind-accepted (orRefuse (malformed (f .entry) 0) (a .0 .ofTable)) (λ m. accepted (stateOf (a .0) m)) (a .2) in
-    go (a .0) (b .0) (zeroLines-goes (f .entry) 1 (lines (f .body)) saidNothing (a .0) (a .1)) (orRefuse-accepted (malformed (f .entry) 0) (a .0 .ofTable) (b .1)) (b .2)
+    go (a .0) (b .0) (zeroLines-goes (f .entry) 1 (f .start) (lines (f .body)) saidNothing (a .0) (a .1)) (orRefuse-accepted (malformed (f .entry) 0) (a .0 .ofTable) (b .1)) (b .2)
   where
     stateOf : Said → MetaData → State
     stateOf s m = record { table = m; inForce = orUnstated (s .ofProtocol); live = [] }
 
-    go : (s : Said) (m : MetaData) → Said-so (lines (f .body)) saidNothing s → s .ofTable ≡ some m → accepted (stateOf s m) ≡ accepted z → ZeroSays f z
+    go : (s : Said) (m : MetaData) → Said-so (linesIn f) saidNothing s → s .ofTable ≡ some m → accepted (stateOf s m) ≡ accepted z → ZeroSays f z
     go s m r t e =
         let q : stateOf s m ≡ z = cc in
         subst (ZeroSays f) q (record { table = sym (r .table) ∙ ap listOf t; inForce = r .inForce; live = refl })

@@ -68,13 +68,14 @@ written-add : (line : Text) (m : Member) (ms : List Member) (v : Text) → lineM
 unfolding pathWritten
 written-add line m ms v e f g = rw (e, f, g)
 
-shown-add : (line : Bytes) (f : Facts) → IsAdd line f → (v : Bytes) × (stringOf v ≡ some (f .path)) × (pathShown line ≡ unquoted v)
+shown-add : (line : Bytes) (f : Facts) → IsAdd line f → (v : Bytes) × (pathWritten line ≡ some (unquoted v)) × (stringOf v ≡ some (f .path)) × (pathShown line ≡ unquoted v)
 unfolding pathIn orNothing
 shown-add line f (l, a) =
     let m = action-add line f a in
     let ms = m .2 .0 in
     let v = pathAt-once ms (f .path) (addOf-path ms f (m .2 .2)) in
-    (v .0, v .2, shown-by line (some (add f)) l a .0 ∙ ap orNothing (written-add line (m .0) ms (v .0) (m .1) (m .2 .1) (v .1)))
+    let w = written-add line (m .0) ms (v .0) (m .1) (m .2 .1) (v .1) in
+    (v .0, w, v .2, shown-by line (some (add f)) l a .0 ∙ ap orNothing w)
 
 -- ---- lines by what they are
 

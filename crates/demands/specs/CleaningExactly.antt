@@ -17,8 +17,7 @@ use Rattle.rules.specs.Rooms.{rowsRoom, namesRoom}
 use Rattle.rules.specs.Cleaning.{named, Lent, cleaning}
 use Rattle.rules.specs.Same.{SameState}
 use Rattle.rules.specs.Refusals.{Refusal, accepted, refused, roomTooShort, bundleMalformed, versionTooLarge, noVersionZero, malformed, tooManyLive, readerTooHigh, unknownFeature, notWritable, checkpointDisagrees}
-use Rattle.demands.specs.Reaching.{There, Reaches}
-use Rattle.demands.specs.Removed.{In}
+use Rattle.demands.specs.Reaching.{Reaches, IsOther}
 use Rattle.demands.specs.Met.{MetIn, MetInZero, MetOn}
 use Rattle.demands.specs.Exactly.{SomeTooLarge, Unknown, Readable}
 
@@ -30,10 +29,6 @@ Enough lent = (namesRoom ≤ lent .names) × (rowsRoom ≤ lent .table₁) × (r
 -- minWriterVersion above 3, or a writer feature that is unknown
 abbrev pub NotWritable : Protocol → Type 0
 NotWritable p = (knownWriter < p .minWriterVersion) ⊎ Unknown writerNames (p .writerFeatures)
-
--- a start other than the checkpoint at c: version file 0, or a checkpoint elsewhere
-abbrev pub IsOther : Log → (c s : ℕ) → Type 0
-IsOther log c s = ((s ≡ 0) × There (log .versionFile 0)) ⊎ (There (startAt log s) × (s ≡ c → ⊥))
 
 -- no start other than the checkpoint at c reaches c
 abbrev pub NoOther : Log → ℕ → Type 0
@@ -113,10 +108,11 @@ CleaningRefusesExactly = (lent : Lent) (s : Bytes) (now retention : ℕ) → Cle
 abbrev pub IsNamed : (c now retention : ℕ) → File → Type 0
 IsNamed c now retention f = ((w : ℕ) × (nameOf (f .name) ≡ version w) × (0 < w) × (w < c)) × (f .time ≤ now) × (retention < now - f .time)
 
--- one of the files has entry number n, and is so
-abbrev pub SomeEntry : (P : File → Type 0) → ℕ → List File → Type 0
-SomeEntry P n [] = ⊥
-SomeEntry P n (f ∷ fs) = ((f .entry ≡ n) × P f) ⊎ SomeEntry P n fs
+-- the entry numbers of those that are so, in the files' order, each once
+pub data Names (c now retention : ℕ) : List File → List ℕ → Type 0 where
+  no-more : Names c now retention [] []
+  names : {f : File} {fs : List File} {es : List ℕ} → IsNamed c now retention f → Names c now retention fs es → Names c now retention (f ∷ fs) (f .entry ∷ es)
+  passes : {f : File} {fs : List File} {es : List ℕ} → (IsNamed c now retention f → ⊥) → Names c now retention fs es → Names c now retention (f ∷ fs) es
 
 abbrev pub NamedExactly : Type 0
-NamedExactly = (c now retention n : ℕ) (fs : List File) → In n (named c now retention fs) ↔ SomeEntry (IsNamed c now retention) n fs
+NamedExactly = (c now retention : ℕ) (fs : List File) → Names c now retention fs (named c now retention fs)

@@ -1,7 +1,7 @@
 -- The customer's three demands, as far as they speak of the rules. The promises of the code are equations with the rules' definitions,
 -- so that what is said here of `reading`, `keeping`, `cleaning` and of what is shown is said of the code.
 use Rattle.rules.specs.Edges.{Holds}
-use Rattle.demands.specs.Reaching.{ReadFromTheHighest, LatestStopsAtAGap}
+use Rattle.demands.specs.Reaching.{ReadFromTheHighest, OtherFromTheHighest, LatestStopsAtAGap}
 use Rattle.demands.specs.Removed.{RemovalKeepsOrder}
 use Rattle.demands.specs.FullHistory.{TrueIsReadable}
 use Rattle.demands.specs.FirstSentence.{FirstSentence, FullLogIsHistory}
@@ -11,6 +11,7 @@ use Rattle.demands.specs.Ending.{ReadingEnds, KeepingEnds, CleaningEnds,
 use Rattle.demands.specs.Exactly.{ReadingRefusesExactly, KeepingRefusesExactly}
 use Rattle.demands.specs.CleaningExactly.{CleaningRefusesExactly, NamedExactly}
 use Rattle.demands.specs.Replayed.{ReplaysExactly}
+use Rattle.demands.specs.Places.{RowsStandInTheBundle}
 use Rattle.demands.specs.Choosing.{PicksExactly, KeepsExactly, WritableExactly}
 use Rattle.demands.specs.Showing.{PathIsShown, RecordsAreShown, DirectoryIsShown}
 use Rattle.demands.specs.WrongPrograms.{NoneKeepsThePromise}
@@ -31,8 +32,10 @@ pub record Demand1 : Type 0 where
 -- each refusal is given when its rule says so, and only then
 pub record Demand2 : Type 0 where
   pub way : ReadFromTheHighest
+  pub other : OtherFromTheHighest
   pub latest : LatestStopsAtAGap
   pub live : ReplaysExactly
+  pub places : RowsStandInTheBundle
   pub verdict : WritableExactly
   pub picked : PicksExactly
   pub kept : KeepsExactly

@@ -11,6 +11,7 @@ pub mod Met
 pub mod Exactly
 pub mod CleaningExactly
 pub mod Replayed
+pub mod Places
 pub mod Choosing
 pub mod WrongPrograms
 pub mod Demands

@@ -5,7 +5,7 @@ use mathlib.Core.Option.{Option, none, some}
 use mathlib.Core.List.{List}
 use Prim.Native.Nat.{ℕ, suc, _≤_, _<_}
 use Rattle.rules.specs.Bundle.{File}
-use Rattle.rules.specs.Starts.{Log, logOf, startAt, Way, fromZero, fromCheckpoint, andThen, wayTo}
+use Rattle.rules.specs.Starts.{Log, logOf, startAt, Way, fromZero, fromCheckpoint, andThen, wayTo, otherWayTo}
 use Rattle.rules.specs.Marker.{marked, orZero, latest}
 
 abbrev pub There : {A : Type 0} → Option A → Type 0
@@ -43,6 +43,27 @@ pub record Highest (log : Log) (v : ℕ) (w : Way) : Type 0 where
 
 abbrev pub ReadFromTheHighest : Type 0
 ReadFromTheHighest = (log : Log) (v : ℕ) (w : Way) → (wayTo log v ≡ some w) ↔ Highest log v w
+
+-- ---- a marked checkpoint is compared with the highest other start that reaches it
+
+-- a start other than the checkpoint at c: version file 0, or a checkpoint elsewhere
+abbrev pub IsOther : Log → (c s : ℕ) → Type 0
+IsOther log c s = ((s ≡ 0) × There (log .versionFile 0)) ⊎ (There (startAt log s) × (s ≡ c → ⊥))
+
+-- w begins at s, a start other than the checkpoint at c, and reads the version files s + 1 to v in order;
+-- on equal s the checkpoint goes first: with version file 0 only where no checkpoint is a start there, or c is 0
+pub data FromOther (log : Log) (c : ℕ) : (s v : ℕ) → Way → Type 0 where
+  other-checkpoint : {s : ℕ} {f : File} → startAt log s ≡ some f → (s ≡ c → ⊥) → FromOther log c s s (fromCheckpoint f)
+  version-zero : (startAt log 0 ≡ none) ⊎ (c ≡ 0) → FromOther log c 0 0 fromZero
+  and-after : {s v : ℕ} {w : Way} {g : File} → FromOther log c s v w → log .versionFile (suc v) ≡ some g → FromOther log c s (suc v) (andThen w g)
+
+pub record HighestOther (log : Log) (c : ℕ) (w : Way) : Type 0 where
+  pub s : ℕ
+  pub begins : FromOther log c s c w
+  pub highest : (t : ℕ) → IsOther log c t → Reaches log t c → t ≤ s
+
+abbrev pub OtherFromTheHighest : Type 0
+OtherFromTheHighest = (log : Log) (c : ℕ) (w : Way) → (otherWayTo log c ≡ some w) ↔ HighestOther log c w
 
 -- ---- the latest version is the highest one reached from the marker's checkpoint, or from version 0: reading stops at a gap
 

@@ -1,51 +1,68 @@
--- Demand 2: the live files and the protocol in force are exactly those that the lines on the way say, one after the other.
+-- Demand 2: the live files, their places and the protocol in force are exactly those that the lines on the way say, one after the other.
 use mathlib.Core.Path.{_≡_}
 use mathlib.Core.Bool.{true, false}
 use mathlib.Core.Option.{Option, none, some}
 use mathlib.Core.List.{List, [], _∷_, _++_}
-use Prim.Native.Nat.{_≤_}
+use Prim.Native.Nat.{ℕ, _+_, _≤_}
 use lib.ListN.{length}
 use Rattle.facts.specs.Lists.{All}
 use Rattle.rules.specs.Bytes.{Bytes, less, order, same}
 use Rattle.rules.specs.Bundle.{File}
 use Rattle.rules.specs.Lines.{lines}
-use Rattle.rules.specs.Actions.{Facts, MetaData, Protocol, unstated, Action, add, remove, protocol, metaData, mergeskip, other, action}
+use Rattle.rules.specs.Actions.{MetaData, Protocol, unstated, Action, add, remove, protocol, metaData, mergeskip, other, action}
 use Rattle.rules.specs.Live.{mostLive, Row, pathOf}
 use Rattle.rules.specs.History.{State}
 use Rattle.rules.specs.Starts.{Log, Way, fromZero, fromCheckpoint, andThen}
 use Rattle.rules.specs.Reading.{stateBy}
 use Rattle.rules.specs.Refusals.{accepted}
 
--- ---- the actions on a way, in order
+-- ---- the lines on a way, in order
 
-unfoldable pub actionsIn : List Bytes → List Action
-actionsIn [] = []
-actionsIn ([] ∷ ls) = actionsIn ls
-actionsIn ((b ∷ bs) ∷ ls) = elim (action (b ∷ bs)) [ none ↦ actionsIn ls | some a ↦ a ∷ actionsIn ls ]
+-- a line that is not empty: where it stands in the bundle, how long it is, and its action
+pub record Line : Type 0 where
+  pub at : ℕ
+  pub size : ℕ
+  pub does : Action
 
-unfoldable pub actionsOn : Way → List Action
-actionsOn fromZero = []
-actionsOn (fromCheckpoint f) = actionsIn (lines (f .body))
-actionsOn (andThen w g) = actionsOn w ++ actionsIn (lines (g .body))
+-- lines one behind the other, each ended by one byte, the first of them at `at`
+unfoldable pub linesFrom : (at : ℕ) → List Bytes → List Line
+linesFrom at [] = []
+linesFrom at ([] ∷ ls) = linesFrom (at + 1) ls
+linesFrom at ((b ∷ bs) ∷ ls) =
+    elim (action (b ∷ bs)) [ none ↦ linesFrom (at + length (b ∷ bs) + 1) ls | some a ↦ record { at = at; size = length (b ∷ bs); does = a } ∷ linesFrom (at + length (b ∷ bs) + 1) ls ]
+
+abbrev pub linesIn : File → List Line
+linesIn f = linesFrom (f .start) (lines (f .body))
+
+unfoldable pub linesOn : Way → List Line
+linesOn fromZero = []
+linesOn (fromCheckpoint f) = linesIn f
+linesOn (andThen w g) = linesOn w ++ linesIn g
+
+unfoldable pub actions : List Line → List Action
+actions [] = []
+actions (l ∷ ls) = l .does ∷ actions ls
 
 -- ---- the live file at a path
 
--- an add puts its path into the live set or replaces the entry there; a remove takes its path out, if there
-unfoldable pub after : Bytes → Action → Option Facts → Option Facts
-after p (add f) was = elim (same p (f .path)) [ true ↦ some f | false ↦ was ]
-after p (remove q) was = elim (same p q) [ true ↦ none | false ↦ was ]
-after p (protocol x) was = was
-after p (metaData m) was = was
-after p mergeskip was = was
-after p other was = was
+-- what the action of a line at `at`, of `size` bytes, does to it
+module _ (at size : ℕ) where
+  -- an add puts its path into the live set or replaces the entry there, with its line's place and length; a remove takes its path out, if there
+  unfoldable pub after : Bytes → Action → Option Row → Option Row
+  after p (add f) was = elim (same p (f .path)) [ true ↦ some (record { at = at; size = size; facts = f }) | false ↦ was ]
+  after p (remove q) was = elim (same p q) [ true ↦ none | false ↦ was ]
+  after p (protocol x) was = was
+  after p (metaData m) was = was
+  after p mergeskip was = was
+  after p other was = was
 
-unfoldable pub afterAll : Bytes → List Action → Option Facts → Option Facts
+unfoldable pub afterAll : Bytes → List Line → Option Row → Option Row
 afterAll p [] was = was
-afterAll p (a ∷ acts) was = afterAll p acts (after p a was)
+afterAll p (l ∷ ls) was = afterAll p ls (after (l .at) (l .size) p (l .does) was)
 
-unfoldable pub liveAt : Bytes → List Row → Option Facts
+unfoldable pub liveAt : Bytes → List Row → Option Row
 liveAt p [] = none
-liveAt p (r ∷ rs) = elim (same p (r .facts .path)) [ true ↦ some (r .facts) | false ↦ liveAt p rs ]
+liveAt p (r ∷ rs) = elim (same p (pathOf r)) [ true ↦ some r | false ↦ liveAt p rs ]
 
 -- in path byte order, each path once
 abbrev pub InPathOrder : List Row → Type 0
@@ -82,8 +99,8 @@ tablesIn (other ∷ acts) = tablesIn acts
 
 -- exactly one metaData; the protocol, or (1, 1) without one; nothing is live
 pub record ZeroSays (f : File) (z : State) : Type 0 where
-  pub table : tablesIn (actionsIn (lines (f .body))) ≡ z .table ∷ []
-  pub inForce : z .inForce ≡ lastProtocol (actionsIn (lines (f .body))) unstated
+  pub table : tablesIn (actions (linesIn f)) ≡ z .table ∷ []
+  pub inForce : z .inForce ≡ lastProtocol (actions (linesIn f)) unstated
   pub live : z .live ≡ []
 
 -- ---- the state at the end of the way; only version 0's metaData counts
@@ -96,8 +113,8 @@ pub record StateSays (log : Log) (way : Option Way) (st : State) : Type 0 where
   pub way-there : way ≡ some w
   pub zero-says : ZeroSays zero z
   pub table : st .table ≡ z .table
-  pub inForce : st .inForce ≡ lastProtocol (actionsOn w) (protocolBefore w (z .inForce))
-  pub live : (p : Bytes) → liveAt p (st .live) ≡ afterAll p (actionsOn w) none
+  pub inForce : st .inForce ≡ lastProtocol (actions (linesOn w)) (protocolBefore w (z .inForce))
+  pub live : (p : Bytes) → liveAt p (st .live) ≡ afterAll p (linesOn w) none
   pub in-order : InPathOrder (st .live)
   pub few : length (st .live) ≤ mostLive
 

@@ -5,7 +5,7 @@ use mathlib.Core.Option.{some}
 use mathlib.Core.List.{[], _∷_, _++_}
 use Rattle.rules.specs.Bytes.{Bytes}
 use Rattle.rules.specs.Json.Fields.{stringOf, unquoted}
-use Rattle.rules.specs.Actions.{Facts, add, action, isLine, pathShown, noAdd, recordsOf, recordsShown}
+use Rattle.rules.specs.Actions.{Facts, add, action, isLine, pathWritten, pathShown, noAdd, recordsOf, recordsShown}
 use Rattle.rules.specs.Manifests.{slash, hasSlash, standsAsIs, directory}
 
 -- ---- given one line
@@ -19,7 +19,7 @@ pub record PathShown (line : Bytes) : Type 0 where
   pub before : Bytes
   pub behind : Bytes
   pub part : line ≡ before ++ (pathShown line ++ behind)
-  pub of-add : (f : Facts) → IsAdd line f → (v : Bytes) × (stringOf v ≡ some (f .path)) × (pathShown line ≡ unquoted v)
+  pub of-add : (f : Facts) → IsAdd line f → (v : Bytes) × (pathWritten line ≡ some (unquoted v)) × (stringOf v ≡ some (f .path)) × (pathShown line ≡ unquoted v)
   pub of-others : ((f : Facts) → IsAdd line f → ⊥) → pathShown line ≡ []
 
 abbrev pub PathIsShown : Type 0
