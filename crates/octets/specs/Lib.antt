@@ -1,0 +1,2 @@
+-- What is found of bytes side by side.
+pub mod Alike
