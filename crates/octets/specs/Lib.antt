@@ -1,2 +1,3 @@
--- What is found of bytes side by side.
+-- What is found of bytes, side by side and eight at a time.
 pub mod Alike
+pub mod Words

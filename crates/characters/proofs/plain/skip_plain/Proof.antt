@@ -1,44 +1,82 @@
--- `skip_plain` meets its contract: eights, and then four.
+-- The invariant: what has been passed is plain. The measure is what is left. A number that is not plain as a whole ends the run within it.
 use native.Mathlib.Omega.{arith}
-use borrow.Author.Needs.{needs}
-use Rattle.characters.proofs.Runs.{plains-joined}
+use Prim.Native.Nat.{_≤_, _-_}
+use lib.ListN.{length}
+use Rattle.characters.specs.Runs.{Plains}
+use Rattle.characters.proofs.Runs.{plains-none, plains-joined, plains-eight}
 use Rattle.characters.proofs.plain.skip_plain.Statement.{statement}
 use Rattle.characters.proofs.plain.skip_plain.Tie as tie
 
-skip-eights-requires : tie.Need-skip-eights-requires
-skip-eights-requires c κs = search needs
+abbrev Inv-loop : tie.InvT-loop
+Inv-loop s at i₀ i = (at ≤ i) × (i ≤ length s) × Plains s at i
 
-sub-if1 : tie.Need-sub-if1
-sub-if1 c = search needs
+abbrev μ-loop : tie.MeasureT-loop
+μ-loop s at i₀ i = length s - i
 
-returns : tie.Need-returns
-returns c = search needs
+loop-holds : tie.Need-loop-holds Inv-loop μ-loop
+loop-holds c = (omega arith, c .before .pre, plains-none (c .before .args .s .now) (c .before .args .at))
 
-other-in-four-requires : tie.Need-other-in-four-requires
-other-in-four-requires c κs = search needs
+sub-loop : tie.Need-sub-loop Inv-loop μ-loop
+sub-loop c = c .loop .inv .1
 
-returns-2 : tie.Need-returns-2
-returns-2 c = search needs
+word-at-requires : tie.Need-word-at-requires Inv-loop μ-loop
+word-at-requires c κs = omega (arith, c .loop-test .taken, c .before .loop .inv .1)
 
-add-result : tie.Need-add-result
-add-result c = search needs
+plain-in-requires : tie.Need-plain-in-requires Inv-loop μ-loop
+plain-in-requires c κs = tt
 
-returns-3 : tie.Need-returns-3
-returns-3 c =
-    let e = c .before .before .before .skip-eights .ensures in (
-      omega (arith, e .0),
-      omega (arith, c .before .before .if1 .left, e .1),
-      plains-joined (c .before .before .before .before .before .args .s .now) _ _ _ (e .2) (c .before .other-in-four .ensures (c .if2 .left)),
+add-result : tie.Need-add-result Inv-loop μ-loop
+add-result c = omega (arith, c .before .before .before .before .loop .inv .1, c .before .before .before .loop-test .taken, c .before .plain-in .ensures .0)
+
+returns : tie.Need-returns Inv-loop μ-loop
+returns c =
+    let s = c .before .before .before .before .before .before .args .s .now in
+    let l = c .before .before .before .before .loop .inv in
+    let e = c .before .plain-in .ensures in (
+      omega (arith, l .0),
+      omega (arith, l .1, c .before .before .before .loop-test .taken, e .0),
+      plains-joined s _ _ _ (l .2) (plains-eight s _ _ _ (c .before .before .word-at .ensures) (e .0) (e .1)),
     )
+
+add-i : tie.Need-add-i Inv-loop μ-loop
+add-i c = omega arith
+
+loop-less : tie.Need-loop-less Inv-loop μ-loop
+loop-less c = omega arith
+
+loop-again : tie.Need-loop-again Inv-loop μ-loop
+loop-again c =
+    let s = c .before .before .before .before .before .before .args .s .now in
+    let l = c .before .before .before .before .loop .inv in
+    let e = c .before .plain-in .ensures in (
+      omega (arith, l .0),
+      omega (arith, l .1, c .before .before .before .loop-test .taken),
+      plains-joined s _ _ _ (l .2) (plains-eight s _ _ 8 (c .before .before .word-at .ensures) (omega arith) (λ k h. e .1 k (omega arith))),
+    )
+
+skip-few-requires : tie.Need-skip-few-requires Inv-loop μ-loop
+skip-few-requires c κs = c .before .loop .inv .1
+
+returns-2 : tie.Need-returns-2 Inv-loop μ-loop
+returns-2 c =
+    let l = c .before .before .loop .inv in
+    let e = c .skip-few .ensures in
+    (omega (arith, l .0, e .0), e .1, plains-joined (c .before .before .before .before .args .s .now) _ _ _ (l .2) (e .2))
 
 pub skip-plain-spec : {M : Type 1} → statement M
 skip-plain-spec =
     tie.close
     (tie.spec
-    skip-eights-requires
-    sub-if1
-    returns
-    other-in-four-requires
-    returns-2
+    Inv-loop
+    μ-loop
+    loop-holds
+    sub-loop
+    word-at-requires
+    plain-in-requires
     add-result
-    returns-3)
+    returns
+    add-i
+    loop-less
+    loop-again
+    skip-few-requires
+    returns-2)

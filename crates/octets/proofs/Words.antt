@@ -1,0 +1,124 @@
+-- Laws of numbers as bytes: what is done to a number is done to each byte, where no sum passes over.
+use mathlib.Core.Path.{_≡_, refl, sym, ap, ap₂, _∙_}
+use mathlib.Core.List.{List}
+use Prim.Native.Nat.{ℕ, zero, suc, _+_, _*_, _/_, _%_, _^_, _≤_, _<_}
+use native.Mathlib.Nat.{mod-lt, mod-one, pow-suc, le-of-suc-le-suc}
+use native.Mathlib.Omega.{arith}
+use lib.Dec.{lit<}
+use lib.Arith.{mod-mul, digits-div, digits-mod}
+use lib.Pow.{pow-pos, mod-pow-add}
+use lib.ListN.{getD}
+use lib.Bits.{bitAnd, bitOr, bitXor, and-shr, or-shr, xor-shr, and-mod, or-mod, xor-mod, and-le-l, and-le-r, xor-add-and}
+use lib.Count.{under, trailingZeros}
+use Rattle.octets.specs.Words.{byte, Eight, Same}
+
+-- ---- bytes put together
+
+byte-low : (r b : ℕ) → b < 256 → byte 0 (r * 256 + b) ≡ b
+unfolding byte
+byte-low r b h = digits-mod r h
+
+byte-high : (k r b : ℕ) → b < 256 → byte (suc k) (r * 256 + b) ≡ byte k r
+unfolding byte
+byte-high k r b h = ap (byte k) (digits-div r h)
+
+pub byte-lt : (k w : ℕ) → byte k w < 256
+unfolding byte
+byte-lt zero w = mod-lt w (lit< tt)
+byte-lt (suc k) w = byte-lt k (w / 256)
+
+-- n bytes, the first the lowest
+unfoldable pub joined : ℕ → (ℕ → ℕ) → ℕ
+joined zero f = 0
+joined (suc n) f = joined n (λ k. f (suc k)) * 256 + f 0
+
+pub byte-joined : (n : ℕ) (f : ℕ → ℕ) → ((k : ℕ) → f k < 256) → (k : ℕ) → k < n → byte k (joined n f) ≡ f k
+unfolding joined
+byte-joined zero f b k h = absurd (omega arith)
+byte-joined (suc n) f b zero h = byte-low (joined n (λ k. f (suc k))) (f 0) (b 0)
+byte-joined (suc n) f b (suc k) h = byte-high k (joined n (λ j. f (suc j))) (f 0) (b 0) ∙ byte-joined n (λ j. f (suc j)) (λ j. b (suc j)) k (le-of-suc-le-suc h)
+
+-- eight bytes, each with its weight
+abbrev weighed : ℕ → (ℕ → ℕ) → ℕ
+weighed b f =
+    b
+    + f 1 * 0x100
+    + f 2 * 0x10000
+    + f 3 * 0x1000000
+    + f 4 * 0x100000000
+    + f 5 * 0x10000000000
+    + f 6 * 0x1000000000000
+    + f 7 * 0x100000000000000
+
+weighed-joined : (f : ℕ → ℕ) → weighed (f 0) f ≡ joined 8 f
+unfolding joined
+weighed-joined f = omega arith
+
+pub eight-weighed : (s : List ℕ) (i : ℕ) → ((k : ℕ) → getD s k 0 < 256) → Eight (weighed (getD s i 0) (λ j. getD s (i + j) 0)) s i
+eight-weighed s i b k h =
+    let z : i ≡ i + 0 = omega arith in
+    ap (λ (x : ℕ). byte k (weighed (getD s x 0) (λ j. getD s (i + j) 0))) z
+    ∙ ap (byte k) (weighed-joined (λ j. getD s (i + j) 0))
+    ∙ byte-joined 8 (λ j. getD s (i + j) 0) (λ j. b (i + j)) k h
+
+-- ---- operations on each byte
+
+module _ (op : ℕ → ℕ → ℕ)
+    (shr : (a b k : ℕ) → op a b / 2 ^ k ≡ op (a / 2 ^ k) (b / 2 ^ k))
+    (rest : (a b k : ℕ) → op a b % 2 ^ k ≡ op (a % 2 ^ k) (b % 2 ^ k)) where
+  byte-op : (k a b : ℕ) → byte k (op a b) ≡ op (byte k a) (byte k b)
+  unfolding byte
+  byte-op zero a b = rest a b 8
+  byte-op (suc k) a b = ap (byte k) (shr a b 8) ∙ byte-op k (a / 256) (b / 256)
+
+pub byte-and : (k a b : ℕ) → byte k (bitAnd a b) ≡ bitAnd (byte k a) (byte k b)
+byte-and = byte-op bitAnd and-shr and-mod
+
+pub byte-or : (k a b : ℕ) → byte k (bitOr a b) ≡ bitOr (byte k a) (byte k b)
+byte-or = byte-op bitOr or-shr or-mod
+
+pub byte-xor : (k a b : ℕ) → byte k (bitXor a b) ≡ bitXor (byte k a) (byte k b)
+byte-xor = byte-op bitXor xor-shr xor-mod
+
+-- sums that stay within each byte
+pub byte-add : (k a b : ℕ) → ((j : ℕ) → j ≤ k → byte j a + byte j b < 256) → byte k (a + b) ≡ byte k a + byte k b
+unfolding byte
+byte-add zero a b h = let l : a % 256 + b % 256 < 256 = h 0 (omega arith) in omega arith
+byte-add (suc k) a b h =
+    let l : a % 256 + b % 256 < 256 = h 0 (omega arith) in
+    let e : (a + b) / 256 ≡ a / 256 + b / 256 = omega arith in
+    ap (byte k) e ∙ byte-add k (a / 256) (b / 256) (λ j m. h (suc j) (omega arith))
+
+-- ---- the zeros that a number ends in
+
+zeros-mod : (m k x : ℕ) → m ≤ trailingZeros k x → x % 2 ^ m ≡ 0
+unfolding trailingZeros
+zeros-mod zero k x h = mod-one x
+zeros-mod (suc m) zero x h = absurd (omega arith)
+zeros-mod (suc m) (suc k) x h = go (x % 2) refl h (zeros-mod m k (x / 2))
+  where
+    go : (d : ℕ) → x % 2 ≡ d → suc m ≤ under d (trailingZeros k (x / 2)) → (m ≤ trailingZeros k (x / 2) → x / 2 % 2 ^ m ≡ 0) → x % 2 ^ suc m ≡ 0
+    go zero e l f =
+        ap (λ (p : ℕ). x % p) (pow-suc 2 m) ∙ mod-mul x (pow-pos m) (pow-pos 1)
+        ∙ ap₂ (λ (u v : ℕ). u * 2 + v) (f (le-of-suc-le-suc l)) e
+    go (suc d) e l f = absurd (omega arith)
+
+byte-zero : (k x : ℕ) → x % 2 ^ (k * 8 + 8) ≡ 0 → byte k x ≡ 0
+unfolding byte
+byte-zero zero x e = e
+byte-zero (suc k) x e =
+    let p : suc k * 8 + 8 ≡ (k * 8 + 8) + 8 = omega arith in
+    let f : (x / 256 % 2 ^ (k * 8 + 8)) * 256 + x % 256 ≡ 0 = sym (mod-pow-add x (k * 8 + 8) 8) ∙ ap (λ (m : ℕ). x % 2 ^ m) (sym p) ∙ e in
+    byte-zero k (x / 256) (omega arith)
+
+-- as many bytes as eights of such zeros are zero
+pub byte-zeros : (k n x : ℕ) → k < trailingZeros n x / 8 → byte k x ≡ 0
+byte-zeros k n x h = byte-zero k x (zeros-mod (k * 8 + 8) n x (omega arith))
+
+-- ---- two numbers side by side
+
+xor-equal : (a b : ℕ) → bitXor a b ≡ 0 → a ≡ b
+xor-equal a b e = omega (arith, xor-add-and a b, and-le-l a b, and-le-r a b)
+
+pub same-xor : (n a b : ℕ) → Same a b (trailingZeros n (bitXor a b) / 8)
+same-xor n a b k h = xor-equal (byte k a) (byte k b) (sym (byte-xor k a b) ∙ byte-zeros k n (bitXor a b) h)

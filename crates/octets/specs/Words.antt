@@ -1,0 +1,24 @@
+-- Numbers of 64 bits as eight bytes.
+use mathlib.Core.Path.{_≡_}
+use mathlib.Core.Bool.{true}
+use mathlib.Core.List.{List}
+use Prim.Native.Nat.{ℕ, zero, suc, _+_, _/_, _%_, _<_}
+use lib.ListN.{getD}
+use Rattle.rules.specs.Json.Strings.{isPlain}
+
+-- byte k of a number: byte 0 is the lowest
+unfoldable pub byte : ℕ → ℕ → ℕ
+byte zero w = w % 256
+byte (suc k) w = byte k (w / 256)
+
+-- w is the eight bytes of s from i on
+abbrev pub Eight : ℕ → List ℕ → ℕ → Type 0
+Eight w s i = (k : ℕ) → k < 8 → byte k w ≡ getD s (i + k) 0
+
+-- the first n bytes of two numbers are the same
+abbrev pub Same : ℕ → ℕ → ℕ → Type 0
+Same a b n = (k : ℕ) → k < n → byte k a ≡ byte k b
+
+-- the first n bytes are characters by themselves
+abbrev pub Plain : ℕ → ℕ → Type 0
+Plain w n = (k : ℕ) → k < n → isPlain (byte k w) ≡ true
