@@ -11,6 +11,8 @@ use Rattle.rules.specs.Bytes.{Bytes, _>>=_, among, first}
 use Rattle.rules.specs.Json.Text.{Text, Reader, behind, spelled}
 use Rattle.rules.specs.Json.Strings.{isPlain, unescaped, char, chars, string}
 use Rattle.text.proofs.Places.{here, here-is, ended}
+use Rattle.characters.specs.Runs.{Plains}
+use Rattle.characters.proofs.Runs.{plains-keep}
 
 pub spelled-behind : (read : Reader) (t : Text) → behind (spelled read t) ≡ read t
 unfolding spelled
@@ -104,5 +106,8 @@ module _ {s : Text} {at i : ℕ} (t : Inside s at i) where
           same = sym (r ∙ rw e) ∙ t .same;
         }
 
-    pub inside-plain : isPlain (getD s i 0) ≡ true → Inside s at (i + 1)
+    inside-plain : isPlain (getD s i 0) ≡ true → Inside s at (i + 1)
     inside-plain p = inside-more (plain-quote p) (ap (λ (u : Text). behind (char u)) (here s i h) ∙ plain-char _ _ p) (omega arith) (omega arith)
+
+pub inside-run : {s : Text} {at i j : ℕ} → Inside s at i → (i ≤ j) × (j ≤ length s) × Plains s i j → Inside s at j
+inside-run {s} {at} {i} {j} t p = plains-keep (Inside s at) s (λ k u h e. inside-plain u h e) i j (p .0) (p .1) (p .2) t

@@ -6,5 +6,4 @@ mod utf8;
 pub use plain::skip_plain;
 pub use strings::skip_char;
 pub use strings::skip_string;
-pub use utf8::is_plain;
 pub use utf8::skip_unescaped;

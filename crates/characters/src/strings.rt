@@ -2,7 +2,6 @@
 use crate::plain::skip_plain;
 use crate::utf8::BACKSLASH;
 use crate::utf8::QUOTE;
-use crate::utf8::is_plain;
 use crate::utf8::skip_unescaped;
 use escapes::Code;
 use text::Next;
@@ -37,18 +36,13 @@ pub fn skip_string(s: &[u8], at: usize) -> Next
 {
     let mut i = skip_plain(s, at);
     while i < s.len() {
-        let b = s[i];
-        if is_plain(b) {
-            i += 1;
-        } else {
-            if b == QUOTE {
-                return Next::At(i + 1);
-            }
-            let Next::At(j) = skip_char(s, i) else {
-                return Next::Bad;
-            };
-            i = j;
+        if s[i] == QUOTE {
+            return Next::At(i + 1);
         }
+        let Next::At(j) = skip_char(s, i) else {
+            return Next::Bad;
+        };
+        i = skip_plain(s, j);
     }
     Next::Bad
 }

@@ -20,6 +20,8 @@ use Rattle.rules.proofs.Json.TextReads.{spelled-none}
 use Rattle.rules.proofs.Json.Steps.{char-plain, string-end, string-quote, string-none, string-char}
 use Rattle.text.specs.Answers.{Answer}
 use Rattle.text.specs.declared.Next.the-variants.{At}
+use Rattle.characters.specs.Runs.{Plains}
+use Rattle.characters.proofs.Runs.{plains-keep}
 use Rattle.strings.specs.Decoded.{decoded}
 use Rattle.spellings.specs.Scanned.{Scanned}
 use Rattle.spellings.specs.declared.Spelling.the-variants.{Plain, Escaped}
@@ -128,6 +130,9 @@ module _ {s : Text} {at i : ℕ} (c : Scanning s at i) where
           turn = ap string (drop-here s i 0 h) ∙ string-char (getD s i 0) (drop (i + 1) s) q
               (sym (ap char (drop-here s i 0 h)) ∙ char-here ∙ spelled-place s i j (omega arith) w unescaped f)
 
-    pub scanning-plain : isPlain (getD s i 0) ≡ true → Scanning s at (i + 1)
+    scanning-plain : isPlain (getD s i 0) ≡ true → Scanning s at (i + 1)
     unfolding unescaped
     scanning-plain p = scanning-more (plain-quote p) (plain-backslash p) (i + 1) (ap unescaped (drop-here s i 0 h) ∙ rw (unescaped, p)) (omega arith) (omega arith)
+
+pub scanning-run : {s : Text} {at i j : ℕ} → Scanning s at i → (i ≤ j) × (j ≤ length s) × Plains s i j → Scanning s at j
+scanning-run {s} {at} {i} {j} c p = plains-keep (Scanning s at) s (λ k u h e. scanning-plain u h e) i j (p .0) (p .1) (p .2) c

@@ -1,5 +1,5 @@
 // JSON strings as they are spelled: from behind an opening quote to behind the closing one, plain or with escapes.
-use characters::is_plain;
+use characters::skip_plain;
 use strings::BACKSLASH;
 use strings::QUOTE;
 use text::Next;
@@ -21,26 +21,22 @@ pub fn scan_string(s: &[u8], at: usize) -> Spelling
     requires { ⌜ at ≤ length (now s) ⌝ }
     ensures { λ r. ⌜ Scanned (now (s .entry)) at r ⌝ }
 {
-    let mut i = characters::skip_plain(s, at);
+    let mut i = skip_plain(s, at);
     while i < s.len() {
         let b = s[i];
-        if is_plain(b) {
-            i += 1;
-        } else {
-            if b == QUOTE {
-                return Spelling::Plain(i + 1);
-            }
-            if b == BACKSLASH {
-                let Next::At(j) = characters::skip_string(s, i) else {
-                    return Spelling::Bad;
-                };
-                return Spelling::Escaped(j);
-            }
-            let Next::At(k) = characters::skip_unescaped(s, i) else {
+        if b == QUOTE {
+            return Spelling::Plain(i + 1);
+        }
+        if b == BACKSLASH {
+            let Next::At(j) = characters::skip_string(s, i) else {
                 return Spelling::Bad;
             };
-            i = k;
+            return Spelling::Escaped(j);
         }
+        let Next::At(k) = characters::skip_unescaped(s, i) else {
+            return Spelling::Bad;
+        };
+        i = skip_plain(s, k);
     }
     Spelling::Bad
 }

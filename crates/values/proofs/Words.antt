@@ -1,9 +1,10 @@
--- Byte strings met byte by byte: `begins` at a place, `same` by `begins`, and booleans by `same`.
-use mathlib.Core.Path.{_≡_, refl, ap}
+-- Byte strings met byte by byte: what they begin with in common, `begins` at a place, `same` by `begins`, and booleans by `same`.
+use mathlib.Core.Path.{_≡_, refl, ap, subst}
 use mathlib.Core.Bool.{Bool, true, false}
 use mathlib.Core.List.{[], _∷_}
 use mathlib.Core.Option.{none, some}
-use Prim.Native.Nat.{ℕ, _+_, _≤_, _<_}
+use Prim.Native.Nat.{ℕ, zero, suc, _+_, _≤_, _<_}
+use native.Mathlib.Numerals.{add-one}
 use native.Mathlib.Omega.{arith}
 use lib.ListN.{length, drop, getD, drop-of-length-le}
 use lib.Dec.{eqb}
@@ -11,6 +12,16 @@ use Rattle.facts.proofs.Lists.{drop-here}
 use Rattle.rules.specs.Bytes.{Bytes, ascii, first, same, begins}
 use Rattle.rules.specs.Json.Fields.{boolOf}
 use Rattle.rules.proofs.Order.{begins-cons, begins-cons-ne, ne-same}
+use Rattle.octets.specs.Alike.{Alike}
+
+-- what each equal byte keeps, all that two strings begin with in common keeps
+pub alike-keep : (P : ℕ → Type 0) (a b : Bytes) → ((i : ℕ) → P i → i < length a → i < length b → getD a i 0 ≡ getD b i 0 → P (i + 1))
+    → (n : ℕ) → n ≤ length a → n ≤ length b → Alike a 0 b 0 n → P 0 → P n
+alike-keep P a b step zero ha hb e x = x
+alike-keep P a b step (suc n) ha hb e x =
+    let q : 0 + n ≡ n = omega arith in
+    let last : getD a n 0 ≡ getD b n 0 = subst (λ (k : ℕ). getD a k 0 ≡ getD b k 0) q (e n (omega arith)) in
+    subst P (add-one n) (step n (alike-keep P a b step n (omega arith) (omega arith) (λ k h. e k (omega arith)) x) (omega arith) (omega arith) last)
 
 module _ (a b : Bytes) (i : ℕ) (ha : i < length a) (hb : i < length b) where
   pub begins-at-equal : getD a i 0 ≡ getD b i 0 → begins (drop i a) (drop i b) ≡ begins (drop (i + 1) a) (drop (i + 1) b)

@@ -25,7 +25,7 @@ pub fn begins_with(a: &[u8], b: &[u8]) -> bool
     if b.len() < a.len() {
         return false;
     }
-    let mut i = 0;
+    let mut i = octets::common(a, 0, b, 0, a.len());
     while i < a.len() {
         if a[i] != b[i] {
             return false;
@@ -64,7 +64,7 @@ pub fn order_bytes(a: &[u8], b: &[u8]) -> Order
     ensures { λ r. ⌜ r ≡ orderIs (order (now (a .entry)) (now (b .entry))) ⌝ }
 {
     let n = lesser(a.len(), b.len());
-    let mut i = 0;
+    let mut i = octets::common(a, 0, b, 0, n);
     while i < n {
         let x = a[i];
         let y = b[i];

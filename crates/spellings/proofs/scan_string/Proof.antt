@@ -2,11 +2,10 @@
 use Prim.Native.Nat.{_+_, _-_, _≤_}
 use borrow.Author.Needs.{needs}
 use lib.ListN.{length}
-use mathlib.Core.Path.{sym, subst, _∙_}
+use mathlib.Core.Path.{subst}
 use native.Mathlib.Omega.{arith}
-use Rattle.characters.proofs.Runs.{plains-keep}
 use Rattle.text.specs.Answers.{Answer}
-use Rattle.spellings.proofs.Scanning.{Scanning, scanning-start, scanning-no-rest, scanning-ended, scanning-quote, scanning-backslash, scanning-bad, scanning-more, scanning-plain}
+use Rattle.spellings.proofs.Scanning.{Scanning, scanning-start, scanning-no-rest, scanning-ended, scanning-quote, scanning-backslash, scanning-bad, scanning-more, scanning-run}
 use Rattle.spellings.proofs.scan_string.Statement.{statement}
 use Rattle.spellings.proofs.scan_string.Tie as tie
 
@@ -20,33 +19,19 @@ skip-plain-requires : tie.Need-skip-plain-requires Inv-loop μ-loop
 skip-plain-requires c κs = search needs
 
 loop-holds : tie.Need-loop-holds Inv-loop μ-loop
-loop-holds c =
-    let e = c .skip-plain .ensures in
-    plains-keep (Scanning _ _) (c .before .before .args .s .now) (λ i t h p. scanning-plain t h p) (c .before .before .args .at) (c .skip-plain .result) (e .0) (e .1) (e .2) (scanning-start (c .before .before .pre))
+loop-holds c = scanning-run (scanning-start (c .before .before .pre)) (c .skip-plain .ensures)
 
 shared-slice-read-b : tie.Need-shared-slice-read-b Inv-loop μ-loop
 shared-slice-read-b c = omega arith
 
-is-plain-requires : tie.Need-is-plain-requires Inv-loop μ-loop
-is-plain-requires c κs = search needs
-
-add-i : tie.Need-add-i Inv-loop μ-loop
-add-i c = omega arith
-
-loop-less : tie.Need-loop-less Inv-loop μ-loop
-loop-less c = omega arith
-
-loop-again : tie.Need-loop-again Inv-loop μ-loop
-loop-again c = scanning-plain (c .before .before .before .before .loop .inv) (c .before .before .before .loop-test .taken) (sym (c .before .is-plain .ensures) ∙ (c .if1 .taken))
-
-add-t13 : tie.Need-add-t13 Inv-loop μ-loop
-add-t13 c = omega arith
+add-t11 : tie.Need-add-t11 Inv-loop μ-loop
+add-t11 c = omega arith
 
 returns : tie.Need-returns Inv-loop μ-loop
-returns c = scanning-quote (c .before .before .before .before .before .loop .inv) (c .before .before .before .before .loop-test .taken) (c .if2 .taken)
+returns c = scanning-quote (c .before .before .before .loop .inv) (c .before .before .loop-test .taken) (c .if1 .taken)
 
 skip-string-requires : tie.Need-skip-string-requires Inv-loop μ-loop
-skip-string-requires c κs = (c .before .before .before .before .before .before .loop .inv .within)
+skip-string-requires c κs = c .before .before .before .before .loop .inv .within
 
 enum-known-j : tie.Need-enum-known-j Inv-loop μ-loop
 enum-known-j c = search needs
@@ -55,13 +40,13 @@ enum-told : tie.Need-enum-told Inv-loop μ-loop
 enum-told c = search needs
 
 returns-2 : tie.Need-returns-2 Inv-loop μ-loop
-returns-2 c = scanning-no-rest (c .before .before .before .before .before .before .before .before .before .loop .inv) (subst (Answer _ _ _) (c .enum-told .given .1) (c .before .before .skip-string .ensures))
+returns-2 c = scanning-no-rest (c .before .before .before .before .before .before .before .loop .inv) (subst (Answer _ _ _) (c .enum-told .given .1) (c .before .before .skip-string .ensures))
 
 returns-3 : tie.Need-returns-3 Inv-loop μ-loop
-returns-3 c = scanning-backslash (c .before .before .before .before .before .before .before .before .before .before .loop .inv) (c .before .before .before .before .before .before .before .before .before .loop-test .taken) (c .before .j .given .0 .0) (c .before .before .before .before .if3 .taken) (subst (Answer _ _ _) (c .before .j .given .1) (c .before .before .before .skip-string .ensures))
+returns-3 c = scanning-backslash (c .before .before .before .before .before .before .before .before .loop .inv) (c .before .before .before .before .before .before .before .loop-test .taken) (c .before .j .given .0 .0) (c .before .before .before .before .if2 .taken) (subst (Answer _ _ _) (c .before .j .given .1) (c .before .before .before .skip-string .ensures))
 
 skip-unescaped-requires : tie.Need-skip-unescaped-requires Inv-loop μ-loop
-skip-unescaped-requires c κs = (c .before .before .before .before .before .before .loop .inv .within)
+skip-unescaped-requires c κs = c .before .before .before .before .loop .inv .within
 
 enum-known-k : tie.Need-enum-known-k Inv-loop μ-loop
 enum-known-k c = search needs
@@ -70,19 +55,22 @@ enum-told-2 : tie.Need-enum-told-2 Inv-loop μ-loop
 enum-told-2 c = search needs
 
 returns-4 : tie.Need-returns-4 Inv-loop μ-loop
-returns-4 c = scanning-bad (c .before .before .before .before .before .before .before .before .before .loop .inv) (c .before .before .before .before .before .before .before .before .loop-test .taken) (c .before .before .before .before .if2 .left) (c .before .before .before .if3 .left) (subst (Answer _ _ _) (c .enum-told2 .given .1) (c .before .before .skip-unescaped .ensures))
+returns-4 c = scanning-bad (c .before .before .before .before .before .before .before .loop .inv) (c .before .before .before .before .before .before .loop-test .taken) (c .before .before .before .before .if1 .left) (c .before .before .before .if2 .left) (subst (Answer _ _ _) (c .enum-told2 .given .1) (c .before .before .skip-unescaped .ensures))
 
-loop-less-2 : tie.Need-loop-less-2 Inv-loop μ-loop
-loop-less-2 c =
-    let e = subst (Answer _ _ _) (c .before .k .given .1) (c .before .before .before .skip-unescaped .ensures) in
-    let l : (c .before .before .before .before .before .before .before .before .before .before .loop .i) + 1 ≤ (c .before .k .given .0 .0) = e .1 in
-    let w : (c .before .k .given .0 .0) ≤ length (c .before .before .before .before .before .before .before .before .before .before .before .before .before .args .s .now) = e .2 in
-    omega arith
+skip-plain-requires-2 : tie.Need-skip-plain-requires-2 Inv-loop μ-loop
+skip-plain-requires-2 c κs = (subst (Answer _ _ _) (c .before .k .given .1) (c .before .before .before .skip-unescaped .ensures)) .2
 
-loop-again-2 : tie.Need-loop-again-2 Inv-loop μ-loop
-loop-again-2 c =
-    let e = subst (Answer _ _ _) (c .before .k .given .1) (c .before .before .before .skip-unescaped .ensures) in
-    scanning-more (c .before .before .before .before .before .before .before .before .before .before .loop .inv) (c .before .before .before .before .before .before .before .before .before .loop-test .taken) (c .before .before .before .before .before .if2 .left) (c .before .before .before .before .if3 .left) _ (e .0) (e .1) (e .2)
+loop-less : tie.Need-loop-less Inv-loop μ-loop
+loop-less c =
+    let e = subst (Answer _ _ _) (c .before .before .k .given .1) (c .before .before .before .before .skip-unescaped .ensures) in
+    let further : c .before .before .before .before .before .before .before .before .before .loop .i + 1 ≤ c .before .before .k .given .0 .0 = e .1 in
+    let run = c .skip-plain2 .ensures in
+    omega (arith, run .0, run .1)
+
+loop-again : tie.Need-loop-again Inv-loop μ-loop
+loop-again c =
+    let e = subst (Answer _ _ _) (c .before .before .k .given .1) (c .before .before .before .before .skip-unescaped .ensures) in
+    scanning-run (scanning-more (c .before .before .before .before .before .before .before .before .before .loop .inv) (c .before .before .before .before .before .before .before .before .loop-test .taken) (c .before .before .before .before .before .before .if1 .left) (c .before .before .before .before .before .if2 .left) _ (e .0) (e .1) (e .2)) (c .skip-plain2 .ensures)
 
 returns-5 : tie.Need-returns-5 Inv-loop μ-loop
 returns-5 c = scanning-ended (c .before .loop .inv) (c .loop-test .left)
@@ -96,11 +84,7 @@ scan-string-spec =
     skip-plain-requires
     loop-holds
     shared-slice-read-b
-    is-plain-requires
-    add-i
-    loop-less
-    loop-again
-    add-t13
+    add-t11
     returns
     skip-string-requires
     enum-known-j
@@ -111,6 +95,7 @@ scan-string-spec =
     enum-known-k
     enum-told-2
     returns-4
-    loop-less-2
-    loop-again-2
+    skip-plain-requires-2
+    loop-less
+    loop-again
     returns-5)

@@ -3,7 +3,7 @@ use mathlib.Core.Path.{_≡_, refl, sym, _∙_}
 use Prim.Native.Nat.{_≤_, _-_}
 use lib.ListN.{length, drop}
 use Rattle.rules.specs.Bytes.{begins}
-use Rattle.values.proofs.Words.{begins-at-equal, begins-at-ne, begins-end, begins-longer}
+use Rattle.values.proofs.Words.{alike-keep, begins-at-equal, begins-at-ne, begins-end, begins-longer}
 use native.Mathlib.Omega.{arith}
 use Rattle.values.proofs.begins_with.Statement.{statement}
 use Rattle.values.proofs.begins_with.Tie as tie
@@ -17,8 +17,15 @@ abbrev μ-loop : tie.MeasureT-loop
 returns : tie.Need-returns Inv-loop μ-loop
 returns c = sym (begins-longer _ _ (c .if1 .taken))
 
+common-requires : tie.Need-common-requires Inv-loop μ-loop
+common-requires c κs = (omega arith, omega arith)
+
 loop-holds : tie.Need-loop-holds Inv-loop μ-loop
-loop-holds c = (omega arith, omega arith, refl)
+loop-holds c =
+    let a = c .before .before .before .before .args .a .now in
+    let b = c .before .before .before .before .args .b .now in
+    let e = c .common .ensures in
+    (e .0, omega arith, alike-keep (λ i. begins (drop i a) (drop i b) ≡ begins a b) a b (λ i v ha hb q. sym (begins-at-equal a b i ha hb q) ∙ v) (c .common .result) (e .0) (omega (arith, e .0)) (e .1) refl)
 
 shared-slice-read-if2 : tie.Need-shared-slice-read-if2 Inv-loop μ-loop
 shared-slice-read-if2 c = omega arith
@@ -27,7 +34,7 @@ shared-slice-read-if2-2 : tie.Need-shared-slice-read-if2-2 Inv-loop μ-loop
 shared-slice-read-if2-2 c = omega arith
 
 returns-2 : tie.Need-returns-2 Inv-loop μ-loop
-returns-2 c = sym (begins-at-ne (c .before .before .before .before .before .before .args .a .now) (c .before .before .before .before .before .before .args .b .now) (c .before .before .before .before .loop .i) (omega arith) (omega arith) (c .if2 .taken)) ∙ c .before .before .before .before .loop .inv .2
+returns-2 c = sym (begins-at-ne (c .before .before .before .before .before .before .before .before .before .args .a .now) (c .before .before .before .before .before .before .before .before .before .args .b .now) (c .before .before .before .before .loop .i) (omega arith) (omega arith) (c .if2 .taken)) ∙ c .before .before .before .before .loop .inv .2
 
 add-i : tie.Need-add-i Inv-loop μ-loop
 add-i c = omega arith
@@ -36,10 +43,10 @@ loop-less : tie.Need-loop-less Inv-loop μ-loop
 loop-less c = omega arith
 
 loop-again : tie.Need-loop-again Inv-loop μ-loop
-loop-again c = (omega arith, omega arith, sym (begins-at-equal (c .before .before .before .before .before .before .args .a .now) (c .before .before .before .before .before .before .args .b .now) (c .before .before .before .before .loop .i) (omega arith) (omega arith) (c .if2 .left)) ∙ c .before .before .before .before .loop .inv .2)
+loop-again c = (omega arith, omega arith, sym (begins-at-equal (c .before .before .before .before .before .before .before .before .before .args .a .now) (c .before .before .before .before .before .before .before .before .before .args .b .now) (c .before .before .before .before .loop .i) (omega arith) (omega arith) (c .if2 .left)) ∙ c .before .before .before .before .loop .inv .2)
 
 returns-3 : tie.Need-returns-3 Inv-loop μ-loop
-returns-3 c = sym (begins-end (c .before .before .before .args .a .now) (c .before .before .before .args .b .now) (c .before .loop .i) (c .loop-test .left)) ∙ c .before .loop .inv .2
+returns-3 c = sym (begins-end (c .before .before .before .before .before .before .args .a .now) (c .before .before .before .before .before .before .args .b .now) (c .before .loop .i) (c .loop-test .left)) ∙ c .before .loop .inv .2
 
 pub begins-with-spec : {M : Type 1} → statement M
 begins-with-spec =
@@ -48,6 +55,7 @@ begins-with-spec =
     Inv-loop
     μ-loop
     returns
+    common-requires
     loop-holds
     shared-slice-read-if2
     shared-slice-read-if2-2

@@ -5,6 +5,7 @@ use lib.ListN.{length, drop}
 use Rattle.rules.specs.Bytes.{order}
 use Rattle.rules.proofs.Order.{order-at-less, order-at-more, order-at-equal, order-first-ends, order-second-ends, order-both-end}
 use Rattle.values.specs.Answers.{orderIs}
+use Rattle.values.proofs.Words.{alike-keep}
 use native.Mathlib.Omega.{arith}
 use borrow.Author.Needs.{needs}
 use Rattle.values.proofs.order_bytes.Statement.{statement}
@@ -19,8 +20,16 @@ abbrev μ-loop : tie.MeasureT-loop
 lesser-requires : tie.Need-lesser-requires Inv-loop μ-loop
 lesser-requires c κs = search needs
 
+common-requires : tie.Need-common-requires Inv-loop μ-loop
+common-requires c κs = (omega (arith, c .lesser .ensures), omega (arith, c .lesser .ensures))
+
 loop-holds : tie.Need-loop-holds Inv-loop μ-loop
-loop-holds c = (omega arith, c .lesser .ensures, refl)
+loop-holds c =
+    let a = c .before .before .before .before .args .a .now in
+    let b = c .before .before .before .before .args .b .now in
+    let n = c .before .lesser .ensures in
+    let e = c .common .ensures in
+    (e .0, n, alike-keep (λ i. order (drop i a) (drop i b) ≡ order a b) a b (λ i v ha hb q. sym (order-at-equal a b i ha hb q) ∙ v) (c .common .result) (omega (arith, n, e .0)) (omega (arith, n, e .0)) (e .1) refl)
 
 shared-slice-read-x : tie.Need-shared-slice-read-x Inv-loop μ-loop
 shared-slice-read-x c = omega arith
@@ -30,11 +39,11 @@ shared-slice-read-y c = omega arith
 
 returns : tie.Need-returns Inv-loop μ-loop
 unfolding orderIs
-returns c = ap orderIs (sym (order-at-less (c .before .before .before .before .before .before .before .before .before .args .a .now) (c .before .before .before .before .before .before .before .before .before .args .b .now) (c .before .before .before .before .before .loop .i) (omega arith) (omega arith) (c .if2 .taken)) ∙ c .before .before .before .before .before .loop .inv .2)
+returns c = ap orderIs (sym (order-at-less (c .before .before .before .before .before .before .before .before .before .before .args .a .now) (c .before .before .before .before .before .before .before .before .before .before .args .b .now) (c .before .before .before .before .before .loop .i) (omega arith) (omega arith) (c .if2 .taken)) ∙ c .before .before .before .before .before .loop .inv .2)
 
 returns-2 : tie.Need-returns-2 Inv-loop μ-loop
 unfolding orderIs
-returns-2 c = ap orderIs (sym (order-at-more (c .before .before .before .before .before .before .before .before .before .args .a .now) (c .before .before .before .before .before .before .before .before .before .args .b .now) (c .before .before .before .before .before .loop .i) (omega arith) (omega arith) (omega arith)) ∙ c .before .before .before .before .before .loop .inv .2)
+returns-2 c = ap orderIs (sym (order-at-more (c .before .before .before .before .before .before .before .before .before .before .args .a .now) (c .before .before .before .before .before .before .before .before .before .before .args .b .now) (c .before .before .before .before .before .loop .i) (omega arith) (omega arith) (omega arith)) ∙ c .before .before .before .before .before .loop .inv .2)
 
 add-i : tie.Need-add-i Inv-loop μ-loop
 add-i c = omega arith
@@ -43,19 +52,19 @@ loop-less : tie.Need-loop-less Inv-loop μ-loop
 loop-less c = omega arith
 
 loop-again : tie.Need-loop-again Inv-loop μ-loop
-loop-again c = (omega arith, c .before .before .before .before .loop .inv .1, sym (order-at-equal (c .before .before .before .before .before .before .before .before .args .a .now) (c .before .before .before .before .before .before .before .before .args .b .now) (c .before .before .before .before .loop .i) (omega arith) (omega arith) (c .if1 .left)) ∙ c .before .before .before .before .loop .inv .2)
+loop-again c = (omega arith, c .before .before .before .before .loop .inv .1, sym (order-at-equal (c .before .before .before .before .before .before .before .before .before .args .a .now) (c .before .before .before .before .before .before .before .before .before .args .b .now) (c .before .before .before .before .loop .i) (omega arith) (omega arith) (c .if1 .left)) ∙ c .before .before .before .before .loop .inv .2)
 
 returns-3 : tie.Need-returns-3 Inv-loop μ-loop
 unfolding orderIs
-returns-3 c = ap orderIs (sym (order-first-ends (c .before .before .before .before .before .before .args .a .now) (c .before .before .before .before .before .before .args .b .now) (c .before .before .loop .i) (omega arith) (omega arith)) ∙ c .before .before .loop .inv .2)
+returns-3 c = ap orderIs (sym (order-first-ends (c .before .before .before .before .before .before .before .args .a .now) (c .before .before .before .before .before .before .before .args .b .now) (c .before .before .loop .i) (omega arith) (omega arith)) ∙ c .before .before .loop .inv .2)
 
 returns-4 : tie.Need-returns-4 Inv-loop μ-loop
 unfolding orderIs
-returns-4 c = ap orderIs (sym (order-second-ends (c .before .before .before .before .before .before .before .args .a .now) (c .before .before .before .before .before .before .before .args .b .now) (c .before .before .before .loop .i) (omega arith) (omega arith)) ∙ c .before .before .before .loop .inv .2)
+returns-4 c = ap orderIs (sym (order-second-ends (c .before .before .before .before .before .before .before .before .args .a .now) (c .before .before .before .before .before .before .before .before .args .b .now) (c .before .before .before .loop .i) (omega arith) (omega arith)) ∙ c .before .before .before .loop .inv .2)
 
 returns-5 : tie.Need-returns-5 Inv-loop μ-loop
 unfolding orderIs
-returns-5 c = ap orderIs (sym (order-both-end (c .before .before .before .before .before .before .before .args .a .now) (c .before .before .before .before .before .before .before .args .b .now) (c .before .before .before .loop .i) (omega arith) (omega arith)) ∙ c .before .before .before .loop .inv .2)
+returns-5 c = ap orderIs (sym (order-both-end (c .before .before .before .before .before .before .before .before .args .a .now) (c .before .before .before .before .before .before .before .before .args .b .now) (c .before .before .before .loop .i) (omega arith) (omega arith)) ∙ c .before .before .before .loop .inv .2)
 
 pub order-bytes-spec : {M : Type 1} → statement M
 order-bytes-spec =
@@ -64,6 +73,7 @@ order-bytes-spec =
     Inv-loop
     μ-loop
     lesser-requires
+    common-requires
     loop-holds
     shared-slice-read-x
     shared-slice-read-y
