@@ -30,13 +30,14 @@ pub fn find(src: &[u8], t: &[u64], n: usize, path: usize) -> Found
     requires { ⌜ Table (now src) n (now t) × WellSpelled (now src) path ⌝ }
     ensures { λ r. ⌜ Finds (now (src .entry)) (decoded (drop path (now (src .entry)))) n (now (t .entry)) r ⌝ }
 {
+    let end = strings::raw_end(src, path);
     let mut lo = 0;
     let mut hi = n;
     while lo < hi {
         let mid = lo + (hi - lo) / 2;
         let c = table::row_at(t, mid);
         let at = (c.head / PLACES) as usize;
-        match strings::order_strings(src, at, src, path) {
+        match strings::order_raw(src, at, src, path, end) {
             values::Order::Less => {
                 lo = mid + 1;
             }

@@ -5,5 +5,6 @@ pub mod Raw
 pub mod Keys
 pub mod Sizes
 pub mod Orders
+pub mod AsSpelled
 pub mod Numerals
 pub mod Placing

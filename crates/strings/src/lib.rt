@@ -2,7 +2,9 @@
 mod pairs;
 mod single;
 
+pub use pairs::order_raw;
 pub use pairs::order_strings;
+pub use pairs::raw_end;
 pub use pairs::same_strings;
 pub use single::decoded_size;
 pub use single::numeral_in;
@@ -11,3 +13,5 @@ pub use single::string_is;
 pub const QUOTE: u8 = 0x22;
 
 pub const BACKSLASH: u8 = 0x5C;
+
+pub const SLASH: u8 = 0x2F;

@@ -1,20 +1,21 @@
 // Two strings: how one stands to the other, and whether they are the same.
 use crate::BACKSLASH;
 use crate::QUOTE;
+use crate::SLASH;
 use cursors::Cursor;
 use cursors::Step;
 use values::Order;
 ghost use mathlib.Core.Path.{_≡_};
-ghost use mathlib.Core.Bool.{false};
+ghost use mathlib.Core.Bool.{true};
 ghost use mathlib.Core.List.{[]};
-ghost use Prim.Native.Nat.{_≤_, _+_};
+ghost use Prim.Native.Nat.{ℕ, _≤_, _<_, _+_};
 ghost use lib.ListN.{length, drop};
 ghost use Rattle.rules.specs.Bytes.{same, order};
 ghost use Rattle.values.specs.Answers.{orderIs};
 ghost use Rattle.cursors.specs.Ahead.{Sound, ahead};
 ghost use Rattle.strings.specs.Decoded.{decoded, WellSpelled};
 ghost use Rattle.cursors.specs.Flat.{flat};
-ghost use Rattle.strings.specs.Alike.{Common, Themselves};
+ghost use Rattle.strings.specs.Spelling.{Raw, Whole, Tells};
 
 // The lesser of two lengths.
 fn lesser(a: usize, b: usize) -> usize
@@ -23,71 +24,66 @@ fn lesser(a: usize, b: usize) -> usize
     if a < b { a } else { b }
 }
 
-// Whether two bytes differ, or are the quote or the backslash.
-fn part(b: u8, c: u8) -> bool
-    ensures { λ r. ⌜ (r ≡ false → Themselves b c) ⌝ }
+// So many bytes at k are compared as they are spelled: a byte that stands for itself, or a backslash and a slash; none of another
+// escape, and no quote.
+fn raw_here(t: &[u8], k: usize) -> usize
+    requires { ⌜ k < length (now t) ⌝ }
+    ensures { λ r. ⌜ ((a : ℕ) → Raw (now (t .entry)) a k → Raw (now (t .entry)) a (k + r)) ⌝ }
 {
-    (b != c) | (b == QUOTE) | (b == BACKSLASH)
-}
-
-// Whether bytes part among the four from i on and the four from j on.
-fn part_in_four(s: &[u8], i: usize, t: &[u8], j: usize) -> bool
-    requires { ⌜ (i + 4 ≤ length (now s)) × (j + 4 ≤ length (now t)) ⌝ }
-    ensures { λ r. ⌜ (r ≡ false → Common (now (s .entry)) i (now (t .entry)) j 4) ⌝ }
-{
-    part(s[i], t[j])
-        | part(s[i + 1], t[j + 1])
-        | part(s[i + 2], t[j + 2])
-        | part(s[i + 3], t[j + 3])
-}
-
-// The same of sixteen: all of them looked at with no branch, so that the machine does it at once.
-fn part_in_sixteen(s: &[u8], i: usize, t: &[u8], j: usize) -> bool
-    requires { ⌜ (i + 16 ≤ length (now s)) × (j + 16 ≤ length (now t)) ⌝ }
-    ensures { λ r. ⌜ (r ≡ false → Common (now (s .entry)) i (now (t .entry)) j 16) ⌝ }
-{
-    part_in_four(s, i, t, j)
-        | part_in_four(s, i + 4, t, j + 4)
-        | part_in_four(s, i + 8, t, j + 8)
-        | part_in_four(s, i + 12, t, j + 12)
-}
-
-// So many bytes, at most `room`, two strings begin with that are the same and stand for themselves: sixteen at a time.
-fn common_sixteens(s: &[u8], i: usize, t: &[u8], j: usize, room: usize) -> usize
-    requires { ⌜ (i + room ≤ length (now s)) × (j + room ≤ length (now t)) ⌝ }
-    ensures { λ r. ⌜ (r ≤ room) × Common (now (s .entry)) i (now (t .entry)) j r ⌝ }
-{
-    let mut n = 0;
-    while 16 <= room - n {
-        if part_in_sixteen(s, i + n, t, j + n) {
-            return n;
-        }
-        n += 16;
+    let b = t[k];
+    if b == QUOTE {
+        return 0;
     }
-    n
+    if b != BACKSLASH {
+        return 1;
+    }
+    if t.len() - k < 2 {
+        return 0;
+    }
+    if t[k + 1] == SLASH { 2 } else { 0 }
 }
 
-// How many bytes two strings begin with that are the same and stand for themselves.
-fn common(s: &[u8], i: usize, t: &[u8], j: usize) -> usize
-    requires { ⌜ (i ≤ length (now s)) × (j ≤ length (now t)) ⌝ }
-    ensures { λ r. ⌜ Common (now (s .entry)) i (now (t .entry)) j r ⌝ }
+// Up to where the string in t behind j is compared as it is spelled: its quote, or an escape.
+pub fn raw_end(t: &[u8], j: usize) -> usize
+    requires { ⌜ j ≤ length (now t) ⌝ }
+    ensures { λ r. ⌜ Raw (now (t .entry)) j r ⌝ }
 {
-    let room = lesser(s.len() - i, t.len() - j);
-    let mut n = common_sixteens(s, i, t, j, room);
-    while n < room {
-        let b = s[i + n];
-        if b != t[j + n] {
-            return n;
+    let mut k = characters::skip_plain(t, j);
+    while k < t.len() {
+        let n = raw_here(t, k);
+        if n == 0 {
+            return k;
         }
-        if b == QUOTE {
-            return n;
-        }
-        if b == BACKSLASH {
-            return n;
-        }
-        n += 1;
+        k = characters::skip_plain(t, k + n);
     }
-    n
+    k
+}
+
+// Of n bytes that are compared as they are spelled, those before a backslash that ends them.
+fn whole(t: &[u8], j: usize, end: usize, n: usize) -> usize
+    requires { ⌜ Raw (now t) j end × (j + n ≤ end) ⌝ }
+    ensures { λ r. ⌜ (r ≤ n) × Whole (now (t .entry)) j r ⌝ }
+{
+    if n == 0 {
+        return n;
+    }
+    if t[j + n - 1] == BACKSLASH { n - 1 } else { n }
+}
+
+// Whether two bytes, where they differ, tell how two strings stand that are spelled alike before them: neither is the quote or of an escape.
+fn tells(x: u8, y: u8) -> bool
+    ensures { λ r. ⌜ (r ≡ true → Tells x y) ⌝ }
+{
+    if x == QUOTE {
+        return false;
+    }
+    if x == BACKSLASH {
+        return false;
+    }
+    if y == BACKSLASH {
+        return false;
+    }
+    if y == SLASH { false } else { true }
 }
 
 // How nothing stands to what is to come.
@@ -134,13 +130,37 @@ fn order_rests(s: &[u8], i: usize, t: &[u8], j: usize) -> Order
     }
 }
 
-// How the string in s behind i stands to the string in t behind j, by the unsigned bytes that they stand for.
+// How the string in s behind i stands to the string in t behind j, by the unsigned bytes that they stand for, where the one in t is
+// compared as it is spelled up to `end`.
+pub fn order_raw(s: &[u8], i: usize, t: &[u8], j: usize, end: usize) -> Order
+    requires { ⌜ WellSpelled (now s) i × WellSpelled (now t) j × Raw (now t) j end ⌝ }
+    ensures { λ r. ⌜ r ≡ orderIs (order (decoded (drop i (now (s .entry)))) (decoded (drop j (now (t .entry))))) ⌝ }
+{
+    let room = lesser(end - j, s.len() - i);
+    let n = octets::common(s, i, t, j, room);
+    if n < room {
+        let b = s[i + n];
+        let c = t[j + n];
+        if tells(b, c) {
+            if b < c {
+                return Order::Less;
+            }
+            if c < b {
+                return Order::More;
+            }
+        }
+    }
+    let m = whole(t, j, end, n);
+    order_rests(s, i + m, t, j + m)
+}
+
+// The same where it is not known how far that is.
 pub fn order_strings(s: &[u8], i: usize, t: &[u8], j: usize) -> Order
     requires { ⌜ WellSpelled (now s) i × WellSpelled (now t) j ⌝ }
     ensures { λ r. ⌜ r ≡ orderIs (order (decoded (drop i (now (s .entry)))) (decoded (drop j (now (t .entry))))) ⌝ }
 {
-    let n = common(s, i, t, j);
-    order_rests(s, i + n, t, j + n)
+    let end = raw_end(t, j);
+    order_raw(s, i, t, j, end)
 }
 
 // Whether the string in s behind i and the string in t behind j stand for the same bytes.

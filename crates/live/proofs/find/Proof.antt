@@ -4,6 +4,7 @@ use mathlib.Core.Path.{_≡_, sym, _∙_}
 use Prim.Native.Nat.{ℕ, _+_, _-_, _/_}
 use lib.ListN.{drop}
 use Rattle.strings.specs.Decoded.{decoded}
+use Rattle.strings.proofs.Raw.{well-within}
 use Rattle.table.specs.Table.{rows, rowAt}
 use Rattle.live.proofs.Halving.{Halving, halving-start, halving-end, halving-spelled, halving-up, halving-down, halving-hit}
 use borrow.Author.Needs.{needs}
@@ -12,18 +13,21 @@ use Rattle.live.proofs.find.Statement.{statement}
 use Rattle.live.proofs.find.Tie as tie
 
 abbrev Inv-loop : tie.InvT-loop
-Inv-loop src t n path lo₀ hi₀ lo hi = Halving src (decoded (drop path src)) n t lo hi
+Inv-loop src t n path end lo₀ hi₀ lo hi = Halving src (decoded (drop path src)) n t lo hi
 
 abbrev μ-loop : tie.MeasureT-loop
-μ-loop src t n path lo₀ hi₀ lo hi = hi - lo
+μ-loop src t n path end lo₀ hi₀ lo hi = hi - lo
 
 abbrev mid : tie.In-loop Inv-loop μ-loop → ℕ
 mid i = i .before .loop .lo + (i .before .loop .hi - i .before .loop .lo) / 2
 
 -- the row in the middle
 read : (c : tie.After-row-at Inv-loop μ-loop)
-    → let s = c .before .before .before .before .before in c .row-at .result ≡ rowAt (rows (s .args .n) (now (s .args .t))) (mid (c .before))
+    → let s = c .before .before .before .before .before .before in c .row-at .result ≡ rowAt (rows (s .args .n) (now (s .args .t))) (mid (c .before))
 read c = c .row-at .ensures _ (omega arith)
+
+raw-end-requires : tie.Need-raw-end-requires Inv-loop μ-loop
+raw-end-requires c κs = omega (arith, well-within (c .before .before .pre .1))
 
 loop-holds : tie.Need-loop-holds Inv-loop μ-loop
 loop-holds c = halving-start
@@ -37,10 +41,10 @@ add-mid c = search needs
 row-at-requires : tie.Need-row-at-requires Inv-loop μ-loop
 row-at-requires c κs = omega arith
 
-order-strings-requires : tie.Need-order-strings-requires Inv-loop μ-loop
-order-strings-requires c κs =
-    let s = c .before .before .before .before .before .before in
-    (halving-spelled (s .pre .0) (mid (c .before .before)) (read (c .before)) (omega arith), s .pre .1)
+order-raw-requires : tie.Need-order-raw-requires Inv-loop μ-loop
+order-raw-requires c κs =
+    let s = c .before .before .before .before .before .before .before in
+    (halving-spelled (s .pre .0) (mid (c .before .before)) (read (c .before)) (omega arith), s .pre .1, c .before .before .before .before .raw-end .ensures)
 
 enum-told : tie.Need-enum-told Inv-loop μ-loop
 enum-told c = search needs
@@ -55,7 +59,7 @@ loop-again : tie.Need-loop-again Inv-loop μ-loop
 loop-again c =
     let r = c .before .before .before .before in
     let i = r .before in
-    halving-up (i .before .before .before .before .pre .0) (mid i) (read r) (i .before .loop .inv) (omega arith) (omega arith) (sym (c .enum-told .given .1) ∙ c .before .before .order-strings .ensures)
+    halving-up (i .before .before .before .before .before .pre .0) (mid i) (read r) (i .before .loop .inv) (omega arith) (omega arith) (sym (c .enum-told .given .1) ∙ c .before .before .order-raw .ensures)
 
 enum-told-2 : tie.Need-enum-told-2 Inv-loop μ-loop
 enum-told-2 c = search needs
@@ -64,7 +68,7 @@ returns : tie.Need-returns Inv-loop μ-loop
 returns c =
     let r = c .before .before .before .before in
     let i = r .before in
-    halving-hit (i .before .before .before .before .pre .0) (mid i) (read r) (i .before .loop .inv) (omega arith) (omega arith) (sym (c .enum-told2 .given .1) ∙ c .before .before .order-strings .ensures)
+    halving-hit (i .before .before .before .before .before .pre .0) (mid i) (read r) (i .before .loop .inv) (omega arith) (omega arith) (sym (c .enum-told2 .given .1) ∙ c .before .before .order-raw .ensures)
 
 enum-told-3 : tie.Need-enum-told-3 Inv-loop μ-loop
 enum-told-3 c = search needs
@@ -76,7 +80,7 @@ loop-again-2 : tie.Need-loop-again-2 Inv-loop μ-loop
 loop-again-2 c =
     let r = c .before .before .before .before in
     let i = r .before in
-    halving-down (i .before .before .before .before .pre .0) (mid i) (read r) (i .before .loop .inv) (omega arith) (omega arith) (sym (c .enum-told3 .given .1) ∙ c .before .before .order-strings .ensures)
+    halving-down (i .before .before .before .before .before .pre .0) (mid i) (read r) (i .before .loop .inv) (omega arith) (omega arith) (sym (c .enum-told3 .given .1) ∙ c .before .before .order-raw .ensures)
 
 returns-2 : tie.Need-returns-2 Inv-loop μ-loop
 returns-2 c = halving-end (c .before .loop .inv) (c .loop-test .left)
@@ -87,11 +91,12 @@ find-spec =
     (tie.spec
     Inv-loop
     μ-loop
+    raw-end-requires
     loop-holds
     sub-mid
     add-mid
     row-at-requires
-    order-strings-requires
+    order-raw-requires
     enum-told
     add-lo
     loop-less
