@@ -160,13 +160,13 @@ pub fn rule(src: &[u8], one: &mut [u64], two: &mut [u64]) -> Ruling
     if bundle::any_too_large(src) {
         return Ruling::Refused(Refusal::VersionTooLarge);
     }
-    let Place::At(zero) = logs::version_file(src, Version(0)) else {
+    let Place::At(zero) = logs::version_file(src, Version(0), 0) else {
         return Ruling::Refused(Refusal::NoVersionZero);
     };
     let Mark::At(c) = starts::marked(src) else {
         return Ruling::Nothing;
     };
-    let Place::At(k) = starts::start_at(src, c) else {
+    let Place::At(k) = starts::start_at(src, c, 0) else {
         return Ruling::Nothing; // never: the marker is usable
     };
     rule_at(src, zero, k, c, one, two)

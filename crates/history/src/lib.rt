@@ -25,22 +25,32 @@ const MOST_LIVE: usize = 1024;
 
 // ---- from a start
 
-// Reads the version files behind version s up to that of v, all of which are there.
-fn onward(src: &[u8], st: State, s: Version, v: Version, t: &mut [u64], limit: usize) -> Outcome
+// Reads the version files behind version s up to that of v, all of which are there, the first of them near the place `near`.
+pub fn onward(
+    src: &[u8],
+    st: State,
+    s: Version,
+    v: Version,
+    near: usize,
+    t: &mut [u64],
+    limit: usize,
+) -> Outcome
     requires { ⌜ (isSome (rBundle (now src)) ≡ true) × Carries (now src) limit st (now t) × (s .0 ≤ v .0) ⌝ }
     ensures { λ r. ⌜ OnwardIs (now (src .entry)) limit (s .0) (v .0) st (now (t .entry)) (now (t .exit)) r ⌝ }
 {
     let mut w = s.0;
     let mut state = st;
+    let mut place = near;
     while w < v.0 {
         let next = w + 1;
-        let Place::At(k) = logs::version_file(src, Version(next)) else {
+        let Place::At(k) = logs::version_file(src, Version(next), place) else {
             return Outcome::Done(state); // never: no start reaches v over a gap
         };
         match replay::read_file(src, k, state, t, limit) {
             Outcome::Done(after) => {
                 state = after;
                 w = next;
+                place = k + 1;
             }
             Outcome::Malformed(e, l) => return Outcome::Malformed(e, l),
             Outcome::TooMany(e, l) => return Outcome::TooMany(e, l),
@@ -62,11 +72,11 @@ pub fn follow(
     ensures { λ r. ⌜ FollowIs (now (src .entry)) limit (v .0) z start (now (t .entry)) (now (t .exit)) r ⌝ }
 {
     match start {
-        Start::Zero => onward(src, z, Version(0), v, t, limit),
+        Start::Zero => onward(src, z, Version(0), v, 0, t, limit),
         Start::Checkpoint(k, s) => {
             let empty = replay::nothing_live(z);
             match replay::read_file(src, k, empty, t, limit) {
-                Outcome::Done(st) => onward(src, st, s, v, t, limit),
+                Outcome::Done(st) => onward(src, st, s, v, k, t, limit),
                 Outcome::Malformed(e, l) => Outcome::Malformed(e, l),
                 Outcome::TooMany(e, l) => Outcome::TooMany(e, l),
             }
@@ -103,10 +113,10 @@ pub fn state_at(src: &[u8], v: Version, t: &mut [u64]) -> Reached
     requires { ⌜ (isSome (rBundle (now src)) ≡ true) × Room mostLive (now t) ⌝ }
     ensures { λ r. ⌜ ReachedIs (now (src .entry)) (stateBy (logOf (filesIn (now (src .entry)))) (wayTo (logOf (filesIn (now (src .entry)))) (v .0))) (now (t .entry)) (now (t .exit)) r ⌝ }
 {
-    let Place::At(k) = logs::version_file(src, Version(0)) else {
+    let Place::At(k) = logs::version_file(src, Version(0), 0) else {
         return Reached::Refused(Refusal::NoVersionZero);
     };
-    match starts::start_for(src, v) {
+    match starts::start_for(src, v, 0) {
         Start::Zero => from_zero(src, k, Start::Zero, v, t),
         Start::Checkpoint(c, s) => from_zero(src, k, Start::Checkpoint(c, s), v, t),
         Start::NoStart => Reached::Refused(Refusal::NotKept),

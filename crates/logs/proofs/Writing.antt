@@ -1,10 +1,12 @@
 -- Digits written from the last to the first over the front of a slice.
 use mathlib.Core.Path.{_≡_, refl, sym, ap, _∙_}
-use mathlib.Core.List.{[], _∷_, _++_, append-nil}
-use Prim.Native.Nat.{ℕ, suc, _+_, _-_, _/_, _%_, _≤_, _<_}
+use mathlib.Core.Logic.{_⊎_, inl, inr}
+use mathlib.Core.List.{[], _∷_, _++_, append-nil, append-assoc}
+use Prim.Native.Nat.{ℕ, zero, suc, _+_, _-_, _/_, _%_, _≤_, _<_}
+use native.Mathlib.Nat.{eq-or-lt-of-le}
 use native.Mathlib.Omega.{arith}
-use lib.ListN.{length, drop, set}
-use lib.Seq.{append-snoc}
+use lib.ListN.{length, take, drop, set}
+use lib.Seq.{take-take, take-all, take-append-le, append-snoc}
 use Rattle.facts.specs.Moves.{putAt}
 use Rattle.facts.proofs.Moves.{length-putAt, putAt-cons, putAt-none}
 use Rattle.rules.specs.Bytes.{Bytes}
@@ -17,10 +19,6 @@ pub record Writing (v : ℕ) (t₀ t : Bytes) (i left : ℕ) : Type 0 where
   pub size : i + length behind ≡ 20
   pub written : t ≡ putAt i behind t₀
   pub all : digits i left ++ behind ≡ digits 20 v
-
-digits-none : (v : ℕ) → digits 0 v ≡ []
-unfolding digits
-digits-none v = refl
 
 module _ {v : ℕ} {t₀ : Bytes} (room : 20 ≤ length t₀) where
   pub writing-start : Writing v t₀ t₀ 20 v
@@ -43,11 +41,28 @@ module _ {v : ℕ} {t₀ : Bytes} (room : 20 ≤ length t₀) where
           all = sym (append-snoc (digits (i - 1) (left / 10)) d (w .behind)) ∙ (rw k at (w .all));
         }
 
-    pub writing-end : i ≤ 0 → t ≡ digits 20 v ++ drop 20 t₀
+    -- where what is left is no more than what stood there before
+    pub writing-end : take i t₀ ≡ digits i left → t ≡ digits 20 v ++ drop 20 t₀
     unfolding putAt
-    writing-end h =
-        let z : i ≡ 0 = omega arith in
-        let all : w .behind ≡ digits 20 v = rw (z, digits-none left) at (w .all) in
-        let e : t ≡ putAt 0 (w .behind) t₀ = rw z at (w .written) in
-        let l : 0 + length (digits 20 v) ≡ 20 = omega (arith, length-digits 20 v) in
-        e ∙ rw (all, l)
+    writing-end e =
+        let a : t ≡ take i t₀ ++ (w .behind ++ drop 20 t₀) = rw (← w .size) (w .written) in
+        a ∙ rw (e, ← w .all) (sym (append-assoc (digits i left) (w .behind) (drop 20 t₀)))
+
+-- ---- zeros are what stood there
+
+pub digits-before : (t : Bytes) (i left : ℕ) → i ≤ 0 → take i t ≡ digits i left
+unfolding digits
+digits-before t zero left h = refl
+digits-before t (suc i) left h = absurd (omega arith)
+
+take-zeros : (n i : ℕ) → i ≤ n → take i (digits n 0) ≡ digits i 0
+unfolding digits
+take-zeros zero i h = let e : i ≡ 0 = omega arith in rw e
+take-zeros (suc n) i h = go (take-zeros n i) (eq-or-lt-of-le h)
+  where
+    go : (i ≤ n → take i (digits n 0) ≡ digits i 0) → (i ≡ suc n) ⊎ (i < suc n) → take i (digits (suc n) 0) ≡ digits i 0
+    go ih (inl e) = rw e (take-all (suc n) (digits (suc n) 0) (omega (arith, length-digits (suc n) 0)))
+    go ih (inr k) = take-append-le i (digits n 0) (48 ∷ []) (omega (arith, length-digits n 0)) ∙ ih (omega arith)
+
+pub digits-zeros : (t : Bytes) (i left : ℕ) → take 20 t ≡ digits 20 0 → i ≤ 20 → left ≡ 0 → take i t ≡ digits i left
+digits-zeros t i left z h e = rw e (sym (take-take i 20 t h) ∙ ap (take i) z ∙ take-zeros 20 i h)

@@ -5,7 +5,7 @@ ghost use mathlib.Core.Path.{_≡_};
 ghost use mathlib.Core.Bool.{true};
 ghost use mathlib.Core.List.{_++_};
 ghost use Prim.Native.Nat.{_≤_, _<_};
-ghost use lib.ListN.{length, drop, getD};
+ghost use lib.ListN.{length, take, drop, getD};
 ghost use Rattle.rules.specs.Bundle.{bundle as rBundle};
 ghost use Rattle.rules.specs.Starts.{logOf};
 ghost use Rattle.rules.proofs.Live.{lookup};
@@ -17,6 +17,9 @@ const MOST: u64 = 9223372036854775807;
 
 // So many digits a name begins with.
 const DIGITS: usize = 20;
+
+// Halved with each look, it is 0 after three.
+const NEAR: usize = 4;
 
 // Where a file stands among the entries.
 pub enum Place {
@@ -43,15 +46,34 @@ pub fn count(s: &[u8]) -> usize
     a + 256 * (b + 256 * (c + 256 * d))
 }
 
-// Where the file of this name stands.
-fn find(s: &[u8], name: &[u8]) -> Place
+// The place from lo on and before hi to look at: in the middle, or the nearest to `near` for the first looks.
+fn place_between(lo: usize, hi: usize, near: usize, looks: usize) -> usize
+    requires { ⌜ lo < hi ⌝ }
+    ensures { λ r. ⌜ (lo ≤ r) × (r < hi) ⌝ }
+{
+    if looks == 0 {
+        return lo + (hi - lo) / 2;
+    }
+    if near < lo {
+        return lo;
+    }
+    if near < hi {
+        return near;
+    }
+    hi - 1
+}
+
+// Where the file of this name stands. `near` is where it may be: a search that begins there ends soon if it is, and else it halves.
+fn find(s: &[u8], name: &[u8], near: usize) -> Place
     requires { ⌜ isSome (rBundle (now s)) ≡ true ⌝ }
     ensures { λ r. ⌜ PlaceIs (now (s .entry)) (lookup title (now (name .entry)) (filesIn (now (s .entry)))) r ⌝ }
 {
     let mut lo = 0;
     let mut hi = count(s);
+    let mut looks = NEAR;
     while lo < hi {
-        let mid = lo + (hi - lo) / 2;
+        let mid = place_between(lo, hi, near, looks);
+        looks = looks / 2;
         match values::order_bytes(bundle::name_in(s, mid), name) {
             Order::Less => {
                 lo = mid + 1;
@@ -67,14 +89,17 @@ fn find(s: &[u8], name: &[u8]) -> Place
     Place::Nowhere
 }
 
-// Writes v in twenty digits over the front of t.
+// Writes v in twenty digits over the front of t, which holds twenty zeros.
 fn write_digits(t: &mut [u8], v: u64)
-    requires { ⌜ 20 ≤ length (now t) ⌝ }
+    requires { ⌜ (20 ≤ length (now t)) × (take 20 (now t) ≡ twenty 0) ⌝ }
     ensures { λ _. ⌜ now (t .exit) ≡ twenty v ++ drop 20 (now (t .entry)) ⌝ }
 {
     let mut i = DIGITS;
     let mut left = v;
     while 0 < i {
+        if left == 0 {
+            return;
+        }
         i -= 1;
         t[i] = b'0' + (left % 10) as u8;
         left = left / 10;
@@ -82,7 +107,7 @@ fn write_digits(t: &mut [u8], v: u64)
 }
 
 // Where the version file of v stands.
-pub fn version_file(s: &[u8], v: Version) -> Place
+pub fn version_file(s: &[u8], v: Version, near: usize) -> Place
     requires { ⌜ isSome (rBundle (now s)) ≡ true ⌝ }
     ensures { λ r. ⌜ PlaceIs (now (s .entry)) (logOf (filesIn (now (s .entry))) .versionFile (v .0)) r ⌝ }
 {
@@ -91,11 +116,11 @@ pub fn version_file(s: &[u8], v: Version) -> Place
     }
     let mut name = *b"00000000000000000000.json";
     write_digits(&mut name, v.0);
-    find(s, &name)
+    find(s, &name, near)
 }
 
 // Where the checkpoint at v stands.
-pub fn checkpoint_file(s: &[u8], v: Version) -> Place
+pub fn checkpoint_file(s: &[u8], v: Version, near: usize) -> Place
     requires { ⌜ isSome (rBundle (now s)) ≡ true ⌝ }
     ensures { λ r. ⌜ PlaceIs (now (s .entry)) (logOf (filesIn (now (s .entry))) .checkpointFile (v .0)) r ⌝ }
 {
@@ -104,7 +129,7 @@ pub fn checkpoint_file(s: &[u8], v: Version) -> Place
     }
     let mut name = *b"00000000000000000000.checkpoint.json";
     write_digits(&mut name, v.0);
-    find(s, &name)
+    find(s, &name, near)
 }
 
 // Where the marker stands.
@@ -112,5 +137,5 @@ pub fn marker_file(s: &[u8]) -> Place
     requires { ⌜ isSome (rBundle (now s)) ≡ true ⌝ }
     ensures { λ r. ⌜ PlaceIs (now (s .entry)) (logOf (filesIn (now (s .entry))) .markerFile) r ⌝ }
 {
-    find(s, b"_last_checkpoint")
+    find(s, b"_last_checkpoint", count(s))
 }

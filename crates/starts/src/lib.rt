@@ -128,11 +128,11 @@ pub fn well_formed(body: &[u8]) -> bool
 }
 
 // Where the checkpoint at v stands, if it is a start.
-pub fn start_at(s: &[u8], v: Version) -> Place
+pub fn start_at(s: &[u8], v: Version, near: usize) -> Place
     requires { ⌜ isSome (rBundle (now s)) ≡ true ⌝ }
     ensures { λ r. ⌜ PlaceIs (now (s .entry)) (startAt (logOf (filesIn (now (s .entry)))) (v .0)) r ⌝ }
 {
-    let Place::At(k) = logs::checkpoint_file(s, v) else {
+    let Place::At(k) = logs::checkpoint_file(s, v, near) else {
         return Place::Nowhere;
     };
     if well_formed(bundle::body_in(s, k)) {
@@ -148,23 +148,30 @@ pub enum Start {
     NoStart,
 }
 
+// The place before k, or the first.
+fn place_before(k: usize) -> usize {
+    if k == 0 { 0 } else { k - 1 }
+}
+
 // The highest start that reaches v, on equal versions the checkpoint.
-pub fn start_for(s: &[u8], v: Version) -> Start
+pub fn start_for(s: &[u8], v: Version, near: usize) -> Start
     requires { ⌜ isSome (rBundle (now s)) ≡ true ⌝ }
     ensures { λ r. ⌜ StartIs (now (s .entry)) (v .0) (wayTo (logOf (filesIn (now (s .entry)))) (v .0)) r ⌝ }
 {
     let mut w = v.0;
+    let mut place = near;
     loop {
-        if let Place::At(k) = start_at(s, Version(w)) {
+        if let Place::At(k) = start_at(s, Version(w), place) {
             return Start::Checkpoint(k, Version(w));
         }
         if w == 0 {
             return Start::Zero;
         }
-        let Place::At(_) = logs::version_file(s, Version(w)) else {
+        let Place::At(k) = logs::version_file(s, Version(w), place) else {
             return Start::NoStart;
         };
         w -= 1;
+        place = place_before(k);
     }
 }
 
@@ -176,10 +183,10 @@ pub fn other_start_for(s: &[u8], c: Version) -> Start
     if c.0 == 0 {
         return Start::Zero;
     }
-    let Place::At(_) = logs::version_file(s, c) else {
+    let Place::At(k) = logs::version_file(s, c, 0) else {
         return Start::NoStart;
     };
-    start_for(s, Version(c.0 - 1))
+    start_for(s, Version(c.0 - 1), k)
 }
 
 // ---- the latest version
@@ -201,22 +208,24 @@ pub fn marked(s: &[u8]) -> Mark
     let Whole::Number(n) = marker_version(bundle::body_in(s, m)) else {
         return Mark::Nothing;
     };
-    match start_at(s, Version(n)) {
+    match start_at(s, Version(n), 0) {
         Place::At(_) => Mark::At(Version(n)),
         Place::Nowhere => Mark::Nothing,
     }
 }
 
 // Up from v as far as there is no gap.
-fn climb(s: &[u8], v: Version) -> Version
+pub fn climb(s: &[u8], v: Version, near: usize) -> Version
     requires { ⌜ isSome (rBundle (now s)) ≡ true ⌝ }
     ensures { λ r. ⌜ r .0 ≡ rClimb most (logOf (filesIn (now (s .entry)))) (v .0) ⌝ }
 {
     let mut w = v.0;
+    let mut place = near;
     while w < MOST {
-        let Place::At(_) = logs::version_file(s, Version(w + 1)) else {
+        let Place::At(k) = logs::version_file(s, Version(w + 1), place) else {
             return Version(w);
         };
+        place = k + 1;
         w += 1;
     }
     Version(w)
@@ -228,7 +237,7 @@ pub fn latest(s: &[u8]) -> Version
     ensures { λ r. ⌜ r .0 ≡ rLatest (logOf (filesIn (now (s .entry)))) ⌝ }
 {
     match marked(s) {
-        Mark::At(v) => climb(s, v),
-        Mark::Nothing => climb(s, Version(0)),
+        Mark::At(v) => climb(s, v, 0),
+        Mark::Nothing => climb(s, Version(0), 0),
     }
 }

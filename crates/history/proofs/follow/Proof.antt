@@ -50,7 +50,7 @@ same-length c = search needs
 returns : tie.Need-returns
 returns c =
     let a = c .before .before .before .before .before .before .before .before .args in
-    follow-zero (now (a .src)) (a .limit) (a .v .0) (a .z) (a .start) (now (a .t)) (c .before .before .onward .last .1 .1 .1 .1 .0) (c .before .before .onward .result) (c .before .before .before .before .enum-told .given .1) (c .before .before .onward .ensures)
+    follow-zero (now (a .src)) (a .limit) (a .v .0) (a .z) (a .start) (now (a .t)) (c .before .before .onward .last .1 .1 .1 .1 .1 .0) (c .before .before .onward .result) (c .before .before .before .before .enum-told .given .1) (c .before .before .onward .ensures)
 
 same-length-2 : tie.Need-same-length-2
 same-length-2 c = search needs
@@ -58,7 +58,7 @@ same-length-2 c = search needs
 returns-2 : tie.Need-returns-2
 returns-2 c =
     let a = c .before .before .before .before .before .before .before .before .before .before .before .before .before .before .before .before .before .args in
-    follow-checkpoint (now (a .src)) (a .limit) (a .v .0) (a .z) (a .start) (now (a .t)) (c .before .before .onward2 .last .1 .1 .1 .1 .0) (c .before .before .before .before .before .before .before .before .before .before .before .before .before .start .given .1) (c .before .before .before .before .before .before .before .before .before .before .before .nothing-live .result) (c .before .before .before .before .before .before .before .before .before .before .before .nothing-live .ensures)
+    follow-checkpoint (now (a .src)) (a .limit) (a .v .0) (a .z) (a .start) (now (a .t)) (c .before .before .onward2 .last .1 .1 .1 .1 .1 .0) (c .before .before .before .before .before .before .before .before .before .before .before .before .before .start .given .1) (c .before .before .before .before .before .before .before .before .before .before .before .nothing-live .result) (c .before .before .before .before .before .before .before .before .before .before .before .nothing-live .ensures)
     (c .before .before .before .before .before .before .before .before .before .read-file .last .1 .1 .1 .0) (c .before .before .before .before .before .before .before .before .before .read-file .result) (c .before .before .onward2 .result) (c .before .before .before .before .before .st .given .1) (c .before .before .before .before .before .before .before .before .before .read-file .ensures) (c .before .before .onward2 .ensures)
 
 same-length-3 : tie.Need-same-length-3

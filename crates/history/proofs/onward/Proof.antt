@@ -1,6 +1,7 @@
 -- `onward`: each turn reads the version file behind `w`, as `Onward` says.
 use mathlib.Core.Path.{subst, _∙_}
 use Prim.Native.Nat.{_-_}
+use Rattle.bundle.proofs.Reading.{found}
 use Rattle.logs.specs.Logs.{PlaceIs}
 use Rattle.replay.specs.Answers.{OutcomeIs}
 use Rattle.history.proofs.Walking.{Onward, onward-start, onward-done, onward-gap, onward-next, onward-malformed, onward-many}
@@ -10,10 +11,10 @@ use Rattle.history.proofs.onward.Statement.{statement}
 use Rattle.history.proofs.onward.Tie as tie
 
 abbrev Inv-loop : tie.InvT-loop
-Inv-loop src v t₀ limit w₀ state₀ t w state = Onward src limit w₀ (v .0) t₀ state₀ t w state
+Inv-loop src v near t₀ limit w₀ state₀ place₀ t w state place = Onward src limit w₀ (v .0) t₀ state₀ t w state
 
 abbrev μ-loop : tie.MeasureT-loop
-μ-loop src v t₀ limit w₀ state₀ t w state = v .0 - w
+μ-loop src v near t₀ limit w₀ state₀ place₀ t w state place = v .0 - w
 
 loop-holds : tie.Need-loop-holds Inv-loop μ-loop
 loop-holds c = onward-start _ _ _ _ _ _ (c .before .before .pre .2) (c .before .before .pre .1)
@@ -43,6 +44,11 @@ read-file-requires c κs =
 
 enum-known-after : tie.Need-enum-known-after Inv-loop μ-loop
 enum-known-after c = search needs
+
+add-place : tie.Need-add-place Inv-loop μ-loop
+add-place c =
+    let p = subst (PlaceIs _ _) (c .before .before .before .before .before .before .before .before .k .given .1) (c .before .before .before .before .before .before .before .before .before .before .version-file .ensures) in
+    omega (arith, found _ _ (p .0) .contents)
 
 loop-less : tie.Need-loop-less Inv-loop μ-loop
 loop-less c = omega (arith, c .before .before .before .before .before .before .before .before .before .before .before .if1 .taken)
@@ -95,6 +101,7 @@ onward-spec =
     returns
     read-file-requires
     enum-known-after
+    add-place
     loop-less
     loop-again
     enum-known-e

@@ -1,6 +1,6 @@
--- `find` halves what is left to look at: names ascend.
+-- `find` throws away what is before or behind the place that it looks at: names ascend.
 use mathlib.Core.Path.{sym, subst, _∙_}
-use Prim.Native.Nat.{ℕ, _+_, _-_, _/_}
+use Prim.Native.Nat.{_-_}
 use Rattle.rules.proofs.Searching.{bracket-start, bracket-lookup}
 use Rattle.bundle.specs.Files.{filesIn, noFile}
 use Rattle.logs.specs.Logs.{title}
@@ -11,13 +11,10 @@ use Rattle.logs.proofs.find.Statement.{statement}
 use Rattle.logs.proofs.find.Tie as tie
 
 abbrev Inv-loop : tie.InvT-loop
-Inv-loop s name lo₀ hi₀ lo hi = Halving s name lo hi
+Inv-loop s name near lo₀ hi₀ looks₀ lo hi looks = Halving s name lo hi
 
 abbrev μ-loop : tie.MeasureT-loop
-μ-loop s name lo₀ hi₀ lo hi = hi - lo
-
-abbrev mid : tie.In-loop Inv-loop μ-loop → ℕ
-mid i = i .before .loop .lo + (i .before .loop .hi - i .before .loop .lo) / 2
+μ-loop s name near lo₀ hi₀ looks₀ lo hi looks = hi - lo
 
 count-requires : tie.Need-count-requires Inv-loop μ-loop
 count-requires c κs = c .before .before .pre
@@ -25,14 +22,11 @@ count-requires c κs = c .before .before .pre
 loop-holds : tie.Need-loop-holds Inv-loop μ-loop
 loop-holds c = subst (Halving _ _ 0) (sym (c .count .ensures)) (bracket-start title _ (filesIn (c .before .before .before .args .s .now)) noFile)
 
-sub-mid : tie.Need-sub-mid Inv-loop μ-loop
-sub-mid c = omega arith
-
-add-mid : tie.Need-add-mid Inv-loop μ-loop
-add-mid c = search needs
+place-between-requires : tie.Need-place-between-requires Inv-loop μ-loop
+place-between-requires c κs = c .loop-test .taken
 
 name-in-requires : tie.Need-name-in-requires Inv-loop μ-loop
-name-in-requires c κs = omega (arith, c .before .loop .inv .hi-le)
+name-in-requires c κs = omega (arith, c .place-between .ensures .1, c .before .before .loop .inv .hi-le)
 
 order-bytes-requires : tie.Need-order-bytes-requires Inv-loop μ-loop
 order-bytes-requires c κs = tt
@@ -44,31 +38,34 @@ add-lo : tie.Need-add-lo Inv-loop μ-loop
 add-lo c = search needs
 
 loop-less : tie.Need-loop-less Inv-loop μ-loop
-loop-less c = omega arith
+loop-less c = omega (arith, c .before .before .before .before .place-between .ensures .0, c .before .before .before .before .place-between .ensures .1)
 
 loop-again : tie.Need-loop-again Inv-loop μ-loop
 loop-again c =
-    let i = c .before .before .before .before in
-    halving-up (i .before .before .before .before .before .args .s .now) (i .before .loop .inv) (mid i) (omega arith) (omega arith) (c .before .before .before .name-in .ensures) (sym (c .enum-told .given .1) ∙ c .before .before .order-bytes .ensures)
+    let p = c .before .before .before .before .place-between in
+    let g = c .before .before .before .before .before .before in
+    halving-up (g .before .before .before .before .args .s .now) (g .loop .inv) (p .result) (p .ensures .0) (p .ensures .1) (c .before .before .before .name-in .ensures) (sym (c .enum-told .given .1) ∙ c .before .before .order-bytes .ensures)
 
 enum-told-2 : tie.Need-enum-told-2 Inv-loop μ-loop
 enum-told-2 c = search needs
 
 returns : tie.Need-returns Inv-loop μ-loop
 returns c =
-    let i = c .before .before .before .before in
-    halving-hit (i .before .before .before .before .before .args .s .now) (i .before .loop .inv) (mid i) (omega arith) (omega arith) (c .before .before .before .name-in .ensures) (sym (c .enum-told2 .given .1) ∙ c .before .before .order-bytes .ensures)
+    let p = c .before .before .before .before .place-between in
+    let g = c .before .before .before .before .before .before in
+    halving-hit (g .before .before .before .before .args .s .now) (g .loop .inv) (p .result) (p .ensures .0) (p .ensures .1) (c .before .before .before .name-in .ensures) (sym (c .enum-told2 .given .1) ∙ c .before .before .order-bytes .ensures)
 
 enum-told-3 : tie.Need-enum-told-3 Inv-loop μ-loop
 enum-told-3 c = search needs
 
 loop-less-2 : tie.Need-loop-less-2 Inv-loop μ-loop
-loop-less-2 c = omega arith
+loop-less-2 c = omega (arith, c .before .before .before .before .place-between .ensures .1)
 
 loop-again-2 : tie.Need-loop-again-2 Inv-loop μ-loop
 loop-again-2 c =
-    let i = c .before .before .before .before in
-    halving-down (i .before .before .before .before .before .args .s .now) (i .before .loop .inv) (mid i) (omega arith) (omega arith) (c .before .before .before .name-in .ensures) (sym (c .enum-told3 .given .1) ∙ c .before .before .order-bytes .ensures)
+    let p = c .before .before .before .before .place-between in
+    let g = c .before .before .before .before .before .before in
+    halving-down (g .before .before .before .before .args .s .now) (g .loop .inv) (p .result) (p .ensures .0) (p .ensures .1) (c .before .before .before .name-in .ensures) (sym (c .enum-told3 .given .1) ∙ c .before .before .order-bytes .ensures)
 
 returns-2 : tie.Need-returns-2 Inv-loop μ-loop
 returns-2 c = bracket-lookup title _ _ noFile _ _ (c .before .loop .inv) (omega arith)
@@ -81,8 +78,7 @@ find-spec =
     μ-loop
     count-requires
     loop-holds
-    sub-mid
-    add-mid
+    place-between-requires
     name-in-requires
     order-bytes-requires
     enum-told

@@ -15,14 +15,17 @@ use Rattle.logs.proofs.marker_file.Tie as tie
 slice-aggregate-find : tie.Need-slice-aggregate-find
 slice-aggregate-find c = search needs
 
+count-requires : tie.Need-count-requires
+count-requires c κs = search needs
+
 find-requires : tie.Need-find-requires
 find-requires c κs = search needs
 
 returns : tie.Need-returns
 unfolding logOf ascii
 returns c =
-    let s = c .before .before .before in
+    let s = c .before .before .before .before in
     subst (λ (o : Option File). PlaceIs (now (s .args .s)) o (c .find .result)) (sym (find-lookup isMarker (ascii "_last_checkpoint") marker-same _)) (c .find .ensures)
 
 pub marker-file-spec : {M : Type 1} → statement M
-marker-file-spec = tie.close (tie.spec slice-aggregate-find find-requires returns)
+marker-file-spec = tie.close (tie.spec slice-aggregate-find count-requires find-requires returns)

@@ -1,13 +1,13 @@
 -- A file says v where its name is the twenty digits of v and the ending.
 use denote.Ref.{now}
-use mathlib.Core.Path.{sym, subst}
+use mathlib.Core.Path.{refl, sym, subst}
 use mathlib.Core.Option.{Option}
 use Prim.Native.Nat.{_≤_}
 use Rattle.rules.specs.Bytes.{ascii}
 use Rattle.rules.specs.Numbers.{most}
 use Rattle.rules.specs.Bundle.{File}
 use Rattle.rules.specs.Starts.{logOf}
-use Rattle.logs.specs.Logs.{PlaceIs}
+use Rattle.logs.specs.Logs.{PlaceIs, digits}
 use Rattle.logs.proofs.Spellings.{version-ended, find-said, find-above}
 use native.Mathlib.Omega.{arith}
 use borrow.Author.Needs.{needs}
@@ -22,7 +22,8 @@ slice-aggregate-write-digits : tie.Need-slice-aggregate-write-digits
 slice-aggregate-write-digits c = search needs
 
 write-digits-requires : tie.Need-write-digits-requires
-write-digits-requires c κs = search needs
+unfolding digits
+write-digits-requires c κs = (omega arith, refl)
 
 slice-aggregate-find : tie.Need-slice-aggregate-find
 slice-aggregate-find c = search needs

@@ -4,6 +4,7 @@ use Prim.Native.Nat.{_-_}
 use Rattle.rules.specs.Numbers.{most}
 use Rattle.rules.specs.Starts.{logOf}
 use Rattle.bundle.specs.Files.{filesIn}
+use Rattle.bundle.proofs.Reading.{found}
 use Rattle.logs.specs.Logs.{PlaceIs}
 use Rattle.logs.proofs.Spellings.{version-ended, find-above}
 use Rattle.starts.proofs.Climbing.{Climbing, climbing-start, climbing-end, climbing-next}
@@ -13,28 +14,33 @@ use Rattle.starts.proofs.climb.Statement.{statement}
 use Rattle.starts.proofs.climb.Tie as tie
 
 abbrev Inv-loop : tie.InvT-loop
-Inv-loop s w₀ w = Climbing (logOf (filesIn s)) w₀ w
+Inv-loop s near w₀ place₀ w place = Climbing (logOf (filesIn s)) w₀ w
 
 abbrev μ-loop : tie.MeasureT-loop
-μ-loop s w₀ w = most - w
+μ-loop s near w₀ place₀ w place = most - w
 
 loop-holds : tie.Need-loop-holds Inv-loop μ-loop
 loop-holds c = climbing-start _ _
 
-add-t6 : tie.Need-add-t6 Inv-loop μ-loop
-add-t6 c = omega arith
+add-t9 : tie.Need-add-t9 Inv-loop μ-loop
+add-t9 c = omega arith
 
 version-file-requires : tie.Need-version-file-requires Inv-loop μ-loop
 version-file-requires c κs = c .before .before .before .pre
 
+enum-known-k : tie.Need-enum-known-k Inv-loop μ-loop
+enum-known-k c = search needs
+
 enum-told : tie.Need-enum-told Inv-loop μ-loop
 enum-told c = search needs
 
-enum-told-2 : tie.Need-enum-told-2 Inv-loop μ-loop
-enum-told-2 c = search needs
-
 returns : tie.Need-returns Inv-loop μ-loop
-returns c = climbing-end (c .before .before .before .before .loop .inv) (subst (PlaceIs _ _) (c .enum-told2 .given .1) (c .before .before .version-file .ensures))
+returns c = climbing-end (c .before .before .before .before .loop .inv) (subst (PlaceIs _ _) (c .enum-told .given .1) (c .before .before .version-file .ensures))
+
+add-place : tie.Need-add-place Inv-loop μ-loop
+add-place c =
+    let p = subst (PlaceIs _ _) (c .before .k .given .1) (c .before .before .before .version-file .ensures) in
+    omega (arith, found _ _ (p .0) .contents)
 
 add-w : tie.Need-add-w Inv-loop μ-loop
 add-w c = omega arith
@@ -45,7 +51,7 @@ loop-less c = omega arith
 
 loop-again : tie.Need-loop-again Inv-loop μ-loop
 unfolding most
-loop-again c = climbing-next (c .before .before .before .before .loop .inv) (c .before .before .before .loop-test .taken) (subst (PlaceIs _ _) (c .enum-told .given .1) (c .before .before .version-file .ensures) .1)
+loop-again c = climbing-next (c .before .before .before .before .before .loop .inv) (c .before .before .before .before .loop-test .taken) (subst (PlaceIs _ _) (c .before .k .given .1) (c .before .before .before .version-file .ensures) .1)
 
 returns-2 : tie.Need-returns-2 Inv-loop μ-loop
 unfolding most logOf
@@ -58,11 +64,12 @@ climb-spec =
     Inv-loop
     μ-loop
     loop-holds
-    add-t6
+    add-t9
     version-file-requires
+    enum-known-k
     enum-told
-    enum-told-2
     returns
+    add-place
     add-w
     loop-less
     loop-again

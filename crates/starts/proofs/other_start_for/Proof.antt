@@ -14,25 +14,25 @@ returns c = other-zero (logOf (filesIn (c .before .before .before .args .s .now)
 version-file-requires : tie.Need-version-file-requires
 version-file-requires c κs = search needs
 
+enum-known-k : tie.Need-enum-known-k
+enum-known-k c = search needs
+
 enum-told : tie.Need-enum-told
 enum-told c = search needs
 
-enum-told-2 : tie.Need-enum-told-2
-enum-told-2 c = search needs
-
 returns-2 : tie.Need-returns-2
-returns-2 c = other-gap (logOf (filesIn (c .before .before .before .before .before .before .args .s .now))) (c .before .before .before .before .before .before .args .c .0) (c .before .before .before .if1 .left) (subst (PlaceIs _ _) (c .enum-told2 .given .1) (c .before .before .version-file .ensures))
+returns-2 c = other-gap (logOf (filesIn (c .before .before .before .before .before .before .args .s .now))) (c .before .before .before .before .before .before .args .c .0) (c .before .before .before .if1 .left) (subst (PlaceIs _ _) (c .enum-told .given .1) (c .before .before .version-file .ensures))
 
-sub-t5 : tie.Need-sub-t5
-sub-t5 c = search needs
+sub-t6 : tie.Need-sub-t6
+sub-t6 c = search needs
 
 start-for-requires : tie.Need-start-for-requires
 start-for-requires c κs = search needs
 
 returns-3 : tie.Need-returns-3
 returns-3 c =
-    let a = c .before .before .before .before .before .before .before .before .args in
-    let f = other-falling (logOf (filesIn (c .before .before .before .before .before .before .before .before .args .s .now))) (a .c .0) (c .before .before .before .before .before .if1 .left) (subst (PlaceIs _ _) (c .before .before .enum-told .given .1) (c .before .before .before .before .version-file .ensures) .1) in
+    let a = c .before .before .before .before .before .before .before .before .before .args in
+    let f = other-falling (logOf (filesIn (a .s .now))) (a .c .0) (c .before .before .before .before .before .before .if1 .left) (subst (PlaceIs _ _) (c .before .before .before .k .given .1) (c .before .before .before .before .before .version-file .ensures) .1) in
     start-onward (a .s .now) _ (a .c .0) _ (c .start-for .result) f (c .start-for .ensures)
 
 pub other-start-for-spec : {M : Type 1} → statement M
@@ -41,9 +41,9 @@ other-start-for-spec =
     (tie.spec
     returns
     version-file-requires
+    enum-known-k
     enum-told
-    enum-told-2
     returns-2
-    sub-t5
+    sub-t6
     start-for-requires
     returns-3)

@@ -10,10 +10,10 @@ use Rattle.starts.proofs.start_for.Statement.{statement}
 use Rattle.starts.proofs.start_for.Tie as tie
 
 abbrev Inv-loop : tie.InvT-loop
-Inv-loop s w₀ w = Falling (logOf (filesIn s)) w₀ (wayTo (logOf (filesIn s)) w₀) w
+Inv-loop s near w₀ place₀ w place = Falling (logOf (filesIn s)) w₀ (wayTo (logOf (filesIn s)) w₀) w
 
 abbrev μ-loop : tie.MeasureT-loop
-μ-loop s w₀ w = w
+μ-loop s near w₀ place₀ w place = w
 
 loop-holds : tie.Need-loop-holds Inv-loop μ-loop
 loop-holds c = falling-start (logOf (filesIn (c .before .args .s .now))) _
@@ -39,23 +39,28 @@ returns-2 c = falling-zero (logOf (filesIn (c .before .before .before .before .b
 version-file-requires : tie.Need-version-file-requires Inv-loop μ-loop
 version-file-requires c κs = c .before .before .before .before .before .before .pre
 
+enum-known-k-2 : tie.Need-enum-known-k-2 Inv-loop μ-loop
+enum-known-k-2 c = search needs
+
 enum-told-2 : tie.Need-enum-told-2 Inv-loop μ-loop
 enum-told-2 c = search needs
 
-enum-told-3 : tie.Need-enum-told-3 Inv-loop μ-loop
-enum-told-3 c = search needs
-
 returns-3 : tie.Need-returns-3 Inv-loop μ-loop
-returns-3 c = falling-gap (logOf (filesIn (c .before .before .before .before .before .before .before .before .before .args .s .now))) (c .before .before .before .before .before .before .before .loop .inv) (c .before .before .before .if1 .left) (subst (PlaceIs _ _) (c .before .before .before .before .enum-told .given .1) (c .before .before .before .before .before .before .start-at .ensures)) (subst (PlaceIs _ _) (c .enum-told3 .given .1) (c .before .before .version-file .ensures))
+returns-3 c = falling-gap (logOf (filesIn (c .before .before .before .before .before .before .before .before .before .args .s .now))) (c .before .before .before .before .before .before .before .loop .inv) (c .before .before .before .if1 .left) (subst (PlaceIs _ _) (c .before .before .before .before .enum-told .given .1) (c .before .before .before .before .before .before .start-at .ensures)) (subst (PlaceIs _ _) (c .enum-told2 .given .1) (c .before .before .version-file .ensures))
 
 sub-w : tie.Need-sub-w Inv-loop μ-loop
-sub-w c = omega (arith, c .before .before .before .if1 .left)
+sub-w c = omega (arith, c .before .before .before .before .if1 .left)
+
+place-before-requires : tie.Need-place-before-requires Inv-loop μ-loop
+place-before-requires c κs = tt
 
 loop-less : tie.Need-loop-less Inv-loop μ-loop
-loop-less c = omega (arith, c .before .before .before .if1 .left)
+loop-less c = omega (arith, c .before .before .before .before .before .if1 .left)
 
 loop-again : tie.Need-loop-again Inv-loop μ-loop
-loop-again c = falling-next (logOf (filesIn (c .before .before .before .before .before .before .before .before .before .args .s .now))) (c .before .before .before .before .before .before .before .loop .inv) (c .before .before .before .if1 .left) (subst (PlaceIs _ _) (c .before .before .before .before .enum-told .given .1) (c .before .before .before .before .before .before .start-at .ensures)) (subst (PlaceIs _ _) (c .enum-told2 .given .1) (c .before .before .version-file .ensures) .1)
+loop-again c =
+    let d = c .before .before .before .before .before in
+    falling-next (logOf (filesIn (d .before .before .before .before .before .before .args .s .now))) (d .before .before .before .before .loop .inv) (d .if1 .left) (subst (PlaceIs _ _) (d .before .enum-told .given .1) (d .before .before .before .start-at .ensures)) (subst (PlaceIs _ _) (c .before .before .k2 .given .1) (c .before .before .before .before .version-file .ensures) .1)
 
 pub start-for-spec : {M : Type 1} → statement M
 start-for-spec =
@@ -70,9 +75,10 @@ start-for-spec =
     enum-told
     returns-2
     version-file-requires
+    enum-known-k-2
     enum-told-2
-    enum-told-3
     returns-3
     sub-w
+    place-before-requires
     loop-less
     loop-again)
