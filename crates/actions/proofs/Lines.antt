@@ -31,7 +31,7 @@ use Rattle.keys.proofs.Quoting.{named-string}
 use Rattle.actions.specs.Begun.{endsBy, ends, lineValue, keyed, keyAt, kindAt, Braced, Begun, Lined}
 use Rattle.slots.proofs.Strings.{byte-text}
 use Rattle.nested.proofs.Valued.{contents-valued}
-use Rattle.nested.proofs.Placed.{byte-next}
+use Rattle.slots.proofs.Begins.{byte-next}
 
 -- ---- up to the first member
 

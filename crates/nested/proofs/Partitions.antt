@@ -27,13 +27,14 @@ use Rattle.keys.specs.declared.Spell.{Spell}
 use Rattle.fields.specs.declared.notes.Slot.{Slot}
 use Rattle.fields.proofs.Passing.{Passed, passed-start, passed-none, passed-neither, passed-closed, passed-more, items-first}
 use Rattle.nested.specs.Nested.{Opened, valuesOf, valuesIn, ValuesIs}
-use Rattle.nested.specs.Valued.{Proper}
+use Rattle.slots.specs.Inside.{Proper}
 use Rattle.slots.specs.Texts.{Told}
 use Rattle.nested.specs.declared.Values.the-variants.{Behind}
 use Rattle.slots.proofs.Single.{text-single}
 use Rattle.slots.proofs.Strings.{byte-text}
-use Rattle.nested.proofs.Valued.{proper-single}
-use Rattle.nested.proofs.Placed.{value-spelled, value-further, begins-other, object-none, object-here}
+use Rattle.slots.proofs.Single.{proper-single}
+use Rattle.slots.proofs.Begins.{value-further, begins-other}
+use Rattle.nested.proofs.Placed.{value-spelled, object-none, object-here}
 
 -- ---- a string or null
 

@@ -3,8 +3,8 @@ use mathlib.Core.Path.{_≡_, refl, sym, _∙_, subst}
 use mathlib.Core.Bool.{Bool, true, false}
 use mathlib.Core.Option.{some}
 use mathlib.Core.List.{List, [], _∷_}
-use Prim.Native.Nat.{ℕ, zero, suc, _-_, _≤_, _<_}
-use lib.ListN.{length, take, drop, getD}
+use Prim.Native.Nat.{ℕ, zero, suc, _<_}
+use lib.ListN.{length, getD}
 use Rattle.rules.specs.Actions.{inAction}
 use Rattle.rules.specs.Bytes.{Bytes, same}
 use Rattle.rules.specs.Json.Text.{Text, byte, spelled}
@@ -19,7 +19,8 @@ use Rattle.rules.proofs.Json.Fields.{under-hit, under-miss}
 use Rattle.fields.specs.Slots.{missing, Times, Each}
 use Rattle.fields.specs.declared.notes.Slot.{Slot}
 use Rattle.fields.proofs.Passing.{andThen-some}
-use Rattle.nested.specs.Valued.{Valued, ProperBy, Proper}
+use Rattle.slots.specs.Inside.{ProperBy, Proper}
+use Rattle.nested.specs.Valued.{Valued}
 
 pub member-valued : (d : ℕ) (t : Text) (m : Member) (r : Text) → member (value d) t ≡ some (m, r) → value d (m .1) ≡ some []
 unfolding member
@@ -80,7 +81,3 @@ pub each-proper : (s : Text) (names : List Bytes) (ms : List Member) (slots : Li
 each-proper s names ms slots k b each w =
     let x = getD slots k missing in
     times-proper s (x .seen) (x .start) (x .end) (under (getD names k []) ms) (each k b) (under-values inAction (getD names k []) ms w)
-
-pub proper-single : (s : Text) (x : Slot) → x .seen ≡ 1 → Proper s x
-    → (x .start ≤ x .end) × (x .end ≤ length s) × (value inAction (take (x .end - x .start) (drop (x .start) s)) ≡ some [])
-proper-single s x e p = subst (λ (n : ℕ). ProperBy s n (x .start) (x .end)) e p

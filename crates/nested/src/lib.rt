@@ -13,7 +13,7 @@ ghost use lib.ListN.{length, take, drop};
 ghost use Rattle.rules.specs.Actions.{inAction, inField, pairs};
 ghost use Rattle.rules.specs.Json.Values.{value as rValue};
 ghost use Rattle.rules.specs.Json.Fields.{stringOrNull, stringsOf};
-ghost use Rattle.nested.specs.Valued.{Proper};
+ghost use Rattle.slots.specs.Inside.{Proper};
 ghost use Rattle.slots.specs.Texts.{Told};
 ghost use Rattle.nested.specs.Nested.{Opened, valuesIn, ValuesIs, ArrayIs, featuresIn, FeaturesIs, columnsIn, ColumnsIs};
 

@@ -1,5 +1,7 @@
 pub mod Single
 pub mod Strings
+pub mod Begins
+pub mod Sizes
 pub mod Paths
 pub mod Versioned
 pub mod Stated

@@ -1,19 +1,21 @@
 -- A field by how often it was seen: once, and where it stands; or not once.
 use mathlib.Core.Path.{_≡_, refl, sym, ap, subst}
 use mathlib.Core.Bool.{true, false}
-use mathlib.Core.Option.{Option, none}
+use mathlib.Core.Option.{Option, none, some}
 use mathlib.Core.List.{List, [], _∷_}
 use Prim.Native.Nat.{ℕ, zero, suc, _-_, _≤_}
 use lib.ListN.{length, take, drop}
+use Rattle.rules.specs.Actions.{inAction}
 use Rattle.rules.specs.Bytes.{_>>=_}
 use Rattle.rules.specs.Json.Text.{Text}
 use Rattle.rules.specs.Json.Numbers.{whole}
+use Rattle.rules.specs.Json.Values.{value}
 use Rattle.rules.specs.Json.Fields.{isNull, soleOrNone, ifThere}
 use Rattle.values.specs.Answers.{wholeIs}
 use Rattle.values.proofs.Back.{whole-number, whole-not}
 use Rattle.values.specs.declared.Whole.the-variants.{Number as Counted, NotWhole}
 use Rattle.fields.specs.Slots.{textIn, optionalIn, Times}
-use Rattle.slots.specs.Inside.{InsideBy, Inside}
+use Rattle.slots.specs.Inside.{InsideBy, Inside, ProperBy, Proper}
 use Rattle.fields.specs.declared.notes.Slot.{Slot}
 use Rattle.slots.specs.Counts.{recordsIs}
 use Rattle.slots.specs.declared.Records.the-variants.{Number, Missing, Bad}
@@ -27,6 +29,10 @@ times-inside s (suc (suc n)) v e vs t = tt
 module _ (s : Text) (x : Slot) where
   pub inside-single : x .seen ≡ 1 → Inside s x → (x .start ≤ x .end) × (x .end ≤ length s)
   inside-single p i = subst (λ (n : ℕ). InsideBy s n (x .start) (x .end)) p i
+
+  pub proper-single : x .seen ≡ 1 → Proper s x
+      → (x .start ≤ x .end) × (x .end ≤ length s) × (value inAction (take (x .end - x .start) (drop (x .start) s)) ≡ some [])
+  proper-single p i = subst (λ (n : ℕ). ProperBy s n (x .start) (x .end)) p i
 
   pub text-single : {A : Type 0} (of : Text → Option A) → x .seen ≡ 1 → of (take (x .end - x .start) (drop (x .start) s)) ≡ (textIn s (x .seen) (x .start) (x .end) >>= of)
   text-single of p = sym (ap (λ (n : ℕ). textIn s n (x .start) (x .end) >>= of) p)

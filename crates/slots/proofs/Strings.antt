@@ -31,7 +31,7 @@ string-beside : (w u : Text) {q : Bytes × Text} → string w ≡ some q → Bes
 string-beside [] u e = answered-none e string-end
 string-beside (b ∷ w) u e = alike
 
-string-extends : (n : ℕ) (t u : Text) {x : Bytes} {r : Text} → length t ≤ n → string t ≡ some (x, r) → string (t ++ u) ≡ some (x, r ++ u)
+pub string-extends : (n : ℕ) (t u : Text) {x : Bytes} {r : Text} → length t ≤ n → string t ≡ some (x, r) → string (t ++ u) ≡ some (x, r ++ u)
 string-extends zero [] u l e = answered-none e string-end
 string-extends zero (b ∷ t) u l e = absurd (omega arith)
 string-extends (suc n) [] u l e = answered-none e string-end

@@ -11,7 +11,7 @@ ghost use lib.ListN.{length, take, drop};
 ghost use Rattle.rules.specs.Json.Fields.{stringOf};
 ghost use Rattle.values.specs.Answers.{wholeIs, truthIs};
 ghost use Rattle.slots.specs.Versions.{versionOf};
-ghost use Rattle.slots.specs.Inside.{Inside, wholeIn, boolIn, stringIn, optionalWholeIn};
+ghost use Rattle.slots.specs.Inside.{Inside, Proper, wholeIn, boolIn, stringIn, optionalWholeIn};
 ghost use Rattle.slots.specs.Texts.{StringIs, PathIs, pathOf, idOf, Told};
 ghost use Rattle.slots.specs.Counts.{recordsIs};
 
@@ -62,9 +62,9 @@ pub enum Path {
 
 // ---- a field by its slot
 
-// The path of a field that stands once.
+// The path of a field that stands once. A string of some bytes stands for some, and for no more: only a longer one is measured.
 pub fn path_in(s: &[u8], slot: Slot) -> Path
-    requires { ⌜ Inside (now s) slot ⌝ }
+    requires { ⌜ Proper (now s) slot ⌝ }
     ensures { λ r. ⌜ PathIs (pathOf (stringIn (now (s .entry)) slot)) (now (s .entry)) r ⌝ }
 {
     let start = slot.start;
@@ -72,12 +72,19 @@ pub fn path_in(s: &[u8], slot: Slot) -> Path
     if slot.seen != 1 {
         return Path::NoPath;
     }
+    let Next::At(q) = text::skip_byte(s, start, QUOTE) else {
+        return Path::NoPath;
+    };
+    let size = end - 1 - q;
+    if size == 0 {
+        return Path::NoPath;
+    }
+    if size <= LONGEST_PATH {
+        return Path::Spelled(q);
+    }
     let Wording::Sized(p, n) = string_at(s, start, end) else {
         return Path::NoPath;
     };
-    if n == 0 {
-        return Path::NoPath;
-    }
     if LONGEST_PATH < n {
         return Path::NoPath;
     }

@@ -50,7 +50,7 @@ chars-long (suc n) (b ∷ t) {x} {r} e = by (eqb b 0x22)
     go ih p (some c) f = bound (chars n (c .1)) _ (sym (chars-char n b t p f) ∙ e) (λ q h k.
         omega (arith, char-long b t f, ih (c .1) (q .0) (q .1) h, length-append (c .0) (q .0), ap length (value-same k), ap length (left-same k)))
 
-string-long : (t : Text) {x : Bytes} {r : Text} → string t ≡ some (x, r) → length x + length r + 1 ≤ length t
+pub string-long : (t : Text) {x : Bytes} {r : Text} → string t ≡ some (x, r) → length x + length r + 1 ≤ length t
 unfolding string
 string-long t e = chars-long (suc (length t)) t e
 

@@ -3,7 +3,7 @@ use mathlib.Core.Path.{sym, subst, _∙_}
 use Prim.Native.Nat.{_≤_}
 use lib.ListN.{length}
 use Rattle.nested.specs.Nested.{ArrayIs}
-use Rattle.nested.proofs.Valued.{proper-single}
+use Rattle.slots.proofs.Single.{proper-single}
 use Rattle.nested.proofs.Arrays.{features-missing, features-more, features-null, features-not, features-listed}
 use borrow.Author.Needs.{needs}
 use Rattle.nested.proofs.features_in.Statement.{statement}

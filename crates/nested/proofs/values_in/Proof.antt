@@ -8,7 +8,7 @@ use Rattle.text.specs.Answers.{Answer}
 use Rattle.slots.specs.Texts.{Told}
 use Rattle.nested.specs.Nested.{valuesOf}
 use Rattle.slots.proofs.Single.{text-not-single}
-use Rattle.nested.proofs.Valued.{proper-single}
+use Rattle.slots.proofs.Single.{proper-single}
 use Rattle.nested.proofs.Partitions.{values-no-object, values-opened, values-named, values-not-pairs, values-twice, values-there}
 use native.Mathlib.Omega.{arith}
 use borrow.Author.Needs.{needs}

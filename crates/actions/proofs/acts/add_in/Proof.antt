@@ -21,7 +21,7 @@ element-copy-out-place c = search needs
 
 path-in-requires : tie.Need-path-in-requires
 unfolding namesOf
-path-in-requires c κs = each-inside (c .before .before .args .s .now) (namesOf Add) (c .before .before .pre .ms) (c .before .before .args .t2 .slots) 0 (omega arith) (c .before .before .pre .each)
+path-in-requires c κs = each-proper (c .before .before .args .s .now) (namesOf Add) (c .before .before .pre .ms) (c .before .before .args .t2 .slots) 0 (omega arith) (c .before .before .pre .each) (c .before .before .pre .valued)
 
 enum-told : tie.Need-enum-told
 enum-told c = search needs

@@ -3,7 +3,7 @@ use mathlib.Core.Path.{subst}
 use Rattle.kinds.specs.Kinds.{namesOf}
 use Rattle.kinds.specs.declared.Kind.the-variants.{Remove}
 use Rattle.slots.specs.Texts.{PathIs}
-use Rattle.slots.proofs.Stated.{each-inside}
+use Rattle.nested.proofs.Valued.{each-proper}
 use Rattle.actions.proofs.Assembled.{remove-no-path, remove-there}
 use native.Mathlib.Omega.{arith}
 use borrow.Author.Needs.{needs}
@@ -15,7 +15,7 @@ element-copy-out-place c = search needs
 
 path-in-requires : tie.Need-path-in-requires
 unfolding namesOf
-path-in-requires c κs = each-inside (c .before .before .args .s .now) (namesOf Remove) (c .before .before .pre .ms) (c .before .before .args .t2 .slots) 0 (omega arith) (c .before .before .pre .each)
+path-in-requires c κs = each-proper (c .before .before .args .s .now) (namesOf Remove) (c .before .before .pre .ms) (c .before .before .args .t2 .slots) 0 (omega arith) (c .before .before .pre .each) (c .before .before .pre .valued)
 
 enum-known-p : tie.Need-enum-known-p
 enum-known-p c = search needs
