@@ -17,6 +17,9 @@ module _ (s : List ℕ) (i : ℕ) (t : List ℕ) (j : ℕ) where
   pub alike-one : getD s i 0 ≡ getD t j 0 → Alike s i t j 1
   alike-one e k h = ap (λ (x : ℕ). getD s x 0) (omega arith) ∙ e ∙ ap (λ (x : ℕ). getD t x 0) (omega arith)
 
+  pub alike-less : (n m : ℕ) → m ≤ n → Alike s i t j n → Alike s i t j m
+  alike-less n m l a k h = a k (omega arith)
+
   -- what two numbers have in common, the texts have whose bytes they are
   pub alike-eight : (a b n : ℕ) → Eight a s i → Eight b t j → n ≤ 8 → Same a b n → Alike s i t j n
   alike-eight a b n f g l e k h = sym (f k (omega arith)) ∙ e k h ∙ g k (omega arith)

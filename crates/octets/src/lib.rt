@@ -8,6 +8,14 @@ ghost use Prim.Native.Nat.{_≤_, _+_};
 ghost use lib.ListN.{length};
 ghost use Rattle.octets.specs.Alike.{Alike};
 
+// Of eight bytes.
+fn common_eight(s: &[u8], i: usize, t: &[u8], j: usize) -> usize
+    requires { ⌜ (i + 8 ≤ length (now s)) × (j + 8 ≤ length (now t)) ⌝ }
+    ensures { λ r. ⌜ (r ≤ 8) × Alike (now (s .entry)) i (now (t .entry)) j r ⌝ }
+{
+    common_in(word_at(s, i), word_at(t, j))
+}
+
 // By single bytes.
 fn common_few(s: &[u8], i: usize, t: &[u8], j: usize, room: usize) -> usize
     requires { ⌜ (i + room ≤ length (now s)) × (j + room ≤ length (now t)) ⌝ }
@@ -23,18 +31,22 @@ fn common_few(s: &[u8], i: usize, t: &[u8], j: usize, room: usize) -> usize
     n
 }
 
-// So many bytes, at most `room`, the text s from i on and the text t from j on have in common.
+// So many bytes, at most `room`, the text s from i on and the text t from j on have in common. The last eight may begin among those before.
 pub fn common(s: &[u8], i: usize, t: &[u8], j: usize, room: usize) -> usize
     requires { ⌜ (i + room ≤ length (now s)) × (j + room ≤ length (now t)) ⌝ }
     ensures { λ r. ⌜ (r ≤ room) × Alike (now (s .entry)) i (now (t .entry)) j r ⌝ }
 {
+    if room < 8 {
+        return common_few(s, i, t, j, room);
+    }
+    let last = room - 8;
     let mut n = 0;
-    while 8 <= room - n {
-        let k = common_in(word_at(s, i + n), word_at(t, j + n));
+    while n < last {
+        let k = common_eight(s, i + n, t, j + n);
         if k < 8 {
             return n + k;
         }
         n += 8;
     }
-    n + common_few(s, i + n, t, j + n, room - n)
+    last + common_eight(s, i + last, t, j + last)
 }
