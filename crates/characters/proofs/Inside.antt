@@ -10,6 +10,7 @@ use borrow.Author.Tests.{ne-eqb}
 use Rattle.rules.specs.Bytes.{Bytes, _>>=_, among, first}
 use Rattle.rules.specs.Json.Text.{Text, Reader, behind, spelled}
 use Rattle.rules.specs.Json.Strings.{isPlain, unescaped, char, chars, string}
+use Rattle.rules.proofs.Json.StringReads.{string-bound}
 use Rattle.text.proofs.Places.{here, here-is, ended}
 use Rattle.characters.specs.Runs.{Plains}
 use Rattle.characters.proofs.Runs.{plains-keep}
@@ -111,3 +112,7 @@ module _ {s : Text} {at i : ℕ} (t : Inside s at i) where
 
 pub inside-run : {s : Text} {at i j : ℕ} → Inside s at i → (i ≤ j) × (j ≤ length s) × Plains s i j → Inside s at j
 inside-run {s} {at} {i} {j} t p = plains-keep (Inside s at) s (λ k u h e. inside-plain u h e) i j (p .0) (p .1) (p .2) t
+
+-- the string goes on at i as one of its own
+pub inside-rest : {s : Text} {at i : ℕ} → Inside s at i → behind (string (drop i s)) ≡ behind (string (drop at s))
+inside-rest {s} {at} {i} t = ap behind (string-bound (t .n) (drop i s) (omega (arith, length-drop i s, t .enough, t .within))) ∙ t .same

@@ -5,5 +5,6 @@ mod utf8;
 
 pub use plain::skip_plain;
 pub use strings::skip_char;
+pub use strings::skip_chars;
 pub use strings::skip_string;
 pub use utf8::skip_unescaped;

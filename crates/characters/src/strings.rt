@@ -29,12 +29,12 @@ pub fn skip_char(s: &[u8], at: usize) -> Next
     }
 }
 
-// Behind the opening quote: the characters of a string and its closing quote.
-pub fn skip_string(s: &[u8], at: usize) -> Next
+// The characters of a string from `at` on, and its closing quote.
+pub fn skip_chars(s: &[u8], at: usize) -> Next
     requires { ⌜ at ≤ length (now s) ⌝ }
     ensures { λ r. ⌜ Answer (behind (string (drop at (now (s .entry))))) (now (s .entry)) (at + 1) r ⌝ }
 {
-    let mut i = skip_plain(s, at);
+    let mut i = at;
     while i < s.len() {
         if s[i] == QUOTE {
             return Next::At(i + 1);
@@ -45,4 +45,22 @@ pub fn skip_string(s: &[u8], at: usize) -> Next
         i = skip_plain(s, j);
     }
     Next::Bad
+}
+
+// Behind the opening quote: the characters of a string and its closing quote.
+pub fn skip_string(s: &[u8], at: usize) -> Next
+    requires { ⌜ at ≤ length (now s) ⌝ }
+    ensures { λ r. ⌜ Answer (behind (string (drop at (now (s .entry))))) (now (s .entry)) (at + 1) r ⌝ }
+{
+    let i = skip_plain(s, at);
+    if s.len() <= i {
+        return Next::Bad;
+    }
+    if s[i] == QUOTE {
+        return Next::At(i + 1);
+    }
+    let Next::At(j) = skip_chars(s, i) else {
+        return Next::Bad;
+    };
+    Next::At(j)
 }

@@ -96,6 +96,16 @@ pub fn skip_name(s: &[u8], at: usize) -> Next
     skip_colon(s, j)
 }
 
+// One of the three words, or a number.
+fn skip_bare(s: &[u8], at: usize) -> Next {
+    match s[at] {
+        0x66 => skip_word(s, at + 1, b"alse"),
+        0x6E => skip_word(s, at + 1, b"ull"),
+        0x74 => skip_word(s, at + 1, b"rue"),
+        _ => skip_number(s, at),
+    }
+}
+
 // A value that holds no others: a string, a number or one of the three words.
 pub fn skip_scalar(s: &[u8], at: usize) -> Next
     requires { ⌜ at ≤ length (now s) ⌝ }
@@ -104,17 +114,15 @@ pub fn skip_scalar(s: &[u8], at: usize) -> Next
     if s.len() <= at {
         return Next::Bad;
     }
-    match s[at] {
-        0x22 => skip_string(s, at + 1),
-        0x66 => skip_word(s, at + 1, b"alse"),
-        0x6E => skip_word(s, at + 1, b"ull"),
-        0x74 => skip_word(s, at + 1, b"rue"),
-        _ => skip_number(s, at),
+    if s[at] == QUOTE {
+        skip_string(s, at + 1)
+    } else {
+        skip_bare(s, at)
     }
 }
 
 // A value in which objects and arrays nest at most `depth` deep.
-pub fn value(s: &[u8], at: usize, depth: usize) -> Next
+fn any_value(s: &[u8], at: usize, depth: usize) -> Next
     requires { ⌜ at ≤ length (now s) ⌝ }
     ensures { λ r. ⌜ Answer (rValue depth (drop at (now (s .entry)))) (now (s .entry)) (at + 1) r ⌝ }
 {
@@ -151,7 +159,7 @@ pub fn object(s: &[u8], at: usize, depth: usize) -> Next
                 let Next::At(v) = skip_name(s, i) else {
                     return Next::Bad;
                 };
-                let Next::At(j) = value(s, v, depth) else {
+                let Next::At(j) = any_value(s, v, depth) else {
                     return Next::Bad;
                 };
                 match closing(s, j, CLOSE_BRACE) {
@@ -175,7 +183,7 @@ pub fn array(s: &[u8], at: usize, depth: usize) -> Next
         Tail::More(first) => {
             let mut i = first;
             loop {
-                let Next::At(j) = value(s, i, depth) else {
+                let Next::At(j) = any_value(s, i, depth) else {
                     return Next::Bad; // no value behind the comma
                 };
                 match closing(s, j, CLOSE_BRACKET) {
@@ -185,6 +193,22 @@ pub fn array(s: &[u8], at: usize, depth: usize) -> Next
                 }
             }
         }
+    }
+}
+
+// A value in which objects and arrays nest at most `depth` deep.
+pub fn value(s: &[u8], at: usize, depth: usize) -> Next
+    requires { ⌜ at ≤ length (now s) ⌝ }
+    ensures { λ r. ⌜ Answer (rValue depth (drop at (now (s .entry)))) (now (s .entry)) (at + 1) r ⌝ }
+{
+    if s.len() <= at {
+        return Next::Bad;
+    }
+    match s[at] {
+        0x22 => skip_string(s, at + 1),
+        0x5B => any_value(s, at, depth),
+        0x7B => any_value(s, at, depth),
+        _ => skip_bare(s, at),
     }
 }
 

@@ -22,13 +22,19 @@ pub fn scan_string(s: &[u8], at: usize) -> Spelling
     ensures { λ r. ⌜ Scanned (now (s .entry)) at r ⌝ }
 {
     let mut i = skip_plain(s, at);
+    if s.len() <= i {
+        return Spelling::Bad;
+    }
+    if s[i] == QUOTE {
+        return Spelling::Plain(i + 1); // nothing but plain bytes, as in most strings
+    }
     while i < s.len() {
         let b = s[i];
         if b == QUOTE {
             return Spelling::Plain(i + 1);
         }
         if b == BACKSLASH {
-            let Next::At(j) = characters::skip_string(s, i) else {
+            let Next::At(j) = characters::skip_chars(s, i) else {
                 return Spelling::Bad;
             };
             return Spelling::Escaped(j);

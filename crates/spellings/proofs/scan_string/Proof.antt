@@ -18,20 +18,32 @@ abbrev μ-loop : tie.MeasureT-loop
 skip-plain-requires : tie.Need-skip-plain-requires Inv-loop μ-loop
 skip-plain-requires c κs = search needs
 
+returns : tie.Need-returns Inv-loop μ-loop
+returns c = scanning-ended (scanning-run (scanning-start (c .before .before .before .pre)) (c .before .skip-plain .ensures)) (c .if1 .taken)
+
+shared-slice-read-if2 : tie.Need-shared-slice-read-if2 Inv-loop μ-loop
+shared-slice-read-if2 c = search needs
+
+add-t11 : tie.Need-add-t11 Inv-loop μ-loop
+add-t11 c = search needs
+
+returns-2 : tie.Need-returns-2 Inv-loop μ-loop
+returns-2 c = scanning-quote (scanning-run (scanning-start (c .before .before .before .before .before .pre)) (c .before .before .before .skip-plain .ensures)) (c .before .before .if1 .left) (c .if2 .taken)
+
 loop-holds : tie.Need-loop-holds Inv-loop μ-loop
-loop-holds c = scanning-run (scanning-start (c .before .before .pre)) (c .skip-plain .ensures)
+loop-holds c = scanning-run (scanning-start (c .before .before .before .before .before .pre)) (c .before .before .before .skip-plain .ensures)
 
 shared-slice-read-b : tie.Need-shared-slice-read-b Inv-loop μ-loop
 shared-slice-read-b c = omega arith
 
-add-t11 : tie.Need-add-t11 Inv-loop μ-loop
-add-t11 c = omega arith
+add-t16 : tie.Need-add-t16 Inv-loop μ-loop
+add-t16 c = omega arith
 
-returns : tie.Need-returns Inv-loop μ-loop
-returns c = scanning-quote (c .before .before .before .loop .inv) (c .before .before .loop-test .taken) (c .if1 .taken)
+returns-3 : tie.Need-returns-3 Inv-loop μ-loop
+returns-3 c = scanning-quote (c .before .before .before .loop .inv) (c .before .before .loop-test .taken) (c .if3 .taken)
 
-skip-string-requires : tie.Need-skip-string-requires Inv-loop μ-loop
-skip-string-requires c κs = c .before .before .before .before .loop .inv .within
+skip-chars-requires : tie.Need-skip-chars-requires Inv-loop μ-loop
+skip-chars-requires c κs = c .before .before .before .before .loop .inv .within
 
 enum-known-j : tie.Need-enum-known-j Inv-loop μ-loop
 enum-known-j c = search needs
@@ -39,11 +51,11 @@ enum-known-j c = search needs
 enum-told : tie.Need-enum-told Inv-loop μ-loop
 enum-told c = search needs
 
-returns-2 : tie.Need-returns-2 Inv-loop μ-loop
-returns-2 c = scanning-no-rest (c .before .before .before .before .before .before .before .loop .inv) (subst (Answer _ _ _) (c .enum-told .given .1) (c .before .before .skip-string .ensures))
+returns-4 : tie.Need-returns-4 Inv-loop μ-loop
+returns-4 c = scanning-no-rest (c .before .before .before .before .before .before .before .loop .inv) (subst (Answer _ _ _) (c .enum-told .given .1) (c .before .before .skip-chars .ensures))
 
-returns-3 : tie.Need-returns-3 Inv-loop μ-loop
-returns-3 c = scanning-backslash (c .before .before .before .before .before .before .before .before .loop .inv) (c .before .before .before .before .before .before .before .loop-test .taken) (c .before .j .given .0 .0) (c .before .before .before .before .if2 .taken) (subst (Answer _ _ _) (c .before .j .given .1) (c .before .before .before .skip-string .ensures))
+returns-5 : tie.Need-returns-5 Inv-loop μ-loop
+returns-5 c = scanning-backslash (c .before .before .before .before .before .before .before .before .loop .inv) (c .before .before .before .before .before .before .before .loop-test .taken) (c .before .j .given .0 .0) (c .before .before .before .before .if4 .taken) (subst (Answer _ _ _) (c .before .j .given .1) (c .before .before .before .skip-chars .ensures))
 
 skip-unescaped-requires : tie.Need-skip-unescaped-requires Inv-loop μ-loop
 skip-unescaped-requires c κs = c .before .before .before .before .loop .inv .within
@@ -54,8 +66,8 @@ enum-known-k c = search needs
 enum-told-2 : tie.Need-enum-told-2 Inv-loop μ-loop
 enum-told-2 c = search needs
 
-returns-4 : tie.Need-returns-4 Inv-loop μ-loop
-returns-4 c = scanning-bad (c .before .before .before .before .before .before .before .loop .inv) (c .before .before .before .before .before .before .loop-test .taken) (c .before .before .before .before .if1 .left) (c .before .before .before .if2 .left) (subst (Answer _ _ _) (c .enum-told2 .given .1) (c .before .before .skip-unescaped .ensures))
+returns-6 : tie.Need-returns-6 Inv-loop μ-loop
+returns-6 c = scanning-bad (c .before .before .before .before .before .before .before .loop .inv) (c .before .before .before .before .before .before .loop-test .taken) (c .before .before .before .before .if3 .left) (c .before .before .before .if4 .left) (subst (Answer _ _ _) (c .enum-told2 .given .1) (c .before .before .skip-unescaped .ensures))
 
 skip-plain-requires-2 : tie.Need-skip-plain-requires-2 Inv-loop μ-loop
 skip-plain-requires-2 c κs = (subst (Answer _ _ _) (c .before .k .given .1) (c .before .before .before .skip-unescaped .ensures)) .2
@@ -70,10 +82,10 @@ loop-less c =
 loop-again : tie.Need-loop-again Inv-loop μ-loop
 loop-again c =
     let e = subst (Answer _ _ _) (c .before .before .k .given .1) (c .before .before .before .before .skip-unescaped .ensures) in
-    scanning-run (scanning-more (c .before .before .before .before .before .before .before .before .before .loop .inv) (c .before .before .before .before .before .before .before .before .loop-test .taken) (c .before .before .before .before .before .before .if1 .left) (c .before .before .before .before .before .if2 .left) _ (e .0) (e .1) (e .2)) (c .skip-plain2 .ensures)
+    scanning-run (scanning-more (c .before .before .before .before .before .before .before .before .before .loop .inv) (c .before .before .before .before .before .before .before .before .loop-test .taken) (c .before .before .before .before .before .before .if3 .left) (c .before .before .before .before .before .if4 .left) _ (e .0) (e .1) (e .2)) (c .skip-plain2 .ensures)
 
-returns-5 : tie.Need-returns-5 Inv-loop μ-loop
-returns-5 c = scanning-ended (c .before .loop .inv) (c .loop-test .left)
+returns-7 : tie.Need-returns-7 Inv-loop μ-loop
+returns-7 c = scanning-ended (c .before .loop .inv) (c .loop-test .left)
 
 pub scan-string-spec : {M : Type 1} → statement M
 scan-string-spec =
@@ -82,20 +94,24 @@ scan-string-spec =
     Inv-loop
     μ-loop
     skip-plain-requires
+    returns
+    shared-slice-read-if2
+    add-t11
+    returns-2
     loop-holds
     shared-slice-read-b
-    add-t11
-    returns
-    skip-string-requires
+    add-t16
+    returns-3
+    skip-chars-requires
     enum-known-j
     enum-told
-    returns-2
-    returns-3
+    returns-4
+    returns-5
     skip-unescaped-requires
     enum-known-k
     enum-told-2
-    returns-4
+    returns-6
     skip-plain-requires-2
     loop-less
     loop-again
-    returns-5)
+    returns-7)

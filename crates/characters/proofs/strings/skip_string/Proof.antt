@@ -1,81 +1,59 @@
--- `skip_string` meets its contract. The characters from `at` on go on at i.
-use Prim.Native.Nat.{_≤_, _+_, _-_}
+-- `skip_string` meets its contract: what follows the plain bytes is the string's rest.
+use Prim.Native.Nat.{_≤_, _+_}
 use borrow.Author.Needs.{needs}
-use lib.ListN.{length}
-use mathlib.Core.Path.{subst}
+use mathlib.Core.Path.{sym, subst, _∙_}
 use native.Mathlib.Omega.{arith}
-use Rattle.characters.proofs.Inside.{Inside, inside-start, inside-ended, inside-quote, inside-none, inside-more, inside-run}
+use Rattle.characters.proofs.Inside.{inside-start, inside-ended, inside-quote, inside-run, inside-rest}
 use Rattle.text.specs.Answers.{Answer}
 use Rattle.characters.proofs.strings.skip_string.Statement.{statement}
 use Rattle.characters.proofs.strings.skip_string.Tie as tie
 
-abbrev Inv-loop : tie.InvT-loop
-Inv-loop s at i₀ i = Inside s at i
-
-abbrev μ-loop : tie.MeasureT-loop
-μ-loop s at i₀ i = length s - i
-
-skip-plain-requires : tie.Need-skip-plain-requires Inv-loop μ-loop
+skip-plain-requires : tie.Need-skip-plain-requires
 skip-plain-requires c κs = search needs
 
-loop-holds : tie.Need-loop-holds Inv-loop μ-loop
-loop-holds c = inside-run (inside-start (c .before .before .pre)) (c .skip-plain .ensures)
+returns : tie.Need-returns
+returns c = inside-ended (inside-run (inside-start (c .before .before .before .pre)) (c .before .skip-plain .ensures)) (c .if1 .taken)
 
-shared-slice-read-if1 : tie.Need-shared-slice-read-if1 Inv-loop μ-loop
-shared-slice-read-if1 c = search needs
+shared-slice-read-if2 : tie.Need-shared-slice-read-if2
+shared-slice-read-if2 c = search needs
 
-add-t9 : tie.Need-add-t9 Inv-loop μ-loop
-add-t9 c = omega arith
+add-t9 : tie.Need-add-t9
+add-t9 c = search needs
 
-returns : tie.Need-returns Inv-loop μ-loop
-returns c = (inside-quote (c .before .before .before .loop .inv) (c .before .before .loop-test .taken) (c .if1 .taken), omega arith, omega arith)
+returns-2 : tie.Need-returns-2
+returns-2 c =
+    let run = c .before .before .before .skip-plain .ensures in
+    (inside-quote (inside-run (inside-start (c .before .before .before .before .before .pre)) run) (c .before .before .if1 .left) (c .if2 .taken), omega (arith, run .0), omega arith)
 
-skip-char-requires : tie.Need-skip-char-requires Inv-loop μ-loop
-skip-char-requires c κs = c .before .before .before .loop .inv .within
+skip-chars-requires : tie.Need-skip-chars-requires
+skip-chars-requires c κs = c .before .before .before .skip-plain .ensures .1
 
-enum-known-j : tie.Need-enum-known-j Inv-loop μ-loop
+enum-known-j : tie.Need-enum-known-j
 enum-known-j c = search needs
 
-enum-told : tie.Need-enum-told Inv-loop μ-loop
+enum-told : tie.Need-enum-told
 enum-told c = search needs
 
-returns-2 : tie.Need-returns-2 Inv-loop μ-loop
-returns-2 c = inside-none (c .before .before .before .before .before .before .loop .inv) (c .before .before .before .before .before .loop-test .taken) (c .before .before .before .if1 .left) (subst (Answer _ _ _) (c .enum-told .given .1) (c .before .before .skip-char .ensures))
+returns-3 : tie.Need-returns-3
+returns-3 c = sym (inside-rest (inside-run (inside-start (c .before .before .before .before .before .before .before .before .pre)) (c .before .before .before .before .before .before .skip-plain .ensures))) ∙ subst (Answer _ _ _) (c .enum-told .given .1) (c .before .before .skip-chars .ensures)
 
-skip-plain-requires-2 : tie.Need-skip-plain-requires-2 Inv-loop μ-loop
-skip-plain-requires-2 c κs = (subst (Answer _ _ _) (c .before .j .given .1) (c .before .before .before .skip-char .ensures)) .2
-
-loop-less : tie.Need-loop-less Inv-loop μ-loop
-loop-less c =
-    let e = subst (Answer _ _ _) (c .before .before .j .given .1) (c .before .before .before .before .skip-char .ensures) in
-    let further : c .before .before .before .before .before .before .before .before .loop .i + 1 ≤ c .before .before .j .given .0 .0 = e .1 in
-    let run = c .skip-plain2 .ensures in
-    omega (arith, run .0, run .1)
-
-loop-again : tie.Need-loop-again Inv-loop μ-loop
-loop-again c =
-    let e = subst (Answer _ _ _) (c .before .before .j .given .1) (c .before .before .before .before .skip-char .ensures) in
-    inside-run (inside-more (c .before .before .before .before .before .before .before .before .loop .inv) (c .before .before .before .before .before .before .before .loop-test .taken) (c .before .before .before .before .before .if1 .left) (e .0) (e .1) (e .2)) (c .skip-plain2 .ensures)
-
-returns-3 : tie.Need-returns-3 Inv-loop μ-loop
-returns-3 c = inside-ended (c .before .loop .inv) (c .loop-test .left)
+returns-4 : tie.Need-returns-4
+returns-4 c =
+    let run = c .before .before .before .before .before .before .before .skip-plain .ensures in
+    let e = subst (Answer _ _ _) (c .before .j .given .1) (c .before .before .before .skip-chars .ensures) in
+    (sym (inside-rest (inside-run (inside-start (c .before .before .before .before .before .before .before .before .before .pre)) run)) ∙ e .0, omega (arith, run .0, e .1), e .2)
 
 pub skip-string-spec : {M : Type 1} → statement M
 skip-string-spec =
     tie.close
     (tie.spec
-    Inv-loop
-    μ-loop
     skip-plain-requires
-    loop-holds
-    shared-slice-read-if1
-    add-t9
     returns
-    skip-char-requires
+    shared-slice-read-if2
+    add-t9
+    returns-2
+    skip-chars-requires
     enum-known-j
     enum-told
-    returns-2
-    skip-plain-requires-2
-    loop-less
-    loop-again
-    returns-3)
+    returns-3
+    returns-4)
