@@ -75,7 +75,7 @@ unfolding slotOf
 slot-last name [] p x = refl
 slot-last name (q ∷ ps) p x = slot-last name ps p (slotBy (same (q .0) name) (oneMore (x .seen) (q .1) (q .2)) x)
 
-length-slots : (n : ℕ) (names : List Bytes) (ps : List Placed) → length (slotsOf n names ps) ≡ n
+pub length-slots : (n : ℕ) (names : List Bytes) (ps : List Placed) → length (slotsOf n names ps) ≡ n
 unfolding slotsOf
 length-slots zero names ps = refl
 length-slots (suc n) [] ps = ap suc (length-slots n [] ps)

@@ -3,7 +3,9 @@ use mathlib.Core.Path.{_≡_, refl, sym, ap, _∙_, subst}
 use mathlib.Core.Option.{Option, none}
 use mathlib.Core.List.{List, [], _∷_, _++_}
 use Prim.Native.Nat.{ℕ, _+_, _-_, _≤_}
-use lib.ListN.{length, take, drop, replicate}
+use native.Mathlib.Omega.{arith}
+use lib.Dec.{ltb}
+use lib.ListN.{length, take, drop, getD, set, replicate}
 use Rattle.rules.specs.Bytes.{Bytes}
 use Rattle.rules.specs.Json.Text.{Text, Reader}
 use Rattle.rules.specs.Json.Values.{Member, opening, closing, member, contents}
@@ -14,16 +16,16 @@ use Rattle.json.specs.Follows.{Follows}
 use Rattle.json.specs.declared.Tail.the-variants.{Closed, More, Neither}
 use Rattle.kinds.specs.Kinds.{namesOf, seek}
 use Rattle.fields.specs.Places.{nextIn, placesFrom, placesIn}
-use Rattle.fields.specs.Slots.{missing, noFields, Noted, Each, slotsOf, Filled, Scanned}
+use Rattle.fields.specs.Slots.{missing, noFields, oneMore, slotBy, Noted, Each, slotsOf, Filled, Scanned}
 use Rattle.keys.specs.Spelled.{nameIn}
 use Rattle.fields.specs.Standing.{Stands}
 use Rattle.kinds.specs.declared.Kind.{Kind}
 use Rattle.fields.specs.declared.notes.Slot.{Slot}
 use Rattle.fields.specs.declared.notes.Fields.{Fields}
 use Rattle.keys.specs.declared.Spell.{Spell}
-use Rattle.kinds.proofs.Naming.{names-few, names-distinct}
-use Rattle.fields.proofs.Slots.{each-start, each-more}
-use Rattle.fields.proofs.Places.{followed, followed-more, places-more, slots-start, slots-more}
+use Rattle.kinds.proofs.Naming.{names-few, names-distinct, place-few}
+use Rattle.fields.proofs.Slots.{noted-at, each-start, each-more}
+use Rattle.fields.proofs.Places.{followed, followed-more, places-more, length-slots, slots-start, slots-more}
 use Rattle.fields.proofs.Passing.{Passed, passed-start, passed-none, passed-neither, passed-closed, passed-more, list-further}
 
 pub record Going (read : Reader) (s : Text) (at : ℕ) (kind : Kind) (slots : List Slot) (i : ℕ) : Type 0 where
@@ -51,7 +53,7 @@ module _ (read : Reader) (s : Text) (at : ℕ) (kind : Kind) where
     all = contents-list read (drop at s) ∙ list-closed (member read) 0x7D (drop at s) (f .0);
     from = list-further (member-reads each) 0x7D s at end h (f .2) (list-closed (member read) 0x7D (drop at s) (f .0));
     within = f .2;
-    each = each-start s (namesOf kind) (names-few kind);
+    each = each-start s (namesOf kind) (omega (arith, names-few kind));
     exact = slots-start 8 (namesOf kind);
   }
 
@@ -60,7 +62,7 @@ module _ (read : Reader) (s : Text) (at : ℕ) (kind : Kind) where
   going-start i f = record {
     gone = [];
     passed = passed-start (member read) 0x7D s at f;
-    each = each-start s (namesOf kind) (names-few kind);
+    each = each-start s (namesOf kind) (omega (arith, names-few kind));
     here = ap nextIn (f .0);
     exact = slots-start 8 (namesOf kind);
   }
@@ -75,9 +77,14 @@ module _ (read : Reader) (s : Text) (at : ℕ) (kind : Kind) where
       pub going-neither : Follows (closing 0x7D (drop e s)) s (e + 1) Neither → contents read (drop at s) ≡ none
       going-neither f = contents-list read (drop at s) ∙ passed-neither (g .passed) e (m .read) f
 
-      module _ (next : List Slot) (r names : ℕ) (place : r ≡ seek (nameIn s n) (namesOf kind)) (many : names ≡ length (namesOf kind)) (note : Noted slots names r v e next) (reads : EachReads 1 read) where
+      module _ (x : Slot) (r names : ℕ) (place : r ≡ seek (nameIn s n) (namesOf kind)) (many : names ≡ length (namesOf kind))
+          (note : x ≡ slotBy (ltb r names) (oneMore (getD slots r missing .seen) v e) (getD slots r missing)) (reads : EachReads 1 read) where
+        abbrev next : List Slot
+        next = set slots r x
+
         noted : Noted slots (length (namesOf kind)) r v e next
-        noted = subst (λ (m : ℕ). Noted slots m r v e next) many note
+        noted = subst (λ (m : ℕ). Noted slots m r v e next) many
+            (noted-at slots names r v e x (ap length (g .exact) ∙ length-slots 8 (namesOf kind) (placesIn s at (g .gone))) (omega (arith, place, place-few kind (nameIn s n))) note)
 
         more : Each s (namesOf kind) (g .gone ++ ((nameIn s n, take (e - v) (drop v s)) ∷ [])) next
         more = each-more s (namesOf kind) (g .gone) slots next (nameIn s n) r v e (names-distinct kind) (m .ordered) (m .within) place noted (g .each)
@@ -85,7 +92,7 @@ module _ (read : Reader) (s : Text) (at : ℕ) (kind : Kind) where
         exactly : next ≡ slotsOf 8 (namesOf kind) (placesIn s at (g .gone ++ ((nameIn s n, take (e - v) (drop v s)) ∷ [])))
         unfolding placesIn
         exactly =
-            slots-more (namesOf kind) (placesIn s at (g .gone)) slots next (nameIn s n) r v e (names-few kind) (names-distinct kind) place noted (g .exact)
+            slots-more (namesOf kind) (placesIn s at (g .gone)) slots next (nameIn s n) r v e (omega (arith, names-few kind)) (names-distinct kind) place noted (g .exact)
             ∙ sym (ap (slotsOf 8 (namesOf kind)) (places-more s (nextIn (opening 0x7D (drop at s))) (g .gone) (nameIn s n) i v e (m .ordered) (m .within) (g .here) (m .value)))
 
         pub going-closed : at ≤ length s → (k : ℕ) → Follows (closing 0x7D (drop e s)) s (e + 1) (Closed k) → Filled (contents read (drop at s)) s at (namesOf kind) k next

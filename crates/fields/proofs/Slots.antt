@@ -5,8 +5,8 @@ use mathlib.Core.List.{List, [], _∷_, _++_}
 use Prim.Native.Nat.{ℕ, zero, suc, _-_, _≤_, _<_}
 use Prim.Native.String.{String}
 use native.Mathlib.Omega.{arith}
-use borrow.Author.Tests.{ne-eqb, eqb-true, eqb-false}
-use lib.Dec.{eqb}
+use borrow.Author.Tests.{ne-eqb, eqb-true, eqb-false, lt-ltb, le-ltb}
+use lib.Dec.{eqb, ltb}
 use lib.ListN.{length, take, drop, getD, set, replicate, getD-replicate, length-set, length-append}
 use lib.Seq.{getD-set-same, getD-set-other}
 use Rattle.rules.specs.Bytes.{Bytes, ascii, same, distinct}
@@ -26,23 +26,21 @@ pub one-more-other : (seen v e : ℕ) → (seen ≡ 0 → ⊥) → _≡_ {A = Sl
 one-more-other zero v e f = absurd (f refl)
 one-more-other (suc n) v e f = refl
 
-module _ (slots : List Slot) (names k v e : ℕ) (l : length slots ≡ 8) where
-  pub noted-in : (x : Slot) → names ≤ 8 → k < names → x ≡ oneMore (getD slots k missing .seen) v e → Noted slots names k v e (set slots k x)
-  noted-in x few h p = record {
-    size = length-set slots k x ∙ l;
-    each = λ j b. by (eqb k j) (here j) (other j);
-    past = λ j b. getD-set-other slots k j x missing (λ same. absurd (omega (arith, h, b, same)));
-  }
-    where
-      here : (j : ℕ) → eqb k j ≡ true → getD (set slots k x) j missing ≡ slotBy (eqb k j) (oneMore (getD slots j missing .seen) v e) (getD slots j missing)
-      here j q = rw q (subst (λ (i : ℕ). getD (set slots k x) i missing ≡ oneMore (getD slots i missing .seen) v e) (eqb-true k j q)
-          (getD-set-same slots k x missing (omega (arith, l, h, few)) ∙ p))
+-- slot k, written again with or without a value more
+pub noted-at : (slots : List Slot) (names k v e : ℕ) (x : Slot) → length slots ≡ 8 → k < 8
+    → x ≡ slotBy (ltb k names) (oneMore (getD slots k missing .seen) v e) (getD slots k missing) → Noted slots names k v e (set slots k x)
+noted-at slots names k v e x l h p = record {
+  size = length-set slots k x ∙ l;
+  each = λ j b. by (eqb k j) (λ q. rw q (here j q (lt-ltb k names (omega (arith, eqb-true k j q))))) (λ q. rw q (other j q));
+  past = λ j b. by (eqb k j) (λ q. here j q (le-ltb k names (omega (arith, eqb-true k j q)))) (other j);
+}
+  where
+    here : (j : ℕ) → eqb k j ≡ true → {b : Bool} → ltb k names ≡ b → getD (set slots k x) j missing ≡ slotBy b (oneMore (getD slots j missing .seen) v e) (getD slots j missing)
+    here j q {b} t = subst (λ (i : ℕ). getD (set slots k x) i missing ≡ slotBy b (oneMore (getD slots i missing .seen) v e) (getD slots i missing)) (eqb-true k j q)
+        (getD-set-same slots k x missing (omega (arith, l, h)) ∙ p ∙ ap (λ (b : Bool). slotBy b (oneMore (getD slots k missing .seen) v e) (getD slots k missing)) t)
 
-      other : (j : ℕ) → eqb k j ≡ false → getD (set slots k x) j missing ≡ slotBy (eqb k j) (oneMore (getD slots j missing .seen) v e) (getD slots j missing)
-      other j q = rw q (getD-set-other slots k j x missing (λ same. eqb-false k j q (sym same)))
-
-  pub noted-out : names ≤ k → Noted slots names k v e slots
-  noted-out h = record { size = l; each = λ j b. rw (ne-eqb k j (λ same. absurd (omega (arith, h, b, same)))); past = λ j b. refl }
+    other : (j : ℕ) → eqb k j ≡ false → getD (set slots k x) j missing ≡ getD slots j missing
+    other j q = getD-set-other slots k j x missing (λ same. eqb-false k j q (sym same))
 
 one-more-holds : (s : Text) (n v₀ e₀ v e : ℕ) (vs : List Text) → v ≤ e → e ≤ length s → Times s n v₀ e₀ vs
     → Holds s (oneMore n v e) (vs ++ (take (e - v) (drop v s) ∷ []))

@@ -1,7 +1,6 @@
 // Slots: how often each field of an object was seen, and where its value stands.
 ghost use mathlib.Core.Path.{_≡_};
-ghost use Prim.Native.Nat.{_≤_};
-ghost use Rattle.fields.specs.Slots.{noFields, oneMore, Noted};
+ghost use Rattle.fields.specs.Slots.{noFields, oneMore, slotBy};
 
 // The end of what is no object.
 const NOWHERE: usize = 0;
@@ -39,17 +38,15 @@ fn one_more(seen: usize, start: usize, end: usize) -> Slot
     }
 }
 
-// The slots with one value more of name k, of so many names; none of them, no slot.
-pub fn noted(slots: [Slot; 8], names: usize, k: usize, start: usize, end: usize) -> [Slot; 8]
-    requires { ⌜ names ≤ 8 ⌝ }
-    ensures { λ r. ⌜ Noted slots names k start end r ⌝ }
+// The slot with one value more, if it is a name's; else as it was.
+pub fn noted(old: Slot, named: bool, start: usize, end: usize) -> Slot
+    ensures { λ r. ⌜ r ≡ slotBy named (oneMore (old .seen) start end) old ⌝ }
 {
-    let mut t = slots;
-    if k < names {
-        let old = t[k];
-        t[k] = one_more(old.seen, start, end);
+    if named {
+        one_more(old.seen, start, end)
+    } else {
+        old
     }
-    t
 }
 
 // What is no object.

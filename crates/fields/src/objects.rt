@@ -8,6 +8,7 @@ use json::Tail;
 use keys::Name;
 use keys::Spell;
 use kinds::Kind;
+use kinds::Known;
 use text::Next;
 ghost use mathlib.Core.Path.{_≡_};
 ghost use mathlib.Core.List.{List};
@@ -66,12 +67,18 @@ pub fn scan(s: &[u8], at: usize, kind: Kind, depth: usize) -> Fields
         Tail::More(first) => {
             let mut i = first;
             loop {
-                let Met::Member(n, v, e) = read_member(s, i, depth) else {
+                let Known::Name(n, k) = kinds::read_known(s, i, kind) else {
                     return no_fields();
                 };
-                let k = kinds::which(s, n, kind);
-                let next = noted(slots, names, k, v, e);
-                slots = next;
+                let behind = n.end;
+                let Next::At(v) = json::skip_colon(s, behind) else {
+                    return no_fields();
+                };
+                let Next::At(e) = json::value(s, v, depth) else {
+                    return no_fields();
+                };
+                let old = slots[k];
+                slots[k] = noted(old, k < names, v, e);
                 match json::closing(s, e, CLOSE_BRACE) {
                     Tail::Neither => return no_fields(),
                     Tail::Closed(end) => {

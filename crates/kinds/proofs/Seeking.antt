@@ -2,13 +2,13 @@
 use mathlib.Core.Path.{_≡_, refl, ap, _∙_}
 use mathlib.Core.Bool.{Bool, true, false}
 use mathlib.Core.List.{List, [], _∷_}
-use Prim.Native.Nat.{ℕ, zero, suc, _<_}
+use Prim.Native.Nat.{ℕ, zero, suc, _≤_, _<_}
 use native.Mathlib.Omega.{arith}
 use borrow.Author.Tests.{eq-eqb, eqb-true}
 use lib.Dec.{eqb}
 use lib.ListN.{length, getD}
 use Rattle.rules.specs.Bytes.{Bytes, same, holds, distinct}
-use Rattle.rules.proofs.Tests.{tests-equal}
+use Rattle.rules.proofs.Tests.{by, tests-equal}
 use Rattle.rules.proofs.Order.{same-true, same-false, eq-same, ne-same}
 use Rattle.rules.proofs.Holding.{holds-head, holds-past, holds-false, distinct-head, distinct-tail}
 use Rattle.kinds.specs.Kinds.{seek}
@@ -30,6 +30,10 @@ seek-none name = refl
 pub seek-then : (name k : Bytes) (ks : List Bytes) {n : ℕ} → same name k ≡ false → seek name ks ≡ n → seek name (k ∷ ks) ≡ suc n
 seek-then name k ks e f = seek-past name k ks e ∙ ap suc f
 
+pub seek-most : (name : Bytes) (ks : List Bytes) → seek name ks ≤ length ks
+seek-most name [] = omega (arith, seek-none name)
+seek-most name (k ∷ ks) = by (same name k) (λ e. omega (arith, seek-here name k ks e)) (λ e. omega (arith, seek-past name k ks e, seek-most name ks))
+
 -- a name found at k is the k-th
 pub seek-found : (name : Bytes) (ks : List Bytes) (k : ℕ) → k < length ks → seek name ks ≡ k → name ≡ getD ks k []
 seek-found name [] k h e = absurd (omega arith)
@@ -41,6 +45,11 @@ seek-found name (w ∷ ks) k h e = go k h (seek-found name ks) (same name w) ref
     go zero h ih false p e = absurd (omega (arith, seek-past name w ks p, e))
     go (suc j) h ih true p e = absurd (omega (arith, seek-here name w ks p, e))
     go (suc j) h ih false p e = ih j (omega arith) (omega (arith, seek-past name w ks p, e))
+
+-- a name that is none of them is found behind them all
+pub seek-absent : (name : Bytes) (ks : List Bytes) → ((k : ℕ) → k < length ks → name ≡ getD ks k [] → ⊥) → seek name ks ≡ length ks
+seek-absent name [] f = seek-none name
+seek-absent name (w ∷ ks) f = seek-then name w ks (ne-same name w (f 0 (omega arith))) (seek-absent name ks (λ k h. f (suc k) (omega arith)))
 
 -- among distinct names the k-th is found at k
 pub seek-place : (ks : List Bytes) (k : ℕ) → distinct ks ≡ true → k < length ks → seek (getD ks k []) ks ≡ k

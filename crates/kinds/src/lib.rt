@@ -1,9 +1,13 @@
 // The objects whose members the paper names: the place of a name among the names of its kind.
-use keys::Spell;
+mod places;
+
+pub use places::Known;
+pub use places::read_known;
+pub use places::which;
 ghost use mathlib.Core.Path.{_≡_};
 ghost use lib.ListN.{length};
+ghost use Rattle.rules.specs.Bytes.{same};
 ghost use Rattle.kinds.specs.Kinds.{namesOf, seek};
-ghost use Rattle.keys.specs.Spelled.{nameIn, Named};
 
 // The objects whose members have names of their own.
 pub enum Kind {
@@ -19,176 +23,170 @@ pub enum Kind {
     Condition,
 }
 
-fn which_line(s: &[u8], n: Spell) -> usize
-    requires { ⌜ Named (now s) n ⌝ }
-    ensures { λ r. ⌜ r ≡ seek (nameIn (now (s .entry)) n) (namesOf Kind.Line) ⌝ }
+// Whether the name is the key. Byte by byte: a key is written out, and its few bytes are known where it is asked for.
+fn is_key(name: &[u8], key: &[u8]) -> bool
+    ensures { λ r. ⌜ r ≡ same (now (name .entry)) (now (key .entry)) ⌝ }
 {
-    if keys::name_is(s, n, b"add") {
-        return 0;
+    if name.len() != key.len() {
+        return false;
     }
-    if keys::name_is(s, n, b"remove") {
-        return 1;
+    let mut i = 0;
+    while i < key.len() {
+        if name[i] != key[i] {
+            return false;
+        }
+        i += 1;
     }
-    if keys::name_is(s, n, b"protocol") {
-        return 2;
-    }
-    if keys::name_is(s, n, b"metaData") {
-        return 3;
-    }
-    if keys::name_is(s, n, b"mergeskip") {
-        4
-    } else {
-        5
-    }
+    true
 }
 
-fn which_add(s: &[u8], n: Spell) -> usize
-    requires { ⌜ Named (now s) n ⌝ }
-    ensures { λ r. ⌜ r ≡ seek (nameIn (now (s .entry)) n) (namesOf Kind.Add) ⌝ }
+fn which_line(name: &[u8]) -> usize
+    ensures { λ r. ⌜ r ≡ seek (now (name .entry)) (namesOf Kind.Line) ⌝ }
 {
-    if keys::name_is(s, n, b"path") {
+    if is_key(name, b"add") {
         return 0;
     }
-    if keys::name_is(s, n, b"size") {
+    if is_key(name, b"remove") {
         return 1;
     }
-    if keys::name_is(s, n, b"modificationTime") {
+    if is_key(name, b"protocol") {
         return 2;
     }
-    if keys::name_is(s, n, b"dataChange") {
+    if is_key(name, b"metaData") {
         return 3;
     }
-    if keys::name_is(s, n, b"partitionValues") {
+    if is_key(name, b"mergeskip") { 4 } else { 5 }
+}
+
+fn which_add(name: &[u8]) -> usize
+    ensures { λ r. ⌜ r ≡ seek (now (name .entry)) (namesOf Kind.Add) ⌝ }
+{
+    if is_key(name, b"path") {
+        return 0;
+    }
+    if is_key(name, b"size") {
+        return 1;
+    }
+    if is_key(name, b"modificationTime") {
+        return 2;
+    }
+    if is_key(name, b"dataChange") {
+        return 3;
+    }
+    if is_key(name, b"partitionValues") {
         return 4;
     }
-    if keys::name_is(s, n, b"numRecords") {
-        5
-    } else {
-        6
-    }
+    if is_key(name, b"numRecords") { 5 } else { 6 }
 }
 
-fn which_remove(s: &[u8], n: Spell) -> usize
-    requires { ⌜ Named (now s) n ⌝ }
-    ensures { λ r. ⌜ r ≡ seek (nameIn (now (s .entry)) n) (namesOf Kind.Remove) ⌝ }
+fn which_remove(name: &[u8]) -> usize
+    ensures { λ r. ⌜ r ≡ seek (now (name .entry)) (namesOf Kind.Remove) ⌝ }
 {
-    if keys::name_is(s, n, b"path") { 0 } else { 1 }
+    if is_key(name, b"path") { 0 } else { 1 }
 }
 
-fn which_protocol(s: &[u8], n: Spell) -> usize
-    requires { ⌜ Named (now s) n ⌝ }
-    ensures { λ r. ⌜ r ≡ seek (nameIn (now (s .entry)) n) (namesOf Kind.Protocol) ⌝ }
+fn which_protocol(name: &[u8]) -> usize
+    ensures { λ r. ⌜ r ≡ seek (now (name .entry)) (namesOf Kind.Protocol) ⌝ }
 {
-    if keys::name_is(s, n, b"minReaderVersion") {
+    if is_key(name, b"minReaderVersion") {
         return 0;
     }
-    if keys::name_is(s, n, b"minWriterVersion") {
+    if is_key(name, b"minWriterVersion") {
         return 1;
     }
-    if keys::name_is(s, n, b"readerFeatures") {
+    if is_key(name, b"readerFeatures") {
         return 2;
     }
-    if keys::name_is(s, n, b"writerFeatures") {
+    if is_key(name, b"writerFeatures") {
         3
     } else {
         4
     }
 }
 
-fn which_meta_data(s: &[u8], n: Spell) -> usize
-    requires { ⌜ Named (now s) n ⌝ }
-    ensures { λ r. ⌜ r ≡ seek (nameIn (now (s .entry)) n) (namesOf Kind.MetaData) ⌝ }
+fn which_meta_data(name: &[u8]) -> usize
+    ensures { λ r. ⌜ r ≡ seek (now (name .entry)) (namesOf Kind.MetaData) ⌝ }
 {
-    if keys::name_is(s, n, b"id") {
+    if is_key(name, b"id") {
         return 0;
     }
-    if keys::name_is(s, n, b"partitionColumns") {
+    if is_key(name, b"partitionColumns") {
         1
     } else {
         2
     }
 }
 
-fn which_marker(s: &[u8], n: Spell) -> usize
-    requires { ⌜ Named (now s) n ⌝ }
-    ensures { λ r. ⌜ r ≡ seek (nameIn (now (s .entry)) n) (namesOf Kind.Marker) ⌝ }
+fn which_marker(name: &[u8]) -> usize
+    ensures { λ r. ⌜ r ≡ seek (now (name .entry)) (namesOf Kind.Marker) ⌝ }
 {
-    if keys::name_is(s, n, b"version") {
+    if is_key(name, b"version") {
         return 0;
     }
-    if keys::name_is(s, n, b"parts") {
+    if is_key(name, b"parts") {
         return 1;
     }
-    if keys::name_is(s, n, b"format") { 2 } else { 3 }
+    if is_key(name, b"format") { 2 } else { 3 }
 }
 
-fn which_state(s: &[u8], n: Spell) -> usize
-    requires { ⌜ Named (now s) n ⌝ }
-    ensures { λ r. ⌜ r ≡ seek (nameIn (now (s .entry)) n) (namesOf Kind.State) ⌝ }
+fn which_state(name: &[u8]) -> usize
+    ensures { λ r. ⌜ r ≡ seek (now (name .entry)) (namesOf Kind.State) ⌝ }
 {
-    if keys::name_is(s, n, b"manifests") {
-        0
-    } else {
-        1
-    }
+    if is_key(name, b"manifests") { 0 } else { 1 }
 }
 
-fn which_manifest(s: &[u8], n: Spell) -> usize
-    requires { ⌜ Named (now s) n ⌝ }
-    ensures { λ r. ⌜ r ≡ seek (nameIn (now (s .entry)) n) (namesOf Kind.Manifest) ⌝ }
+fn which_manifest(name: &[u8]) -> usize
+    ensures { λ r. ⌜ r ≡ seek (now (name .entry)) (namesOf Kind.Manifest) ⌝ }
 {
-    if keys::name_is(s, n, b"path") {
+    if is_key(name, b"path") {
         return 0;
     }
-    if keys::name_is(s, n, b"partitionBounds") {
+    if is_key(name, b"partitionBounds") {
         1
     } else {
         2
     }
 }
 
-fn which_bounds(s: &[u8], n: Spell) -> usize
-    requires { ⌜ Named (now s) n ⌝ }
-    ensures { λ r. ⌜ r ≡ seek (nameIn (now (s .entry)) n) (namesOf Kind.Bounds) ⌝ }
+fn which_bounds(name: &[u8]) -> usize
+    ensures { λ r. ⌜ r ≡ seek (now (name .entry)) (namesOf Kind.Bounds) ⌝ }
 {
-    if keys::name_is(s, n, b"min") {
+    if is_key(name, b"min") {
         return 0;
     }
-    if keys::name_is(s, n, b"max") { 1 } else { 2 }
+    if is_key(name, b"max") { 1 } else { 2 }
 }
 
-fn which_condition(s: &[u8], n: Spell) -> usize
-    requires { ⌜ Named (now s) n ⌝ }
-    ensures { λ r. ⌜ r ≡ seek (nameIn (now (s .entry)) n) (namesOf Kind.Condition) ⌝ }
+fn which_condition(name: &[u8]) -> usize
+    ensures { λ r. ⌜ r ≡ seek (now (name .entry)) (namesOf Kind.Condition) ⌝ }
 {
-    if keys::name_is(s, n, b"column") {
+    if is_key(name, b"column") {
         return 0;
     }
-    if keys::name_is(s, n, b"as") {
+    if is_key(name, b"as") {
         return 1;
     }
-    if keys::name_is(s, n, b"op") {
+    if is_key(name, b"op") {
         return 2;
     }
-    if keys::name_is(s, n, b"value") { 3 } else { 4 }
+    if is_key(name, b"value") { 3 } else { 4 }
 }
 
-// The place of the name among those of the kind; their number where it is none of them.
-pub fn which(s: &[u8], n: Spell, kind: Kind) -> usize
-    requires { ⌜ Named (now s) n ⌝ }
-    ensures { λ r. ⌜ r ≡ seek (nameIn (now (s .entry)) n) (namesOf kind) ⌝ }
+// The place of the bytes among the names of the kind; their number where they are none of them.
+fn place_of(name: &[u8], kind: Kind) -> usize
+    ensures { λ r. ⌜ r ≡ seek (now (name .entry)) (namesOf kind) ⌝ }
 {
     match kind {
-        Kind::Line => which_line(s, n),
-        Kind::Add => which_add(s, n),
-        Kind::Remove => which_remove(s, n),
-        Kind::Protocol => which_protocol(s, n),
-        Kind::MetaData => which_meta_data(s, n),
-        Kind::Marker => which_marker(s, n),
-        Kind::State => which_state(s, n),
-        Kind::Manifest => which_manifest(s, n),
-        Kind::Bounds => which_bounds(s, n),
-        Kind::Condition => which_condition(s, n),
+        Kind::Line => which_line(name),
+        Kind::Add => which_add(name),
+        Kind::Remove => which_remove(name),
+        Kind::Protocol => which_protocol(name),
+        Kind::MetaData => which_meta_data(name),
+        Kind::Marker => which_marker(name),
+        Kind::State => which_state(name),
+        Kind::Manifest => which_manifest(name),
+        Kind::Bounds => which_bounds(name),
+        Kind::Condition => which_condition(name),
     }
 }
 

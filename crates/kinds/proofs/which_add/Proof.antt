@@ -2,117 +2,116 @@
 use mathlib.Core.Path.{sym, _∙_}
 use Rattle.rules.specs.Bytes.{ascii}
 use Rattle.kinds.specs.Kinds.{namesOf}
-use Rattle.keys.specs.Spelled.{nameIn}
 use Rattle.kinds.proofs.Seeking.{seek-none, seek-here, seek-then}
 use borrow.Author.Needs.{needs}
 use Rattle.kinds.proofs.which_add.Statement.{statement}
 use Rattle.kinds.proofs.which_add.Tie as tie
 
-slice-aggregate-name-is : tie.Need-slice-aggregate-name-is
-slice-aggregate-name-is c = search needs
+slice-aggregate-is-key : tie.Need-slice-aggregate-is-key
+slice-aggregate-is-key c = search needs
 
-name-is-requires : tie.Need-name-is-requires
-name-is-requires c κs = search needs
+is-key-requires : tie.Need-is-key-requires
+is-key-requires c κs = search needs
 
 returns : tie.Need-returns
 unfolding namesOf ascii
 returns c =
     let a = c .before .before .before .before .args in
-    let x = nameIn (a .s .now) (a .n) in
-    sym (seek-here x _ _ (sym (c .before .name-is .ensures) ∙ c .if1 .taken))
+    let x = a .name .now in
+    sym (seek-here x _ _ (sym (c .before .is-key .ensures) ∙ c .if1 .taken))
 
-slice-aggregate-name-is-2 : tie.Need-slice-aggregate-name-is-2
-slice-aggregate-name-is-2 c = search needs
+slice-aggregate-is-key-2 : tie.Need-slice-aggregate-is-key-2
+slice-aggregate-is-key-2 c = search needs
 
-name-is-requires-2 : tie.Need-name-is-requires-2
-name-is-requires-2 c κs = search needs
+is-key-requires-2 : tie.Need-is-key-requires-2
+is-key-requires-2 c κs = search needs
 
 returns-2 : tie.Need-returns-2
 unfolding namesOf ascii
 returns-2 c =
     let a = c .before .before .before .before .before .before .before .args in
-    let x = nameIn (a .s .now) (a .n) in
-    sym (seek-then x _ _ (sym (c .before .before .before .before .name-is .ensures) ∙ c .before .before .before .if1 .left) (seek-here x _ _ (sym (c .before .name-is2 .ensures) ∙ c .if2 .taken)))
+    let x = a .name .now in
+    sym (seek-then x _ _ (sym (c .before .before .before .before .is-key .ensures) ∙ c .before .before .before .if1 .left) (seek-here x _ _ (sym (c .before .is-key2 .ensures) ∙ c .if2 .taken)))
 
-slice-aggregate-name-is-3 : tie.Need-slice-aggregate-name-is-3
-slice-aggregate-name-is-3 c = search needs
+slice-aggregate-is-key-3 : tie.Need-slice-aggregate-is-key-3
+slice-aggregate-is-key-3 c = search needs
 
-name-is-requires-3 : tie.Need-name-is-requires-3
-name-is-requires-3 c κs = search needs
+is-key-requires-3 : tie.Need-is-key-requires-3
+is-key-requires-3 c κs = search needs
 
 returns-3 : tie.Need-returns-3
 unfolding namesOf ascii
 returns-3 c =
     let a = c .before .before .before .before .before .before .before .before .before .before .args in
-    let x = nameIn (a .s .now) (a .n) in
-    sym (seek-then x _ _ (sym (c .before .before .before .before .before .before .before .name-is .ensures) ∙ c .before .before .before .before .before .before .if1 .left) (seek-then x _ _ (sym (c .before .before .before .before .name-is2 .ensures) ∙ c .before .before .before .if2 .left) (seek-here x _ _ (sym (c .before .name-is3 .ensures) ∙ c .if3 .taken))))
+    let x = a .name .now in
+    sym (seek-then x _ _ (sym (c .before .before .before .before .before .before .before .is-key .ensures) ∙ c .before .before .before .before .before .before .if1 .left) (seek-then x _ _ (sym (c .before .before .before .before .is-key2 .ensures) ∙ c .before .before .before .if2 .left) (seek-here x _ _ (sym (c .before .is-key3 .ensures) ∙ c .if3 .taken))))
 
-slice-aggregate-name-is-4 : tie.Need-slice-aggregate-name-is-4
-slice-aggregate-name-is-4 c = search needs
+slice-aggregate-is-key-4 : tie.Need-slice-aggregate-is-key-4
+slice-aggregate-is-key-4 c = search needs
 
-name-is-requires-4 : tie.Need-name-is-requires-4
-name-is-requires-4 c κs = search needs
+is-key-requires-4 : tie.Need-is-key-requires-4
+is-key-requires-4 c κs = search needs
 
 returns-4 : tie.Need-returns-4
 unfolding namesOf ascii
 returns-4 c =
     let a = c .before .before .before .before .before .before .before .before .before .before .before .before .before .args in
-    let x = nameIn (a .s .now) (a .n) in
-    sym (seek-then x _ _ (sym (c .before .before .before .before .before .before .before .before .before .before .name-is .ensures) ∙ c .before .before .before .before .before .before .before .before .before .if1 .left) (seek-then x _ _ (sym (c .before .before .before .before .before .before .before .name-is2 .ensures) ∙ c .before .before .before .before .before .before .if2 .left) (seek-then x _ _ (sym (c .before .before .before .before .name-is3 .ensures) ∙ c .before .before .before .if3 .left) (seek-here x _ _ (sym (c .before .name-is4 .ensures) ∙ c .if4 .taken)))))
+    let x = a .name .now in
+    sym (seek-then x _ _ (sym (c .before .before .before .before .before .before .before .before .before .before .is-key .ensures) ∙ c .before .before .before .before .before .before .before .before .before .if1 .left) (seek-then x _ _ (sym (c .before .before .before .before .before .before .before .is-key2 .ensures) ∙ c .before .before .before .before .before .before .if2 .left) (seek-then x _ _ (sym (c .before .before .before .before .is-key3 .ensures) ∙ c .before .before .before .if3 .left) (seek-here x _ _ (sym (c .before .is-key4 .ensures) ∙ c .if4 .taken)))))
 
-slice-aggregate-name-is-5 : tie.Need-slice-aggregate-name-is-5
-slice-aggregate-name-is-5 c = search needs
+slice-aggregate-is-key-5 : tie.Need-slice-aggregate-is-key-5
+slice-aggregate-is-key-5 c = search needs
 
-name-is-requires-5 : tie.Need-name-is-requires-5
-name-is-requires-5 c κs = search needs
+is-key-requires-5 : tie.Need-is-key-requires-5
+is-key-requires-5 c κs = search needs
 
 returns-5 : tie.Need-returns-5
 unfolding namesOf ascii
 returns-5 c =
     let a = c .before .before .before .before .before .before .before .before .before .before .before .before .before .before .before .before .args in
-    let x = nameIn (a .s .now) (a .n) in
-    sym (seek-then x _ _ (sym (c .before .before .before .before .before .before .before .before .before .before .before .before .before .name-is .ensures) ∙ c .before .before .before .before .before .before .before .before .before .before .before .before .if1 .left) (seek-then x _ _ (sym (c .before .before .before .before .before .before .before .before .before .before .name-is2 .ensures) ∙ c .before .before .before .before .before .before .before .before .before .if2 .left) (seek-then x _ _ (sym (c .before .before .before .before .before .before .before .name-is3 .ensures) ∙ c .before .before .before .before .before .before .if3 .left) (seek-then x _ _ (sym (c .before .before .before .before .name-is4 .ensures) ∙ c .before .before .before .if4 .left) (seek-here x _ _ (sym (c .before .name-is5 .ensures) ∙ c .if5 .taken))))))
+    let x = a .name .now in
+    sym (seek-then x _ _ (sym (c .before .before .before .before .before .before .before .before .before .before .before .before .before .is-key .ensures) ∙ c .before .before .before .before .before .before .before .before .before .before .before .before .if1 .left) (seek-then x _ _ (sym (c .before .before .before .before .before .before .before .before .before .before .is-key2 .ensures) ∙ c .before .before .before .before .before .before .before .before .before .if2 .left) (seek-then x _ _ (sym (c .before .before .before .before .before .before .before .is-key3 .ensures) ∙ c .before .before .before .before .before .before .if3 .left) (seek-then x _ _ (sym (c .before .before .before .before .is-key4 .ensures) ∙ c .before .before .before .if4 .left) (seek-here x _ _ (sym (c .before .is-key5 .ensures) ∙ c .if5 .taken))))))
 
-slice-aggregate-name-is-6 : tie.Need-slice-aggregate-name-is-6
-slice-aggregate-name-is-6 c = search needs
+slice-aggregate-is-key-6 : tie.Need-slice-aggregate-is-key-6
+slice-aggregate-is-key-6 c = search needs
 
-name-is-requires-6 : tie.Need-name-is-requires-6
-name-is-requires-6 c κs = search needs
+is-key-requires-6 : tie.Need-is-key-requires-6
+is-key-requires-6 c κs = search needs
 
 returns-6 : tie.Need-returns-6
 unfolding namesOf ascii
 returns-6 c =
     let a = c .before .before .before .before .before .before .before .before .before .before .before .before .before .before .before .before .before .before .before .args in
-    let x = nameIn (a .s .now) (a .n) in
-    sym (seek-then x _ _ (sym (c .before .before .before .before .before .before .before .before .before .before .before .before .before .before .before .before .name-is .ensures) ∙ c .before .before .before .before .before .before .before .before .before .before .before .before .before .before .before .if1 .left) (seek-then x _ _ (sym (c .before .before .before .before .before .before .before .before .before .before .before .before .before .name-is2 .ensures) ∙ c .before .before .before .before .before .before .before .before .before .before .before .before .if2 .left) (seek-then x _ _ (sym (c .before .before .before .before .before .before .before .before .before .before .name-is3 .ensures) ∙ c .before .before .before .before .before .before .before .before .before .if3 .left) (seek-then x _ _ (sym (c .before .before .before .before .before .before .before .name-is4 .ensures) ∙ c .before .before .before .before .before .before .if4 .left) (seek-then x _ _ (sym (c .before .before .before .before .name-is5 .ensures) ∙ c .before .before .before .if5 .left) (seek-here x _ _ (sym (c .before .name-is6 .ensures) ∙ c .if6 .taken)))))))
+    let x = a .name .now in
+    sym (seek-then x _ _ (sym (c .before .before .before .before .before .before .before .before .before .before .before .before .before .before .before .before .is-key .ensures) ∙ c .before .before .before .before .before .before .before .before .before .before .before .before .before .before .before .if1 .left) (seek-then x _ _ (sym (c .before .before .before .before .before .before .before .before .before .before .before .before .before .is-key2 .ensures) ∙ c .before .before .before .before .before .before .before .before .before .before .before .before .if2 .left) (seek-then x _ _ (sym (c .before .before .before .before .before .before .before .before .before .before .is-key3 .ensures) ∙ c .before .before .before .before .before .before .before .before .before .if3 .left) (seek-then x _ _ (sym (c .before .before .before .before .before .before .before .is-key4 .ensures) ∙ c .before .before .before .before .before .before .if4 .left) (seek-then x _ _ (sym (c .before .before .before .before .is-key5 .ensures) ∙ c .before .before .before .if5 .left) (seek-here x _ _ (sym (c .before .is-key6 .ensures) ∙ c .if6 .taken)))))))
 
 returns-7 : tie.Need-returns-7
 unfolding namesOf ascii
 returns-7 c =
     let a = c .before .before .before .before .before .before .before .before .before .before .before .before .before .before .before .before .before .before .before .args in
-    let x = nameIn (a .s .now) (a .n) in
-    sym (seek-then x _ _ (sym (c .before .before .before .before .before .before .before .before .before .before .before .before .before .before .before .before .name-is .ensures) ∙ c .before .before .before .before .before .before .before .before .before .before .before .before .before .before .before .if1 .left) (seek-then x _ _ (sym (c .before .before .before .before .before .before .before .before .before .before .before .before .before .name-is2 .ensures) ∙ c .before .before .before .before .before .before .before .before .before .before .before .before .if2 .left) (seek-then x _ _ (sym (c .before .before .before .before .before .before .before .before .before .before .name-is3 .ensures) ∙ c .before .before .before .before .before .before .before .before .before .if3 .left) (seek-then x _ _ (sym (c .before .before .before .before .before .before .before .name-is4 .ensures) ∙ c .before .before .before .before .before .before .if4 .left) (seek-then x _ _ (sym (c .before .before .before .before .name-is5 .ensures) ∙ c .before .before .before .if5 .left) (seek-then x _ _ (sym (c .before .name-is6 .ensures) ∙ c .if6 .left) (seek-none x)))))))
+    let x = a .name .now in
+    sym (seek-then x _ _ (sym (c .before .before .before .before .before .before .before .before .before .before .before .before .before .before .before .before .is-key .ensures) ∙ c .before .before .before .before .before .before .before .before .before .before .before .before .before .before .before .if1 .left) (seek-then x _ _ (sym (c .before .before .before .before .before .before .before .before .before .before .before .before .before .is-key2 .ensures) ∙ c .before .before .before .before .before .before .before .before .before .before .before .before .if2 .left) (seek-then x _ _ (sym (c .before .before .before .before .before .before .before .before .before .before .is-key3 .ensures) ∙ c .before .before .before .before .before .before .before .before .before .if3 .left) (seek-then x _ _ (sym (c .before .before .before .before .before .before .before .is-key4 .ensures) ∙ c .before .before .before .before .before .before .if4 .left) (seek-then x _ _ (sym (c .before .before .before .before .is-key5 .ensures) ∙ c .before .before .before .if5 .left) (seek-then x _ _ (sym (c .before .is-key6 .ensures) ∙ c .if6 .left) (seek-none x)))))))
 
 pub which-add-spec : {M : Type 1} → statement M
 which-add-spec =
     tie.close
     (tie.spec
-    slice-aggregate-name-is
-    name-is-requires
+    slice-aggregate-is-key
+    is-key-requires
     returns
-    slice-aggregate-name-is-2
-    name-is-requires-2
+    slice-aggregate-is-key-2
+    is-key-requires-2
     returns-2
-    slice-aggregate-name-is-3
-    name-is-requires-3
+    slice-aggregate-is-key-3
+    is-key-requires-3
     returns-3
-    slice-aggregate-name-is-4
-    name-is-requires-4
+    slice-aggregate-is-key-4
+    is-key-requires-4
     returns-4
-    slice-aggregate-name-is-5
-    name-is-requires-5
+    slice-aggregate-is-key-5
+    is-key-requires-5
     returns-5
-    slice-aggregate-name-is-6
-    name-is-requires-6
+    slice-aggregate-is-key-6
+    is-key-requires-6
     returns-6
     returns-7)

@@ -2,53 +2,52 @@
 use mathlib.Core.Path.{sym, _∙_}
 use Rattle.rules.specs.Bytes.{ascii}
 use Rattle.kinds.specs.Kinds.{namesOf}
-use Rattle.keys.specs.Spelled.{nameIn}
 use Rattle.kinds.proofs.Seeking.{seek-none, seek-here, seek-then}
 use borrow.Author.Needs.{needs}
 use Rattle.kinds.proofs.which_meta_data.Statement.{statement}
 use Rattle.kinds.proofs.which_meta_data.Tie as tie
 
-slice-aggregate-name-is : tie.Need-slice-aggregate-name-is
-slice-aggregate-name-is c = search needs
+slice-aggregate-is-key : tie.Need-slice-aggregate-is-key
+slice-aggregate-is-key c = search needs
 
-name-is-requires : tie.Need-name-is-requires
-name-is-requires c κs = search needs
+is-key-requires : tie.Need-is-key-requires
+is-key-requires c κs = search needs
 
 returns : tie.Need-returns
 unfolding namesOf ascii
 returns c =
     let a = c .before .before .before .before .args in
-    let x = nameIn (a .s .now) (a .n) in
-    sym (seek-here x _ _ (sym (c .before .name-is .ensures) ∙ c .if1 .taken))
+    let x = a .name .now in
+    sym (seek-here x _ _ (sym (c .before .is-key .ensures) ∙ c .if1 .taken))
 
-slice-aggregate-name-is-2 : tie.Need-slice-aggregate-name-is-2
-slice-aggregate-name-is-2 c = search needs
+slice-aggregate-is-key-2 : tie.Need-slice-aggregate-is-key-2
+slice-aggregate-is-key-2 c = search needs
 
-name-is-requires-2 : tie.Need-name-is-requires-2
-name-is-requires-2 c κs = search needs
+is-key-requires-2 : tie.Need-is-key-requires-2
+is-key-requires-2 c κs = search needs
 
 returns-2 : tie.Need-returns-2
 unfolding namesOf ascii
 returns-2 c =
     let a = c .before .before .before .before .before .before .before .args in
-    let x = nameIn (a .s .now) (a .n) in
-    sym (seek-then x _ _ (sym (c .before .before .before .before .name-is .ensures) ∙ c .before .before .before .if1 .left) (seek-here x _ _ (sym (c .before .name-is2 .ensures) ∙ c .if2 .taken)))
+    let x = a .name .now in
+    sym (seek-then x _ _ (sym (c .before .before .before .before .is-key .ensures) ∙ c .before .before .before .if1 .left) (seek-here x _ _ (sym (c .before .is-key2 .ensures) ∙ c .if2 .taken)))
 
 returns-3 : tie.Need-returns-3
 unfolding namesOf ascii
 returns-3 c =
     let a = c .before .before .before .before .before .before .before .args in
-    let x = nameIn (a .s .now) (a .n) in
-    sym (seek-then x _ _ (sym (c .before .before .before .before .name-is .ensures) ∙ c .before .before .before .if1 .left) (seek-then x _ _ (sym (c .before .name-is2 .ensures) ∙ c .if2 .left) (seek-none x)))
+    let x = a .name .now in
+    sym (seek-then x _ _ (sym (c .before .before .before .before .is-key .ensures) ∙ c .before .before .before .if1 .left) (seek-then x _ _ (sym (c .before .is-key2 .ensures) ∙ c .if2 .left) (seek-none x)))
 
 pub which-meta-data-spec : {M : Type 1} → statement M
 which-meta-data-spec =
     tie.close
     (tie.spec
-    slice-aggregate-name-is
-    name-is-requires
+    slice-aggregate-is-key
+    is-key-requires
     returns
-    slice-aggregate-name-is-2
-    name-is-requires-2
+    slice-aggregate-is-key-2
+    is-key-requires-2
     returns-2
     returns-3)

@@ -2,31 +2,30 @@
 use mathlib.Core.Path.{sym, _∙_}
 use Rattle.rules.specs.Bytes.{ascii}
 use Rattle.kinds.specs.Kinds.{namesOf}
-use Rattle.keys.specs.Spelled.{nameIn}
 use Rattle.kinds.proofs.Seeking.{seek-none, seek-here, seek-then}
 use borrow.Author.Needs.{needs}
 use Rattle.kinds.proofs.which_remove.Statement.{statement}
 use Rattle.kinds.proofs.which_remove.Tie as tie
 
-slice-aggregate-name-is : tie.Need-slice-aggregate-name-is
-slice-aggregate-name-is c = search needs
+slice-aggregate-is-key : tie.Need-slice-aggregate-is-key
+slice-aggregate-is-key c = search needs
 
-name-is-requires : tie.Need-name-is-requires
-name-is-requires c κs = search needs
+is-key-requires : tie.Need-is-key-requires
+is-key-requires c κs = search needs
 
 returns : tie.Need-returns
 unfolding namesOf ascii
 returns c =
     let a = c .before .before .before .before .args in
-    let x = nameIn (a .s .now) (a .n) in
-    sym (seek-here x _ _ (sym (c .before .name-is .ensures) ∙ c .if1 .taken))
+    let x = a .name .now in
+    sym (seek-here x _ _ (sym (c .before .is-key .ensures) ∙ c .if1 .taken))
 
 returns-2 : tie.Need-returns-2
 unfolding namesOf ascii
 returns-2 c =
     let a = c .before .before .before .before .args in
-    let x = nameIn (a .s .now) (a .n) in
-    sym (seek-then x _ _ (sym (c .before .name-is .ensures) ∙ c .if1 .left) (seek-none x))
+    let x = a .name .now in
+    sym (seek-then x _ _ (sym (c .before .is-key .ensures) ∙ c .if1 .left) (seek-none x))
 
 pub which-remove-spec : {M : Type 1} → statement M
-which-remove-spec = tie.close (tie.spec slice-aggregate-name-is name-is-requires returns returns-2)
+which-remove-spec = tie.close (tie.spec slice-aggregate-is-key is-key-requires returns returns-2)

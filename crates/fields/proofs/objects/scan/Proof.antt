@@ -3,13 +3,17 @@ use mathlib.Core.Path.{subst}
 use Prim.Native.Nat.{_+_, _-_, _≤_}
 use native.Mathlib.Omega.{arith}
 use borrow.Author.Needs.{needs}
-use lib.ListN.{length}
+use lib.ListN.{length, drop}
 use Rattle.rules.specs.Json.Values.{value as rValue}
 use Rattle.rules.proofs.Json.ValueReads.{value-reads}
+use Rattle.text.specs.Answers.{Answer}
 use Rattle.json.specs.Follows.{Follows}
+use Rattle.keys.specs.Spelled.{nameIn}
+use Rattle.keys.proofs.Quoting.{named-string}
 use Rattle.kinds.specs.Kinds.{namesOf}
-use Rattle.fields.specs.Standing.{MetIs}
-use Rattle.kinds.proofs.Naming.{names-few}
+use Rattle.kinds.specs.Known.{KnownIs}
+use Rattle.kinds.proofs.Naming.{place-few}
+use Rattle.fields.proofs.Members.{member-nameless, member-no-colon, member-no-value, member-stands}
 use Rattle.fields.proofs.Scanning.{Going, scanned-none, opened-neither, opened-closed, going-start, going-none, going-neither, going-closed, going-more}
 use Rattle.fields.proofs.objects.scan.Statement.{statement}
 use Rattle.fields.proofs.objects.scan.Tie as tie
@@ -39,10 +43,12 @@ enum-known-first : tie.Need-enum-known-first Inv-loop μ-loop
 enum-known-first c = search needs
 
 loop-holds : tie.Need-loop-holds Inv-loop μ-loop
-loop-holds c = going-start (rValue ((c .before .before .before .before .before .before .args) .depth)) ((c .before .before .before .before .before .before .args) .s .now) ((c .before .before .before .before .before .before .args) .at) ((c .before .before .before .before .before .before .args) .kind) ((c .before .first) .given .0 .0) (subst (Follows _ _ _) ((c .before .first) .given .1) ((c .before .before .before .opening) .ensures))
+loop-holds c =
+    let a = c .before .before .before .before .before .before .args in
+    going-start (rValue (a .depth)) (a .s .now) (a .at) (a .kind) (c .before .first .given .0 .0) (subst (Follows _ _ _) (c .before .first .given .1) (c .before .before .before .opening .ensures))
 
-read-member-requires : tie.Need-read-member-requires Inv-loop μ-loop
-read-member-requires c κs = (c .loop) .inv .passed .within
+read-known-requires : tie.Need-read-known-requires Inv-loop μ-loop
+read-known-requires c κs = c .loop .inv .passed .within
 
 enum-known-n : tie.Need-enum-known-n Inv-loop μ-loop
 enum-known-n c = search needs
@@ -54,16 +60,16 @@ no-fields-requires-2 : tie.Need-no-fields-requires-2 Inv-loop μ-loop
 no-fields-requires-2 c κs = search needs
 
 returns : tie.Need-returns Inv-loop μ-loop
-returns c = scanned-none ((c .before .before .before .before .before .before .before .before .before .before .before .args) .s .now) ((c .before .before .before .before .before .before .before .before .before .before .before .args) .at) (namesOf ((c .before .before .before .before .before .before .before .before .before .before .before .args) .kind)) ((c .no-fields2) .ensures) (going-none (rValue ((c .before .before .before .before .before .before .before .before .before .before .before .args) .depth)) ((c .before .before .before .before .before .before .before .before .before .before .before .args) .s .now) ((c .before .before .before .before .before .before .before .before .before .before .before .args) .at) ((c .before .before .before .before .before .before .before .before .before .before .before .args) .kind) ((c .before .before .before .before .loop) .slots) ((c .before .before .before .before .loop) .i) ((c .before .before .before .before .loop) .inv) (subst (MetIs _ _ _) ((c .before .enum-told2) .given .1) ((c .before .before .before .read-member) .ensures)))
+returns c =
+    let a = c .before .before .before .before .before .before .before .before .before .before .before .args in
+    let loop = c .before .before .before .before .loop in
+    scanned-none (a .s .now) (a .at) (namesOf (a .kind)) (c .no-fields2 .ensures) (going-none (rValue (a .depth)) (a .s .now) (a .at) (a .kind) (loop .slots) (loop .i) (loop .inv) (member-nameless (rValue (a .depth)) (drop (loop .i) (a .s .now)) (subst (KnownIs _ _ _) (c .before .enum-told2 .given .1) (c .before .before .before .read-known .ensures))))
 
-which-requires : tie.Need-which-requires Inv-loop μ-loop
-which-requires c κs = let m = subst (MetIs _ _ _) ((c .before .n) .given .1) ((c .before .before .before .read-member) .ensures) in m .named
+skip-colon-requires : tie.Need-skip-colon-requires Inv-loop μ-loop
+skip-colon-requires c κs = let known = subst (KnownIs _ _ _) (c .before .n .given .1) (c .before .before .before .read-known .ensures) in known .0 .named .within
 
-noted-requires : tie.Need-noted-requires Inv-loop μ-loop
-noted-requires c κs = omega (arith, names-few ((c .before .before .before .before .before .before .before .before .before .before .before .before .args) .kind), (c .before .before .before .before .before .before .before .before .before .before .names-in) .ensures)
-
-closing-requires : tie.Need-closing-requires Inv-loop μ-loop
-closing-requires c κs = let m = subst (MetIs _ _ _) ((c .before .before .before .n) .given .1) ((c .before .before .before .before .before .read-member) .ensures) in m .within
+enum-known-v : tie.Need-enum-known-v Inv-loop μ-loop
+enum-known-v c = search needs
 
 enum-told-3 : tie.Need-enum-told-3 Inv-loop μ-loop
 enum-told-3 c = search needs
@@ -72,35 +78,139 @@ no-fields-requires-3 : tie.Need-no-fields-requires-3 Inv-loop μ-loop
 no-fields-requires-3 c κs = search needs
 
 returns-2 : tie.Need-returns-2 Inv-loop μ-loop
-returns-2 c = scanned-none ((c .before .before .before .before .before .before .before .before .before .before .before .before .before .before .before .before .before .args) .s .now) ((c .before .before .before .before .before .before .before .before .before .before .before .before .before .before .before .before .before .args) .at) (namesOf ((c .before .before .before .before .before .before .before .before .before .before .before .before .before .before .before .before .before .args) .kind)) ((c .no-fields3) .ensures) (going-neither (rValue ((c .before .before .before .before .before .before .before .before .before .before .before .before .before .before .before .before .before .args) .depth)) ((c .before .before .before .before .before .before .before .before .before .before .before .before .before .before .before .before .before .args) .s .now) ((c .before .before .before .before .before .before .before .before .before .before .before .before .before .before .before .before .before .args) .at) ((c .before .before .before .before .before .before .before .before .before .before .before .before .before .before .before .before .before .args) .kind) ((c .before .before .before .before .before .before .before .before .before .before .loop) .slots) ((c .before .before .before .before .before .before .before .before .before .before .loop) .i) ((c .before .before .before .before .before .before .before .before .before .before .loop) .inv) ((c .before .before .before .before .before .before .before .n) .given .0 .0) ((c .before .before .before .before .before .before .before .n) .given .0 .1 .0) ((c .before .before .before .before .before .before .before .n) .given .0 .1 .1 .0) (subst (MetIs _ _ _) ((c .before .before .before .before .before .before .before .n) .given .1) ((c .before .before .before .before .before .before .before .before .before .read-member) .ensures)) (subst (Follows _ _ _) ((c .before .enum-told3) .given .1) ((c .before .before .before .closing) .ensures)))
+returns-2 c =
+    let a = c .before .before .before .before .before .before .before .before .before .before .before .before .before .before .before .args in
+    let loop = c .before .before .before .before .before .before .before .before .loop in
+    let name = c .before .before .before .before .before .n in
+    let known = subst (KnownIs _ _ _) (name .given .1) (c .before .before .before .before .before .before .before .read-known .ensures) in
+    scanned-none (a .s .now) (a .at) (namesOf (a .kind)) (c .no-fields3 .ensures) (going-none (rValue (a .depth)) (a .s .now) (a .at) (a .kind) (loop .slots) (loop .i) (loop .inv) (member-no-colon (rValue (a .depth)) (drop (loop .i) (a .s .now)) (known .0 .quote) (named-string (a .s .now) (name .given .0 .0) (known .0 .named)) (subst (Answer _ _ _) (c .before .enum-told3 .given .1) (c .before .before .before .skip-colon .ensures))))
+
+value-requires : tie.Need-value-requires Inv-loop μ-loop
+value-requires c κs = let colon = subst (Answer _ _ _) (c .before .v .given .1) (c .before .before .before .skip-colon .ensures) in colon .2
+
+enum-known-e : tie.Need-enum-known-e Inv-loop μ-loop
+enum-known-e c = search needs
+
+enum-told-4 : tie.Need-enum-told-4 Inv-loop μ-loop
+enum-told-4 c = search needs
+
+no-fields-requires-4 : tie.Need-no-fields-requires-4 Inv-loop μ-loop
+no-fields-requires-4 c κs = search needs
+
+returns-3 : tie.Need-returns-3 Inv-loop μ-loop
+returns-3 c =
+    let a = c .before .before .before .before .before .before .before .before .before .before .before .before .before .before .before .before .before .before .before .args in
+    let loop = c .before .before .before .before .before .before .before .before .before .before .before .before .loop in
+    let name = c .before .before .before .before .before .before .before .before .before .n in
+    let known = subst (KnownIs _ _ _) (name .given .1) (c .before .before .before .before .before .before .before .before .before .before .before .read-known .ensures) in
+    let v = c .before .before .before .before .before .v in
+    let colon = subst (Answer _ _ _) (v .given .1) (c .before .before .before .before .before .before .before .skip-colon .ensures) in
+    scanned-none (a .s .now) (a .at) (namesOf (a .kind)) (c .no-fields4 .ensures) (going-none (rValue (a .depth)) (a .s .now) (a .at) (a .kind) (loop .slots) (loop .i) (loop .inv) (member-no-value (rValue (a .depth)) (drop (loop .i) (a .s .now)) (known .0 .quote) (named-string (a .s .now) (name .given .0 .0) (known .0 .named)) (colon .0) (subst (Answer _ _ _) (c .before .enum-told4 .given .1) (c .before .before .before .value .ensures))))
+
+mul-old : tie.Need-mul-old Inv-loop μ-loop
+mul-old c =
+    let known = subst (KnownIs _ _ _) (c .before .before .before .before .before .before .before .before .before .n .given .1) (c .before .before .before .before .before .before .before .before .before .before .before .read-known .ensures) in
+    omega (arith, known .1, place-few (c .before .before .before .before .before .before .before .before .before .before .before .before .before .before .before .before .before .before .before .args .kind) (nameIn (c .before .before .before .before .before .before .before .before .before .before .before .before .before .before .before .before .before .before .before .args .s .now) (c .before .before .before .before .before .before .before .before .before .n .given .0 .0)))
+
+array-copy-out-old : tie.Need-array-copy-out-old Inv-loop μ-loop
+array-copy-out-old c =
+    let known = subst (KnownIs _ _ _) (c .before .before .before .before .before .before .before .before .before .n .given .1) (c .before .before .before .before .before .before .before .before .before .before .before .read-known .ensures) in
+    omega (arith, known .1, place-few (c .before .before .before .before .before .before .before .before .before .before .before .before .before .before .before .before .before .before .before .args .kind) (nameIn (c .before .before .before .before .before .before .before .before .before .before .before .before .before .before .before .before .before .before .before .args .s .now) (c .before .before .before .before .before .before .before .before .before .n .given .0 .0)))
+
+noted-requires : tie.Need-noted-requires Inv-loop μ-loop
+noted-requires c κs = search needs
+
+mul-slots : tie.Need-mul-slots Inv-loop μ-loop
+mul-slots c =
+    let known = subst (KnownIs _ _ _) (c .before .before .before .before .before .before .before .before .before .before .before .n .given .1) (c .before .before .before .before .before .before .before .before .before .before .before .before .before .read-known .ensures) in
+    omega (arith, known .1, place-few (c .before .before .before .before .before .before .before .before .before .before .before .before .before .before .before .before .before .before .before .before .before .args .kind) (nameIn (c .before .before .before .before .before .before .before .before .before .before .before .before .before .before .before .before .before .before .before .before .before .args .s .now) (c .before .before .before .before .before .before .before .before .before .before .before .n .given .0 .0)))
+
+array-set-from-slots : tie.Need-array-set-from-slots Inv-loop μ-loop
+array-set-from-slots c =
+    let known = subst (KnownIs _ _ _) (c .before .before .before .before .before .before .before .before .before .before .before .n .given .1) (c .before .before .before .before .before .before .before .before .before .before .before .before .before .read-known .ensures) in
+    omega (arith, known .1, place-few (c .before .before .before .before .before .before .before .before .before .before .before .before .before .before .before .before .before .before .before .before .before .args .kind) (nameIn (c .before .before .before .before .before .before .before .before .before .before .before .before .before .before .before .before .before .before .before .before .before .args .s .now) (c .before .before .before .before .before .before .before .before .before .before .before .n .given .0 .0)))
+
+closing-requires : tie.Need-closing-requires Inv-loop μ-loop
+closing-requires c κs = let read = subst (Answer _ _ _) (c .before .before .before .e .given .1) (c .before .before .before .before .before .value .ensures) in read .2
+
+enum-told-5 : tie.Need-enum-told-5 Inv-loop μ-loop
+enum-told-5 c = search needs
+
+no-fields-requires-5 : tie.Need-no-fields-requires-5 Inv-loop μ-loop
+no-fields-requires-5 c κs = search needs
+
+returns-4 : tie.Need-returns-4 Inv-loop μ-loop
+returns-4 c =
+    let a = c .before .before .before .before .before .before .before .before .before .before .before .before .before .before .before .before .before .before .before .before .before .before .before .before .before .args in
+    let loop = c .before .before .before .before .before .before .before .before .before .before .before .before .before .before .before .before .before .before .loop in
+    let name = c .before .before .before .before .before .before .before .before .before .before .before .before .before .before .before .n in
+    let known = subst (KnownIs _ _ _) (name .given .1) (c .before .before .before .before .before .before .before .before .before .before .before .before .before .before .before .before .before .read-known .ensures) in
+    let v = c .before .before .before .before .before .before .before .before .before .before .before .v in
+    let colon = subst (Answer _ _ _) (v .given .1) (c .before .before .before .before .before .before .before .before .before .before .before .before .before .skip-colon .ensures) in
+    let e = c .before .before .before .before .before .before .before .e in
+    let read = subst (Answer _ _ _) (e .given .1) (c .before .before .before .before .before .before .before .before .before .value .ensures) in
+    let m = member-stands (rValue (a .depth)) (a .s .now) (loop .i) (name .given .0 .0) (v .given .0 .0) (e .given .0 .0) (known .0) (colon .1) (read .1) (read .2) (colon .0) (read .0) in
+    scanned-none (a .s .now) (a .at) (namesOf (a .kind)) (c .no-fields5 .ensures) (going-neither (rValue (a .depth)) (a .s .now) (a .at) (a .kind) (loop .slots) (loop .i) (loop .inv) (name .given .0 .0) (v .given .0 .0) (e .given .0 .0) m (subst (Follows _ _ _) (c .before .enum-told5 .given .1) (c .before .before .before .closing .ensures)))
 
 enum-known-end-2 : tie.Need-enum-known-end-2 Inv-loop μ-loop
 enum-known-end-2 c = search needs
 
-returns-3 : tie.Need-returns-3 Inv-loop μ-loop
-returns-3 c = going-closed (rValue ((c .before .before .before .before .before .before .before .before .before .before .before .before .before .before .before .before .before .args) .depth)) ((c .before .before .before .before .before .before .before .before .before .before .before .before .before .before .before .before .before .args) .s .now) ((c .before .before .before .before .before .before .before .before .before .before .before .before .before .before .before .before .before .args) .at) ((c .before .before .before .before .before .before .before .before .before .before .before .before .before .before .before .before .before .args) .kind) ((c .before .before .before .before .before .before .before .before .before .before .loop) .slots) ((c .before .before .before .before .before .before .before .before .before .before .loop) .i) ((c .before .before .before .before .before .before .before .before .before .before .loop) .inv) ((c .before .before .before .before .before .before .before .n) .given .0 .0) ((c .before .before .before .before .before .before .before .n) .given .0 .1 .0) ((c .before .before .before .before .before .before .before .n) .given .0 .1 .1 .0) (subst (MetIs _ _ _) ((c .before .before .before .before .before .before .before .n) .given .1) ((c .before .before .before .before .before .before .before .before .before .read-member) .ensures)) ((c .before .before .before .before .noted) .result) ((c .before .before .before .before .before .which) .result) ((c .before .before .before .before .before .before .before .before .before .before .before .before .before .before .before .names-in) .result) ((c .before .before .before .before .before .which) .ensures) ((c .before .before .before .before .before .before .before .before .before .before .before .before .before .before .before .names-in) .ensures) ((c .before .before .before .before .noted) .ensures) (value-reads ((c .before .before .before .before .before .before .before .before .before .before .before .before .before .before .before .before .before .args) .depth)) (c .before .before .before .before .before .before .before .before .before .before .before .before .before .before .before .before .before .pre) ((c .before .end2) .given .0 .0) (subst (Follows _ _ _) ((c .before .end2) .given .1) ((c .before .before .before .closing) .ensures))
+returns-5 : tie.Need-returns-5 Inv-loop μ-loop
+returns-5 c =
+    let a = c .before .before .before .before .before .before .before .before .before .before .before .before .before .before .before .before .before .before .before .before .before .before .before .before .before .args in
+    let loop = c .before .before .before .before .before .before .before .before .before .before .before .before .before .before .before .before .before .before .loop in
+    let name = c .before .before .before .before .before .before .before .before .before .before .before .before .before .before .before .n in
+    let known = subst (KnownIs _ _ _) (name .given .1) (c .before .before .before .before .before .before .before .before .before .before .before .before .before .before .before .before .before .read-known .ensures) in
+    let v = c .before .before .before .before .before .before .before .before .before .before .before .v in
+    let colon = subst (Answer _ _ _) (v .given .1) (c .before .before .before .before .before .before .before .before .before .before .before .before .before .skip-colon .ensures) in
+    let e = c .before .before .before .before .before .before .before .e in
+    let read = subst (Answer _ _ _) (e .given .1) (c .before .before .before .before .before .before .before .before .before .value .ensures) in
+    let m = member-stands (rValue (a .depth)) (a .s .now) (loop .i) (name .given .0 .0) (v .given .0 .0) (e .given .0 .0) (known .0) (colon .1) (read .1) (read .2) (colon .0) (read .0) in
+    going-closed (rValue (a .depth)) (a .s .now) (a .at) (a .kind) (loop .slots) (loop .i) (loop .inv) (name .given .0 .0) (v .given .0 .0) (e .given .0 .0) m (c .before .before .before .before .noted .result) (name .given .0 .1 .0) (c .before .before .before .before .before .before .before .before .before .before .before .before .before .before .before .before .before .before .before .before .before .before .before .names-in .result) (known .1) (c .before .before .before .before .before .before .before .before .before .before .before .before .before .before .before .before .before .before .before .before .before .before .before .names-in .ensures) (c .before .before .before .before .noted .ensures) (value-reads (a .depth)) (c .before .before .before .before .before .before .before .before .before .before .before .before .before .before .before .before .before .before .before .before .before .before .before .before .before .pre) (c .before .end2 .given .0 .0) (subst (Follows _ _ _) (c .before .end2 .given .1) (c .before .before .before .closing .ensures))
 
 enum-known-j : tie.Need-enum-known-j Inv-loop μ-loop
 enum-known-j c = search needs
 
 loop-less : tie.Need-loop-less Inv-loop μ-loop
 loop-less c =
-    let m = subst (MetIs _ _ _) ((c .before .before .before .before .before .before .before .n) .given .1) ((c .before .before .before .before .before .before .before .before .before .read-member) .ensures) in
-    let f = subst (Follows _ _ _) ((c .before .j) .given .1) ((c .before .before .before .closing) .ensures) in
-    let low : (c .before .before .before .before .before .before .before .before .before .before .loop) .i + 1 ≤ (c .before .before .before .before .before .before .before .n) .given .0 .1 .0 = m .from in
-    let mid : (c .before .before .before .before .before .before .before .n) .given .0 .1 .0 ≤ (c .before .before .before .before .before .before .before .n) .given .0 .1 .1 .0 = m .ordered in
-    let high : (c .before .before .before .before .before .before .before .n) .given .0 .1 .1 .0 + 1 ≤ (c .before .j) .given .0 .0 = f .1 in
-    let within : (c .before .j) .given .0 .0 ≤ length ((c .before .before .before .before .before .before .before .before .before .before .before .before .before .before .before .before .before .args) .s .now) = f .2 in
+    let a = c .before .before .before .before .before .before .before .before .before .before .before .before .before .before .before .before .before .before .before .before .before .before .before .before .before .args in
+    let loop = c .before .before .before .before .before .before .before .before .before .before .before .before .before .before .before .before .before .before .loop in
+    let name = c .before .before .before .before .before .before .before .before .before .before .before .before .before .before .before .n in
+    let known = subst (KnownIs _ _ _) (name .given .1) (c .before .before .before .before .before .before .before .before .before .before .before .before .before .before .before .before .before .read-known .ensures) in
+    let v = c .before .before .before .before .before .before .before .before .before .before .before .v in
+    let colon = subst (Answer _ _ _) (v .given .1) (c .before .before .before .before .before .before .before .before .before .before .before .before .before .skip-colon .ensures) in
+    let e = c .before .before .before .before .before .before .before .e in
+    let read = subst (Answer _ _ _) (e .given .1) (c .before .before .before .before .before .before .before .before .before .value .ensures) in
+    let m = member-stands (rValue (a .depth)) (a .s .now) (loop .i) (name .given .0 .0) (v .given .0 .0) (e .given .0 .0) (known .0) (colon .1) (read .1) (read .2) (colon .0) (read .0) in
+    let f = subst (Follows _ _ _) (c .before .j .given .1) (c .before .before .before .closing .ensures) in
+    let low : loop .i + 1 ≤ v .given .0 .0 = m .from in
+    let mid : v .given .0 .0 ≤ e .given .0 .0 = m .ordered in
+    let high : e .given .0 .0 + 1 ≤ c .before .j .given .0 .0 = f .1 in
+    let within : c .before .j .given .0 .0 ≤ length (a .s .now) = f .2 in
     omega arith
 
 loop-again : tie.Need-loop-again Inv-loop μ-loop
-loop-again c = going-more (rValue ((c .before .before .before .before .before .before .before .before .before .before .before .before .before .before .before .before .before .args) .depth)) ((c .before .before .before .before .before .before .before .before .before .before .before .before .before .before .before .before .before .args) .s .now) ((c .before .before .before .before .before .before .before .before .before .before .before .before .before .before .before .before .before .args) .at) ((c .before .before .before .before .before .before .before .before .before .before .before .before .before .before .before .before .before .args) .kind) ((c .before .before .before .before .before .before .before .before .before .before .loop) .slots) ((c .before .before .before .before .before .before .before .before .before .before .loop) .i) ((c .before .before .before .before .before .before .before .before .before .before .loop) .inv) ((c .before .before .before .before .before .before .before .n) .given .0 .0) ((c .before .before .before .before .before .before .before .n) .given .0 .1 .0) ((c .before .before .before .before .before .before .before .n) .given .0 .1 .1 .0) (subst (MetIs _ _ _) ((c .before .before .before .before .before .before .before .n) .given .1) ((c .before .before .before .before .before .before .before .before .before .read-member) .ensures)) ((c .before .before .before .before .noted) .result) ((c .before .before .before .before .before .which) .result) ((c .before .before .before .before .before .before .before .before .before .before .before .before .before .before .before .names-in) .result) ((c .before .before .before .before .before .which) .ensures) ((c .before .before .before .before .before .before .before .before .before .before .before .before .before .before .before .names-in) .ensures) ((c .before .before .before .before .noted) .ensures) (value-reads ((c .before .before .before .before .before .before .before .before .before .before .before .before .before .before .before .before .before .args) .depth)) ((c .before .j) .given .0 .0) (subst (Follows _ _ _) ((c .before .j) .given .1) ((c .before .before .before .closing) .ensures))
+loop-again c =
+    let a = c .before .before .before .before .before .before .before .before .before .before .before .before .before .before .before .before .before .before .before .before .before .before .before .before .before .args in
+    let loop = c .before .before .before .before .before .before .before .before .before .before .before .before .before .before .before .before .before .before .loop in
+    let name = c .before .before .before .before .before .before .before .before .before .before .before .before .before .before .before .n in
+    let known = subst (KnownIs _ _ _) (name .given .1) (c .before .before .before .before .before .before .before .before .before .before .before .before .before .before .before .before .before .read-known .ensures) in
+    let v = c .before .before .before .before .before .before .before .before .before .before .before .v in
+    let colon = subst (Answer _ _ _) (v .given .1) (c .before .before .before .before .before .before .before .before .before .before .before .before .before .skip-colon .ensures) in
+    let e = c .before .before .before .before .before .before .before .e in
+    let read = subst (Answer _ _ _) (e .given .1) (c .before .before .before .before .before .before .before .before .before .value .ensures) in
+    let m = member-stands (rValue (a .depth)) (a .s .now) (loop .i) (name .given .0 .0) (v .given .0 .0) (e .given .0 .0) (known .0) (colon .1) (read .1) (read .2) (colon .0) (read .0) in
+    going-more (rValue (a .depth)) (a .s .now) (a .at) (a .kind) (loop .slots) (loop .i) (loop .inv) (name .given .0 .0) (v .given .0 .0) (e .given .0 .0) m (c .before .before .before .before .noted .result) (name .given .0 .1 .0) (c .before .before .before .before .before .before .before .before .before .before .before .before .before .before .before .before .before .before .before .before .before .before .before .names-in .result) (known .1) (c .before .before .before .before .before .before .before .before .before .before .before .before .before .before .before .before .before .before .before .before .before .before .before .names-in .ensures) (c .before .before .before .before .noted .ensures) (value-reads (a .depth)) (c .before .j .given .0 .0) (subst (Follows _ _ _) (c .before .j .given .1) (c .before .before .before .closing .ensures))
 
-returns-4 : tie.Need-returns-4 Inv-loop μ-loop
-returns-4 c = scanned-none ((c .before .before .before .before .before .before .args) .s .now) ((c .before .before .before .before .before .before .args) .at) (namesOf ((c .before .before .before .before .before .before .args) .kind)) ((c .no-fields) .ensures) (opened-neither (rValue ((c .before .before .before .before .before .before .args) .depth)) ((c .before .before .before .before .before .before .args) .s .now) ((c .before .before .before .before .before .before .args) .at) ((c .before .before .before .before .before .before .args) .kind) (subst (Follows _ _ _) ((c .before .enum-told) .given .1) ((c .before .before .before .opening) .ensures)))
+returns-6 : tie.Need-returns-6 Inv-loop μ-loop
+returns-6 c =
+    let a = c .before .before .before .before .before .before .args in
+    scanned-none (a .s .now) (a .at) (namesOf (a .kind)) (c .no-fields .ensures) (opened-neither (rValue (a .depth)) (a .s .now) (a .at) (a .kind) (subst (Follows _ _ _) (c .before .enum-told .given .1) (c .before .before .before .opening .ensures)))
 
-returns-5 : tie.Need-returns-5 Inv-loop μ-loop
-returns-5 c = opened-closed (rValue ((c .before .before .before .before .before .before .args) .depth)) ((c .before .before .before .before .before .before .args) .s .now) ((c .before .before .before .before .before .before .args) .at) ((c .before .before .before .before .before .before .args) .kind) (value-reads ((c .before .before .before .before .before .before .args) .depth)) (c .before .before .before .before .before .before .pre) ((c .before .end) .given .0 .0) (subst (Follows _ _ _) ((c .before .end) .given .1) ((c .before .before .before .opening) .ensures))
+returns-7 : tie.Need-returns-7 Inv-loop μ-loop
+returns-7 c =
+    let a = c .before .before .before .before .before .before .args in
+    opened-closed (rValue (a .depth)) (a .s .now) (a .at) (a .kind) (value-reads (a .depth)) (c .before .before .before .before .before .before .pre) (c .before .end .given .0 .0) (subst (Follows _ _ _) (c .before .end .given .1) (c .before .before .before .opening .ensures))
 
 pub scan-spec : {M : Type 1} → statement M
 scan-spec =
@@ -115,21 +225,34 @@ scan-spec =
     enum-known-end
     enum-known-first
     loop-holds
-    read-member-requires
+    read-known-requires
     enum-known-n
     enum-told-2
     no-fields-requires-2
     returns
-    which-requires
-    noted-requires
-    closing-requires
+    skip-colon-requires
+    enum-known-v
     enum-told-3
     no-fields-requires-3
     returns-2
-    enum-known-end-2
+    value-requires
+    enum-known-e
+    enum-told-4
+    no-fields-requires-4
     returns-3
+    mul-old
+    array-copy-out-old
+    noted-requires
+    mul-slots
+    array-set-from-slots
+    closing-requires
+    enum-told-5
+    no-fields-requires-5
+    returns-4
+    enum-known-end-2
+    returns-5
     enum-known-j
     loop-less
     loop-again
-    returns-4
-    returns-5)
+    returns-6
+    returns-7)

@@ -1,13 +1,12 @@
--- `which` meets its contract. By the kind that it is.
+-- `place_of` meets its contract. By the kind that it is.
 use mathlib.Core.Path.{_≡_, sym, ap, _∙_}
 use Prim.Native.Nat.{ℕ}
 use Rattle.rules.specs.Bytes.{Bytes}
 use Rattle.kinds.specs.Kinds.{namesOf, seek}
 use Rattle.kinds.specs.declared.Kind.{Kind}
-use Rattle.keys.specs.Spelled.{nameIn}
 use borrow.Author.Needs.{needs}
-use Rattle.kinds.proofs.which.Statement.{statement}
-use Rattle.kinds.proofs.which.Tie as tie
+use Rattle.kinds.proofs.place_of.Statement.{statement}
+use Rattle.kinds.proofs.place_of.Tie as tie
 
 -- a place among the names of the kind that it is
 told : {kind k : Kind} (x : Bytes) {r : ℕ} → kind ≡ k → r ≡ seek x (namesOf k) → r ≡ seek x (namesOf kind)
@@ -74,37 +73,37 @@ which-condition-requires : tie.Need-which-condition-requires
 which-condition-requires c κs = search needs
 
 returns : tie.Need-returns
-returns c = told (nameIn (c .before .before .before .before .args .s .now) (c .before .before .before .before .args .n)) (c .before .enum-told .given .1) (c .which-line .ensures)
+returns c = told (c .before .before .before .before .args .name .now) (c .before .enum-told .given .1) (c .which-line .ensures)
 
 returns-2 : tie.Need-returns-2
-returns-2 c = told (nameIn (c .before .before .before .before .args .s .now) (c .before .before .before .before .args .n)) (c .before .enum-told2 .given .1) (c .which-add .ensures)
+returns-2 c = told (c .before .before .before .before .args .name .now) (c .before .enum-told2 .given .1) (c .which-add .ensures)
 
 returns-3 : tie.Need-returns-3
-returns-3 c = told (nameIn (c .before .before .before .before .args .s .now) (c .before .before .before .before .args .n)) (c .before .enum-told3 .given .1) (c .which-remove .ensures)
+returns-3 c = told (c .before .before .before .before .args .name .now) (c .before .enum-told3 .given .1) (c .which-remove .ensures)
 
 returns-4 : tie.Need-returns-4
-returns-4 c = told (nameIn (c .before .before .before .before .args .s .now) (c .before .before .before .before .args .n)) (c .before .enum-told4 .given .1) (c .which-protocol .ensures)
+returns-4 c = told (c .before .before .before .before .args .name .now) (c .before .enum-told4 .given .1) (c .which-protocol .ensures)
 
 returns-5 : tie.Need-returns-5
-returns-5 c = told (nameIn (c .before .before .before .before .args .s .now) (c .before .before .before .before .args .n)) (c .before .enum-told5 .given .1) (c .which-meta-data .ensures)
+returns-5 c = told (c .before .before .before .before .args .name .now) (c .before .enum-told5 .given .1) (c .which-meta-data .ensures)
 
 returns-6 : tie.Need-returns-6
-returns-6 c = told (nameIn (c .before .before .before .before .args .s .now) (c .before .before .before .before .args .n)) (c .before .enum-told6 .given .1) (c .which-marker .ensures)
+returns-6 c = told (c .before .before .before .before .args .name .now) (c .before .enum-told6 .given .1) (c .which-marker .ensures)
 
 returns-7 : tie.Need-returns-7
-returns-7 c = told (nameIn (c .before .before .before .before .args .s .now) (c .before .before .before .before .args .n)) (c .before .enum-told7 .given .1) (c .which-state .ensures)
+returns-7 c = told (c .before .before .before .before .args .name .now) (c .before .enum-told7 .given .1) (c .which-state .ensures)
 
 returns-8 : tie.Need-returns-8
-returns-8 c = told (nameIn (c .before .before .before .before .args .s .now) (c .before .before .before .before .args .n)) (c .before .enum-told8 .given .1) (c .which-manifest .ensures)
+returns-8 c = told (c .before .before .before .before .args .name .now) (c .before .enum-told8 .given .1) (c .which-manifest .ensures)
 
 returns-9 : tie.Need-returns-9
-returns-9 c = told (nameIn (c .before .before .before .before .args .s .now) (c .before .before .before .before .args .n)) (c .before .enum-told9 .given .1) (c .which-bounds .ensures)
+returns-9 c = told (c .before .before .before .before .args .name .now) (c .before .enum-told9 .given .1) (c .which-bounds .ensures)
 
 returns-10 : tie.Need-returns-10
-returns-10 c = told (nameIn (c .before .before .before .before .args .s .now) (c .before .before .before .before .args .n)) (c .before .enum-told10 .given .1) (c .which-condition .ensures)
+returns-10 c = told (c .before .before .before .before .args .name .now) (c .before .enum-told10 .given .1) (c .which-condition .ensures)
 
-pub which-spec : {M : Type 1} → statement M
-which-spec =
+pub place-of-spec : {M : Type 1} → statement M
+place-of-spec =
     tie.close
     (tie.spec
     enum-told
