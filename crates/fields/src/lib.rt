@@ -7,6 +7,7 @@ pub use notes::Slot;
 pub use objects::Met;
 pub use objects::distinct_names;
 pub use objects::read_member;
+pub use objects::same_names;
 pub use objects::scan;
 
 pub const CLOSE_BRACE: u8 = 0x7D;

@@ -98,7 +98,7 @@ pub fn scan(s: &[u8], at: usize, kind: Kind, depth: usize) -> Fields
 // ---- objects with any names
 
 // Whether two names are the same.
-fn same_names(s: &[u8], a: Spell, b: Spell) -> bool
+pub fn same_names(s: &[u8], a: Spell, b: Spell) -> bool
     requires { ⌜ Named (now s) a × Named (now s) b ⌝ }
     ensures { λ r. ⌜ r ≡ same (nameIn (now (s .entry)) a) (nameIn (now (s .entry)) b) ⌝ }
 {

@@ -12,6 +12,7 @@ use Rattle.rules.specs.Json.Text.{Text, byte, spelled}
 use Rattle.rules.specs.Json.Values.{Member, opening, closing, list, member, contents, value, objectOf}
 use Rattle.rules.specs.Json.Fields.{isNull, stringOf, stringOrNull}
 use Rattle.rules.proofs.Tests.{apart}
+use Rattle.rules.proofs.SoleNames.{guard-some}
 use Rattle.rules.proofs.Json.Suffix.{bound, some-same, value-same, left-same, answered-none}
 use Rattle.rules.proofs.Json.Fields.{stringOrNull-null, stringOrNull-there, stringOrNull-none}
 use Rattle.rules.proofs.Json.InPlace.{string-text, stringOf-other, isNull-other}
@@ -20,19 +21,17 @@ use Rattle.rules.proofs.Json.Steps.{contents-list, list-closed, list-neither, r
 use Rattle.rules.proofs.Json.ValueReads.{value-reads, member-reads}
 use Rattle.json.specs.Follows.{Follows}
 use Rattle.json.specs.declared.Tail.the-variants.{Closed, More, Neither}
-use Rattle.fields.specs.Namings.{Object}
 use Rattle.keys.specs.Spelled.{nameIn}
 use Rattle.fields.specs.Standing.{Stands}
 use Rattle.keys.specs.declared.Spell.{Spell}
 use Rattle.fields.specs.declared.notes.Slot.{Slot}
 use Rattle.fields.proofs.Passing.{Passed, passed-start, passed-none, passed-neither, passed-closed, passed-more, items-first}
-use Rattle.nested.specs.Nested.{Opened, valuesOf, valuesIn, ValuesIs}
+use Rattle.nested.specs.Nested.{Opened, valuesFrom, valuesOf, valuesIn, ValuesIs}
 use Rattle.slots.specs.Inside.{Proper}
 use Rattle.slots.specs.Texts.{Told}
 use Rattle.nested.specs.declared.Values.the-variants.{Behind}
-use Rattle.slots.proofs.Single.{text-single}
+use Rattle.slots.proofs.Single.{proper-single, text-single}
 use Rattle.slots.proofs.Strings.{byte-text}
-use Rattle.slots.proofs.Single.{proper-single}
 use Rattle.slots.proofs.Begins.{value-further, begins-other}
 use Rattle.nested.proofs.Placed.{value-spelled, object-none, object-here}
 
@@ -66,7 +65,7 @@ pairs-last (n ∷ ms) m {xs} {x} e f =
     bound (pairs ms) _ h (λ ys i j.
     rw (g, pairs-last ms m i f) (ap (λ (l : Pairs). some (l ++ ((m .0, x) ∷ []))) (some-same j))))
 
-pairs-none : (ms : List Member) (m : Member) (ns : List Member) → stringOrNull (m .1) ≡ none → pairs (ms ++ (m ∷ ns)) ≡ none
+pub pairs-none : (ms : List Member) (m : Member) (ns : List Member) → stringOrNull (m .1) ≡ none → pairs (ms ++ (m ∷ ns)) ≡ none
 unfolding pairs
 pairs-none [] m ns f = rw f
 pairs-none (n ∷ ms) m ns f = go (pairs-none ms m ns f) (stringOrNull (n .1))
@@ -88,7 +87,7 @@ pub record Paired (s : Text) (at i : ℕ) : Type 0 where
   pub read : pairs gone ≡ some found
 
 module _ (s : Text) (at : ℕ) where
-  opened-list : (w : Opened s at) → list (member (value inField)) 0x7D (drop at s) ≡ some (w .ms, w .left)
+  pub opened-list : (w : Opened s at) → list (member (value inField)) 0x7D (drop at s) ≡ some (w .ms, w .left)
   opened-list w = sym (contents-list (value inField) (drop at s)) ∙ w .all
 
   pub paired-neither : {P : Type 0} → Opened s at → Follows (opening 0x7D (drop at s)) s at Neither → P
@@ -134,7 +133,7 @@ module _ (s : Text) (at : ℕ) where
 
 -- ---- the field
 
-guarded : (test : Bool) (o : Option Pairs) → o ≡ none → (guard test >>= (λ _. o)) ≡ none
+pub guarded : (test : Bool) (o : Option Pairs) → o ≡ none → (guard test >>= (λ _. o)) ≡ none
 guarded true o e = e
 guarded false o e = refl
 
@@ -145,7 +144,7 @@ module _ (s : Text) (x : Slot) (p : Proper s x) (sole : x .seen ≡ 1) where
   pub values-no-object : byte 0x7B (drop (x .start) s) ≡ none → valuesIn s x ≡ none
   values-no-object b =
       let q = proper-single s x sole p in
-      sym (text-single s x valuesOf sole) ∙ ap (λ o. o >>= (λ ms. guard (distinct (firsts ms)) >>= (λ _. pairs ms))) (object-none inAction s (x .start) (x .end) (q .0) (q .1) (q .2) inField b)
+      sym (text-single s x valuesOf sole) ∙ ap (λ o. o >>= valuesFrom) (object-none inAction s (x .start) (x .end) (q .0) (q .1) (q .2) inField b)
 
   module _ (i : ℕ) (l : i ≤ length s) (b : byte 0x7B (drop (x .start) s) ≡ some (drop i s)) where
     values-object : (ms : List Member) × (contents (value inField) (drop i s) ≡ some (ms, drop (x .end) s)) × (objectOf inField field ≡ some ms)
@@ -155,23 +154,16 @@ module _ (s : Text) (x : Slot) (p : Proper s x) (sole : x .seen ≡ 1) where
     pub values-opened : Opened s i
     values-opened = record { ms = values-object .0; left = drop (x .end) s; all = values-object .1 }
 
-    pub values-named : Object inField s i (firsts (values-opened .ms))
+    values-are : valuesIn s x ≡ valuesFrom (values-opened .ms)
     unfolding values-opened values-object
-    values-named = record { ms = values-object .0; left = drop (x .end) s; all = values-object .1; each = refl }
+    values-are = sym (text-single s x valuesOf sole) ∙ ap (λ o. o >>= valuesFrom) (values-object .2)
 
-    values-are : valuesIn s x ≡ (guard (distinct (firsts (values-opened .ms))) >>= (λ _. pairs (values-opened .ms)))
-    unfolding values-opened values-object
-    values-are = sym (text-single s x valuesOf sole) ∙ ap (λ o. o >>= (λ ms. guard (distinct (firsts ms)) >>= (λ _. pairs ms))) (values-object .2)
+    pub values-refused : valuesFrom (values-opened .ms) ≡ none → valuesIn s x ≡ none
+    values-refused n = values-are ∙ n
 
-    pub values-not-pairs : pairs (values-opened .ms) ≡ none → valuesIn s x ≡ none
-    values-not-pairs n = values-are ∙ guarded (distinct (firsts (values-opened .ms))) (pairs (values-opened .ms)) n
-
-    pub values-twice : distinct (firsts (values-opened .ms)) ≡ false → valuesIn s x ≡ none
-    values-twice n = values-are ∙ ap (λ (t : Bool). guard t >>= (λ _. pairs (values-opened .ms))) n
-
-    pub values-there : Told (pairs (values-opened .ms)) true → distinct (firsts (values-opened .ms)) ≡ true → ValuesIs (valuesIn s x) s (Behind i)
-    values-there t n = (
+    pub values-there : Told (valuesFrom (values-opened .ms)) true → ValuesIs (valuesIn s x) s (Behind i)
+    values-there t = bound (guard (distinct (firsts (values-opened .ms)))) (λ _. pairs (values-opened .ms)) (t .1) (λ _ d e. (
       t .0,
-      values-are ∙ ap (λ (t : Bool). guard t >>= (λ _. pairs (values-opened .ms))) n ∙ t .1,
-      record { ms = values-opened .ms; left = values-opened .left; within = l; all = values-opened .all; each = t .1; distinct = n },
-    )
+      values-are ∙ t .1,
+      record { ms = values-opened .ms; left = values-opened .left; within = l; all = values-opened .all; each = e; distinct = guard-some (distinct (firsts (values-opened .ms))) d },
+    ))

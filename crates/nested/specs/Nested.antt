@@ -2,15 +2,17 @@
 use mathlib.Core.Path.{_≡_}
 use mathlib.Core.Bool.{Bool, true}
 use mathlib.Core.Option.{Option, none, some}
-use mathlib.Core.List.{List, []}
+use mathlib.Core.List.{List, [], _∷_}
 use Prim.Native.Nat.{ℕ, zero, suc, _≤_}
 use lib.Dec.{leb}
 use lib.ListN.{length, drop}
 use Rattle.rules.specs.Actions.{inField, Pairs, pairs, orEmpty, mostColumns}
 use Rattle.rules.specs.Bytes.{Bytes, _>>=_, guard, distinct, firsts, allAmong}
 use Rattle.rules.specs.Json.Text.{Text}
-use Rattle.rules.specs.Json.Values.{Member, contents, value, objectOf}
-use Rattle.rules.specs.Json.Fields.{ifThere, stringsOf}
+use Rattle.rules.specs.Json.Values.{Member, items, member, contents, value, objectOf}
+use Rattle.rules.specs.Json.Fields.{stringOrNull, ifThere, stringsOf}
+use Rattle.keys.specs.Spelled.{nameIn, Named}
+use Rattle.keys.specs.declared.Spell.{Spell}
 use Rattle.fields.specs.Slots.{textIn, optionalIn}
 use Rattle.lists.specs.Strung.{Listed as Lists, knownNames}
 use Rattle.fields.specs.declared.notes.Slot.{Slot}
@@ -31,6 +33,18 @@ pub record Opened (s : Text) (at : ℕ) : Type 0 where
   pub left : Text
   pub all : contents (value inField) (drop at s) ≡ some (ms, left)
 
+-- and its first member has the name n and says a string or null; the others stand from i on
+pub record Second (s : Text) (at : ℕ) (n : Spell) (i : ℕ) : Type 0 where
+  pub named : Named s n
+  pub first : Text
+  pub says : Option Bytes
+  pub read : stringOrNull first ≡ some says
+  pub ms : List Member
+  pub left : Text
+  pub within : i ≤ length s
+  pub all : contents (value inField) (drop at s) ≡ some ((nameIn s n, first) ∷ ms, left)
+  pub more : items (member (value inField)) 0x7D (suc (length (drop i s))) (drop i s) ≡ some (ms, left)
+
 -- behind the brace before `at` stand the partition values ps
 pub record Pairing (s : Text) (at : ℕ) (ps : Pairs) : Type 0 where
   pub ms : List Member
@@ -40,8 +54,12 @@ pub record Pairing (s : Text) (at : ℕ) (ps : Pairs) : Type 0 where
   pub each : pairs ms ≡ some ps
   pub distinct : distinct (firsts ms) ≡ true
 
+-- the partition values that members are: strings or nulls under distinct names
+abbrev pub valuesFrom : List Member → Option Pairs
+valuesFrom ms = guard (distinct (firsts ms)) >>= (λ _. pairs ms)
+
 abbrev pub valuesOf : Text → Option Pairs
-valuesOf v = objectOf inField v >>= (λ o. guard (distinct (firsts o)) >>= (λ _. pairs o))
+valuesOf v = objectOf inField v >>= valuesFrom
 
 abbrev pub valuesIn : Text → Slot → Option Pairs
 valuesIn s x = textIn s (x .seen) (x .start) (x .end) >>= valuesOf

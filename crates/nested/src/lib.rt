@@ -3,6 +3,7 @@ use fields::Met;
 use fields::Slot;
 use json::Tail;
 use keys::QUOTE;
+use keys::Spell;
 use lists::Strings;
 use text::Next;
 ghost use mathlib.Core.Path.{_≡_};
@@ -15,7 +16,7 @@ ghost use Rattle.rules.specs.Json.Values.{value as rValue};
 ghost use Rattle.rules.specs.Json.Fields.{stringOrNull, stringsOf};
 ghost use Rattle.slots.specs.Inside.{Proper};
 ghost use Rattle.slots.specs.Texts.{Told};
-ghost use Rattle.nested.specs.Nested.{Opened, valuesIn, ValuesIs, ArrayIs, featuresIn, FeaturesIs, columnsIn, ColumnsIs};
+ghost use Rattle.nested.specs.Nested.{Opened, Second, valuesFrom, valuesIn, ValuesIs, ArrayIs, featuresIn, FeaturesIs, columnsIn, ColumnsIs};
 
 const OPEN_BRACE: u8 = 0x7B;
 
@@ -70,6 +71,64 @@ fn strings_or_nulls(s: &[u8], at: usize) -> bool
     }
 }
 
+// Whether the members of the object behind whose brace `at` is are partition values, however many there are.
+fn many_values(s: &[u8], at: usize) -> bool
+    requires { ⌜ (at ≤ length (now s)) × Opened (now s) at ⌝ }
+    ensures { λ r. ⌜ ((w : Opened (now (s .entry)) at) → Told (valuesFrom (w .ms)) r) ⌝ }
+{
+    if strings_or_nulls(s, at) {
+        return fields::distinct_names(s, at, IN_FIELD);
+    }
+    false
+}
+
+// The same where the first of them has the name n, and the second begins at i: two are told at once.
+fn values_from(s: &[u8], at: usize, n: Spell, i: usize) -> bool
+    requires { ⌜ (at ≤ length (now s)) × Second (now s) at n i ⌝ }
+    ensures { λ r. ⌜ ((w : Opened (now (s .entry)) at) → Told (valuesFrom (w .ms)) r) ⌝ }
+{
+    let Met::Member(m, v, e) = fields::read_member(s, i, IN_FIELD) else {
+        return true;
+    };
+    if string_or_null(s, v, e) {
+        if fields::same_names(s, n, m) {
+            return false;
+        }
+        match json::closing(s, e, CLOSE_BRACE) {
+            Tail::Neither => true,
+            Tail::Closed(_) => true,
+            Tail::More(_) => many_values(s, at),
+        }
+    } else {
+        false
+    }
+}
+
+// Whether the members of the object behind whose brace `at` is are partition values: strings or nulls under distinct names.
+fn are_values(s: &[u8], at: usize) -> bool
+    requires { ⌜ (at ≤ length (now s)) × Opened (now s) at ⌝ }
+    ensures { λ r. ⌜ ((w : Opened (now (s .entry)) at) → Told (valuesFrom (w .ms)) r) ⌝ }
+{
+    match json::opening(s, at, CLOSE_BRACE) {
+        Tail::Neither => true,
+        Tail::Closed(_) => true,
+        Tail::More(first) => {
+            let Met::Member(n, v, e) = fields::read_member(s, first, IN_FIELD) else {
+                return true;
+            };
+            if string_or_null(s, v, e) {
+                match json::closing(s, e, CLOSE_BRACE) {
+                    Tail::Neither => true,
+                    Tail::Closed(_) => true,
+                    Tail::More(i) => values_from(s, at, n, i),
+                }
+            } else {
+                false
+            }
+        }
+    }
+}
+
 // Partition values, by the position behind their brace; or none.
 pub enum Values {
     Behind(usize),
@@ -88,11 +147,8 @@ pub fn values_in(s: &[u8], slot: Slot) -> Values
     let Next::At(at) = text::skip_byte(s, start, OPEN_BRACE) else {
         return Values::NoValues;
     };
-    if strings_or_nulls(s, at) {
-        if fields::distinct_names(s, at, IN_FIELD) {
-            return Values::Behind(at);
-        }
-        return Values::NoValues;
+    if are_values(s, at) {
+        return Values::Behind(at);
     }
     Values::NoValues
 }

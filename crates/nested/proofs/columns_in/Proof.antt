@@ -1,8 +1,7 @@
 -- `columns_in` meets its contract. One field, an array of strings, so many and distinct.
 use mathlib.Core.Path.{sym, subst, _∙_}
 use Rattle.nested.specs.Nested.{columnsOf, ArrayIs}
-use Rattle.slots.proofs.Single.{text-not-single}
-use Rattle.slots.proofs.Single.{proper-single}
+use Rattle.slots.proofs.Single.{proper-single, text-not-single}
 use Rattle.nested.proofs.Arrays.{columns-not, columns-many, columns-twice, columns-there}
 use borrow.Author.Needs.{needs}
 use Rattle.nested.proofs.columns_in.Statement.{statement}

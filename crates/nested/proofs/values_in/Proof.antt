@@ -1,15 +1,10 @@
--- `values_in` meets its contract. One field, an object, whose values are strings or null and whose names are distinct.
-use mathlib.Core.Path.{sym, subst, _∙_}
-use Prim.Native.Nat.{_≤_}
-use lib.ListN.{length}
-use Rattle.rules.specs.Actions.{inField}
-use Rattle.rules.specs.Bytes.{firsts}
+-- `values_in` meets its contract. One field, an object, whose members are partition values.
+use mathlib.Core.Path.{sym, subst}
 use Rattle.text.specs.Answers.{Answer}
 use Rattle.slots.specs.Texts.{Told}
 use Rattle.nested.specs.Nested.{valuesOf}
-use Rattle.slots.proofs.Single.{text-not-single}
-use Rattle.slots.proofs.Single.{proper-single}
-use Rattle.nested.proofs.Partitions.{values-no-object, values-opened, values-named, values-not-pairs, values-twice, values-there}
+use Rattle.slots.proofs.Single.{proper-single, text-not-single}
+use Rattle.nested.proofs.Partitions.{values-no-object, values-opened, values-refused, values-there}
 use native.Mathlib.Omega.{arith}
 use borrow.Author.Needs.{needs}
 use Rattle.nested.proofs.values_in.Statement.{statement}
@@ -21,9 +16,7 @@ returns c = sym (text-not-single (c .before .before .before .args .s .now) (c .b
 skip-byte-requires : tie.Need-skip-byte-requires
 skip-byte-requires c κs =
     let b = proper-single (c .before .before .before .args .s .now) (c .before .before .before .args .slot) (c .if1 .left) (c .before .before .before .pre) in
-    let ve : c .before .before .before .args .slot .start ≤ c .before .before .before .args .slot .end = b .0 in
-    let el : c .before .before .before .args .slot .end ≤ length (c .before .before .before .args .s .now) = b .1 in
-    omega arith
+    omega (arith, b .0, b .1)
 
 enum-known-at : tie.Need-enum-known-at
 enum-known-at c = search needs
@@ -34,48 +27,24 @@ enum-told c = search needs
 returns-2 : tie.Need-returns-2
 returns-2 c = values-no-object (c .before .before .before .before .before .before .args .s .now) (c .before .before .before .before .before .before .args .slot) (c .before .before .before .before .before .before .pre) (c .before .before .before .if1 .left) (subst (Answer _ _ _) (c .enum-told .given .1) (c .before .before .skip-byte .ensures))
 
-strings-or-nulls-requires : tie.Need-strings-or-nulls-requires
-strings-or-nulls-requires c κs =
+are-values-requires : tie.Need-are-values-requires
+are-values-requires c κs =
     let q = subst (Answer _ _ _) (c .before .at .given .1) (c .before .before .before .skip-byte .ensures) in
     (q .2, values-opened (c .before .before .before .before .before .before .before .args .s .now) (c .before .before .before .before .before .before .before .args .slot) (c .before .before .before .before .before .before .before .pre) (c .before .before .before .before .if1 .left) (c .before .at .given .0 .0) (q .2) (q .0))
 
-distinct-names-requires : tie.Need-distinct-names-requires
-unfolding inField
-distinct-names-requires c κs =
-    let q = subst (Answer _ _ _) (c .before .before .before .at .given .1) (c .before .before .before .before .before .skip-byte .ensures) in
-    (q .2, record { names = firsts (values-opened (c .before .before .before .before .before .before .before .before .before .args .s .now) (c .before .before .before .before .before .before .before .before .before .args .slot) (c .before .before .before .before .before .before .before .before .before .pre) (c .before .before .before .before .before .before .if1 .left) (c .before .before .before .at .given .0 .0) (q .2) (q .0) .ms); object = values-named (c .before .before .before .before .before .before .before .before .before .args .s .now) (c .before .before .before .before .before .before .before .before .before .args .slot) (c .before .before .before .before .before .before .before .before .before .pre) (c .before .before .before .before .before .before .if1 .left) (c .before .before .before .at .given .0 .0) (q .2) (q .0) })
-
 returns-3 : tie.Need-returns-3
-unfolding inField
 returns-3 c =
-    let q = subst (Answer _ _ _) (c .before .before .before .before .before .at .given .1) (c .before .before .before .before .before .before .before .skip-byte .ensures) in
-    let w = values-opened (c .before .before .before .before .before .before .before .before .before .before .before .args .s .now) (c .before .before .before .before .before .before .before .before .before .before .before .args .slot) (c .before .before .before .before .before .before .before .before .before .before .before .pre) (c .before .before .before .before .before .before .before .before .if1 .left) (c .before .before .before .before .before .at .given .0 .0) (q .2) (q .0) in
-    values-there (c .before .before .before .before .before .before .before .before .before .before .before .args .s .now) (c .before .before .before .before .before .before .before .before .before .before .before .args .slot) (c .before .before .before .before .before .before .before .before .before .before .before .pre) (c .before .before .before .before .before .before .before .before .if1 .left) (c .before .before .before .before .before .at .given .0 .0) (q .2) (q .0) (subst (Told _) (c .before .before .if2 .taken) (c .before .before .before .strings-or-nulls .ensures w)) (sym (c .before .distinct-names .ensures (firsts (w .ms)) (values-named (c .before .before .before .before .before .before .before .before .before .before .before .args .s .now) (c .before .before .before .before .before .before .before .before .before .before .before .args .slot) (c .before .before .before .before .before .before .before .before .before .before .before .pre) (c .before .before .before .before .before .before .before .before .if1 .left) (c .before .before .before .before .before .at .given .0 .0) (q .2) (q .0))) ∙ c .if3 .taken)
-
-returns-4 : tie.Need-returns-4
-unfolding inField
-returns-4 c =
-    let q = subst (Answer _ _ _) (c .before .before .before .before .before .at .given .1) (c .before .before .before .before .before .before .before .skip-byte .ensures) in
-    let w = values-opened (c .before .before .before .before .before .before .before .before .before .before .before .args .s .now) (c .before .before .before .before .before .before .before .before .before .before .before .args .slot) (c .before .before .before .before .before .before .before .before .before .before .before .pre) (c .before .before .before .before .before .before .before .before .if1 .left) (c .before .before .before .before .before .at .given .0 .0) (q .2) (q .0) in
-    values-twice (c .before .before .before .before .before .before .before .before .before .before .before .args .s .now) (c .before .before .before .before .before .before .before .before .before .before .before .args .slot) (c .before .before .before .before .before .before .before .before .before .before .before .pre) (c .before .before .before .before .before .before .before .before .if1 .left) (c .before .before .before .before .before .at .given .0 .0) (q .2) (q .0) (sym (c .before .distinct-names .ensures (firsts (w .ms)) (values-named (c .before .before .before .before .before .before .before .before .before .before .before .args .s .now) (c .before .before .before .before .before .before .before .before .before .before .before .args .slot) (c .before .before .before .before .before .before .before .before .before .before .before .pre) (c .before .before .before .before .before .before .before .before .if1 .left) (c .before .before .before .before .before .at .given .0 .0) (q .2) (q .0))) ∙ c .if3 .left)
-
-returns-5 : tie.Need-returns-5
-returns-5 c =
     let q = subst (Answer _ _ _) (c .before .before .before .at .given .1) (c .before .before .before .before .before .skip-byte .ensures) in
     let w = values-opened (c .before .before .before .before .before .before .before .before .before .args .s .now) (c .before .before .before .before .before .before .before .before .before .args .slot) (c .before .before .before .before .before .before .before .before .before .pre) (c .before .before .before .before .before .before .if1 .left) (c .before .before .before .at .given .0 .0) (q .2) (q .0) in
-    values-not-pairs (c .before .before .before .before .before .before .before .before .before .args .s .now) (c .before .before .before .before .before .before .before .before .before .args .slot) (c .before .before .before .before .before .before .before .before .before .pre) (c .before .before .before .before .before .before .if1 .left) (c .before .before .before .at .given .0 .0) (q .2) (q .0) (subst (Told _) (c .if2 .left) (c .before .strings-or-nulls .ensures w))
+    values-there (c .before .before .before .before .before .before .before .before .before .args .s .now) (c .before .before .before .before .before .before .before .before .before .args .slot) (c .before .before .before .before .before .before .before .before .before .pre) (c .before .before .before .before .before .before .if1 .left) (c .before .before .before .at .given .0 .0) (q .2) (q .0) (subst (Told _) (c .if2 .taken) (c .before .are-values .ensures w))
+
+returns-4 : tie.Need-returns-4
+returns-4 c =
+    let q = subst (Answer _ _ _) (c .before .before .before .at .given .1) (c .before .before .before .before .before .skip-byte .ensures) in
+    let w = values-opened (c .before .before .before .before .before .before .before .before .before .args .s .now) (c .before .before .before .before .before .before .before .before .before .args .slot) (c .before .before .before .before .before .before .before .before .before .pre) (c .before .before .before .before .before .before .if1 .left) (c .before .before .before .at .given .0 .0) (q .2) (q .0) in
+    values-refused (c .before .before .before .before .before .before .before .before .before .args .s .now) (c .before .before .before .before .before .before .before .before .before .args .slot) (c .before .before .before .before .before .before .before .before .before .pre) (c .before .before .before .before .before .before .if1 .left) (c .before .before .before .at .given .0 .0) (q .2) (q .0) (subst (Told _) (c .if2 .left) (c .before .are-values .ensures w))
 
 pub values-in-spec : {M : Type 1} → statement M
 values-in-spec =
     tie.close
-    (tie.spec
-    returns
-    skip-byte-requires
-    enum-known-at
-    enum-told
-    returns-2
-    strings-or-nulls-requires
-    distinct-names-requires
-    returns-3
-    returns-4
-    returns-5)
+    (tie.spec returns skip-byte-requires enum-known-at enum-told returns-2 are-values-requires returns-3 returns-4)
