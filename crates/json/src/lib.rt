@@ -6,8 +6,8 @@ use text::skip_byte;
 use text::skip_word;
 use text::skip_ws;
 ghost use mathlib.Core.Path.{_≡_};
-ghost use Prim.Native.Nat.{_≤_, _+_};
-ghost use lib.ListN.{length, drop};
+ghost use Prim.Native.Nat.{_≤_, _<_, _+_};
+ghost use lib.ListN.{length, drop, getD};
 ghost use Rattle.rules.specs.Json.Text.{behind};
 ghost use Rattle.rules.specs.Json.Values.{opening as rOpening, closing as rClosing, colon, contents, elements, scalar, value as rValue};
 ghost use Rattle.text.specs.Answers.{Answer};
@@ -96,8 +96,11 @@ pub fn skip_name(s: &[u8], at: usize) -> Next
     skip_colon(s, j)
 }
 
-// One of the three words, or a number.
-fn skip_bare(s: &[u8], at: usize) -> Next {
+// A value that is no string and holds no others: a number or one of the three words.
+fn skip_bare(s: &[u8], at: usize) -> Next
+    requires { ⌜ (at < length (now s)) × (getD (now s) at 0 ≡ 0x22 → ⊥) ⌝ }
+    ensures { λ r. ⌜ Answer (scalar (drop at (now (s .entry)))) (now (s .entry)) (at + 1) r ⌝ }
+{
     match s[at] {
         0x66 => skip_word(s, at + 1, b"alse"),
         0x6E => skip_word(s, at + 1, b"ull"),
@@ -121,8 +124,8 @@ pub fn skip_scalar(s: &[u8], at: usize) -> Next
     }
 }
 
-// A value in which objects and arrays nest at most `depth` deep.
-fn any_value(s: &[u8], at: usize, depth: usize) -> Next
+// An item of an object or an array: a value in which objects and arrays nest at most `depth` deep.
+fn value_within(s: &[u8], at: usize, depth: usize) -> Next
     requires { ⌜ at ≤ length (now s) ⌝ }
     ensures { λ r. ⌜ Answer (rValue depth (drop at (now (s .entry)))) (now (s .entry)) (at + 1) r ⌝ }
 {
@@ -159,7 +162,7 @@ pub fn object(s: &[u8], at: usize, depth: usize) -> Next
                 let Next::At(v) = skip_name(s, i) else {
                     return Next::Bad;
                 };
-                let Next::At(j) = any_value(s, v, depth) else {
+                let Next::At(j) = value_within(s, v, depth) else {
                     return Next::Bad;
                 };
                 match closing(s, j, CLOSE_BRACE) {
@@ -183,7 +186,7 @@ pub fn array(s: &[u8], at: usize, depth: usize) -> Next
         Tail::More(first) => {
             let mut i = first;
             loop {
-                let Next::At(j) = any_value(s, i, depth) else {
+                let Next::At(j) = value_within(s, i, depth) else {
                     return Next::Bad; // no value behind the comma
                 };
                 match closing(s, j, CLOSE_BRACKET) {
@@ -196,7 +199,7 @@ pub fn array(s: &[u8], at: usize, depth: usize) -> Next
     }
 }
 
-// A value in which objects and arrays nest at most `depth` deep.
+// A value in which objects and arrays nest at most `depth` deep; what holds no others is read with no call of those that call each other.
 pub fn value(s: &[u8], at: usize, depth: usize) -> Next
     requires { ⌜ at ≤ length (now s) ⌝ }
     ensures { λ r. ⌜ Answer (rValue depth (drop at (now (s .entry)))) (now (s .entry)) (at + 1) r ⌝ }
@@ -206,8 +209,8 @@ pub fn value(s: &[u8], at: usize, depth: usize) -> Next
     }
     match s[at] {
         0x22 => skip_string(s, at + 1),
-        0x5B => any_value(s, at, depth),
-        0x7B => any_value(s, at, depth),
+        0x5B => value_within(s, at, depth),
+        0x7B => value_within(s, at, depth),
         _ => skip_bare(s, at),
     }
 }

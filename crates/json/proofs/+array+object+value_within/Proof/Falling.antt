@@ -6,8 +6,8 @@ use Rattle.json.proofs.array.Reads as array
 use Rattle.json.proofs.array.Kinds as array-kinds
 use Rattle.json.proofs.object.Reads as object
 use Rattle.json.proofs.object.Kinds as object-kinds
-use Rattle.json.proofs.value.Reads as value
-use Rattle.json.proofs.value.Kinds as value-kinds
+use Rattle.json.proofs.value_within.Reads as value
+use Rattle.json.proofs.value_within.Kinds as value-kinds
 
 abbrev pub μ-array : Measures 1 array-kinds.ps ℕ
 μ-array κs a = 2 * a .1 .1 .0 + 1

@@ -12,12 +12,12 @@ use Rattle.json.specs.Follows.{Follows}
 use Rattle.json.proofs.Names.{member-nameless, member-named}
 use Rattle.json.proofs.Turns.{Going, going-start, opened-none, opened-closed, going-none, going-neither, going-closed, going-more, turn-less}
 use Rattle.json.proofs.object.Reads as object
-use Rattle.json.proofs.value.Reads as value
+use Rattle.json.proofs.value_within.Reads as value
 use Rattle.json.proofs.opening.Reads as opening
 use Rattle.json.proofs.closing.Reads as closing
 use Rattle.json.proofs.skip_name.Reads as skip-name
-use Rattle.json.proofs.+array+object+value.Proof.Falling.{object-at, value-below}
-use Rattle.json.proofs.+array+object+value.Lts-object as lts
+use Rattle.json.proofs.+array+object+value_within.Proof.Falling.{object-at, value-below}
+use Rattle.json.proofs.+array+object+value_within.Lts-object as lts
 
 abbrev pub claims : ℕ → lts.Claims
 claims t = (opening.Asked, opening.Learnt, skip-name.Asked, skip-name.Learnt, value-below t, value.Post, closing.Asked, closing.Learnt)
@@ -59,8 +59,8 @@ module _ (t : ℕ) where
   unfolding contents
   returns c = going-none (c .before .before .before .loop .inv) (member-nameless _ _ (subst (Answer _ _ _) (c .enum-told2 .given .1) (c .before .before .skip-name .ensures)))
 
-  pub value-requires : lts.Need-value-requires (claims t) (object-at t) object.Post Inv-loop μ-loop
-  value-requires c κs = (omega arith, subst (Answer _ _ _) (c .before .v .given .1) (c .before .before .before .skip-name .ensures) .2)
+  pub value-within-requires : lts.Need-value-within-requires (claims t) (object-at t) object.Post Inv-loop μ-loop
+  value-within-requires c κs = (omega arith, subst (Answer _ _ _) (c .before .v .given .1) (c .before .before .before .skip-name .ensures) .2)
 
   pub enum-known-j : lts.Need-enum-known-j (claims t) (object-at t) object.Post Inv-loop μ-loop
   enum-known-j c = search needs
@@ -72,10 +72,10 @@ module _ (t : ℕ) where
   unfolding contents
   returns-2 c =
       let n = subst (Answer _ _ _) (c .before .before .before .before .v .given .1) (c .before .before .before .before .before .before .skip-name .ensures) in
-      going-none (c .before .before .before .before .before .before .before .loop .inv) (member-named _ _ (n .0) (subst (Answer _ _ _) (c .enum-told3 .given .1) (c .before .before .value .ensures)))
+      going-none (c .before .before .before .before .before .before .before .loop .inv) (member-named _ _ (n .0) (subst (Answer _ _ _) (c .enum-told3 .given .1) (c .before .before .value-within .ensures)))
 
   pub closing-requires : lts.Need-closing-requires (claims t) (object-at t) object.Post Inv-loop μ-loop
-  closing-requires c κs = subst (Answer _ _ _) (c .before .j .given .1) (c .before .before .before .value .ensures) .2
+  closing-requires c κs = subst (Answer _ _ _) (c .before .j .given .1) (c .before .before .before .value-within .ensures) .2
 
   pub enum-told-4 : lts.Need-enum-told-4 (claims t) (object-at t) object.Post Inv-loop μ-loop
   enum-told-4 c = search needs
@@ -84,7 +84,7 @@ module _ (t : ℕ) where
   unfolding contents
   returns-3 c =
       let n = subst (Answer _ _ _) (c .before .before .before .before .before .before .before .before .v .given .1) (c .before .before .before .before .before .before .before .before .before .before .skip-name .ensures) in
-      let v = subst (Answer _ _ _) (c .before .before .before .before .j .given .1) (c .before .before .before .before .before .before .value .ensures) in
+      let v = subst (Answer _ _ _) (c .before .before .before .before .j .given .1) (c .before .before .before .before .before .before .value-within .ensures) in
       going-neither (c .before .before .before .before .before .before .before .before .before .before .before .loop .inv) (c .before .before .before .before .j .given .0 .0) (member-named _ _ (n .0) (v .0)) (subst (Follows _ _ _) (c .enum-told4 .given .1) (c .before .before .closing .ensures))
 
   pub enum-known-end-2 : lts.Need-enum-known-end-2 (claims t) (object-at t) object.Post Inv-loop μ-loop
@@ -94,7 +94,7 @@ module _ (t : ℕ) where
   unfolding contents
   returns-4 c =
       let n = subst (Answer _ _ _) (c .before .before .before .before .before .before .before .before .before .v .given .1) (c .before .before .before .before .before .before .before .before .before .before .before .skip-name .ensures) in
-      let v = subst (Answer _ _ _) (c .before .before .before .before .before .j .given .1) (c .before .before .before .before .before .before .before .value .ensures) in
+      let v = subst (Answer _ _ _) (c .before .before .before .before .before .j .given .1) (c .before .before .before .before .before .before .before .value-within .ensures) in
       going-closed (c .before .before .before .before .before .before .before .before .before .before .before .before .loop .inv) (c .before .before .before .before .before .j .given .0 .0) (member-named _ _ (n .0) (v .0)) (member-reads (value-reads (c .before .before .before .before .before .before .before .before .before .before .before .before .before .before .before .before .before .before .args .depth))) (c .before .before .before .before .before .before .before .before .before .before .before .before .before .before .before .before .before .before .pre .1) (subst (Follows _ _ _) (c .before .end2 .given .1) (c .before .before .before .closing .ensures))
 
   pub enum-known-k : lts.Need-enum-known-k (claims t) (object-at t) object.Post Inv-loop μ-loop
@@ -103,14 +103,14 @@ module _ (t : ℕ) where
   pub loop-less : lts.Need-loop-less (claims t) (object-at t) object.Post Inv-loop μ-loop
   loop-less c =
       let n = subst (Answer _ _ _) (c .before .before .before .before .before .before .before .before .before .v .given .1) (c .before .before .before .before .before .before .before .before .before .before .before .skip-name .ensures) in
-      let v = subst (Answer _ _ _) (c .before .before .before .before .before .j .given .1) (c .before .before .before .before .before .before .before .value .ensures) in
+      let v = subst (Answer _ _ _) (c .before .before .before .before .before .j .given .1) (c .before .before .before .before .before .before .before .value-within .ensures) in
       let o = subst (Follows _ _ _) (c .before .k .given .1) (c .before .before .before .closing .ensures) in
       turn-less (c .before .before .before .before .before .before .before .before .before .before .before .before .before .before .before .before .before .before .args .s .now) (c .before .before .before .before .before .before .before .before .before .before .before .before .loop .i) (le-trans (n .1) (le-trans (omega arith) (v .1))) (o .1) (o .2)
 
   pub loop-again : lts.Need-loop-again (claims t) (object-at t) object.Post Inv-loop μ-loop
   loop-again c =
       let n = subst (Answer _ _ _) (c .before .before .before .before .before .before .before .before .before .v .given .1) (c .before .before .before .before .before .before .before .before .before .before .before .skip-name .ensures) in
-      let v = subst (Answer _ _ _) (c .before .before .before .before .before .j .given .1) (c .before .before .before .before .before .before .before .value .ensures) in
+      let v = subst (Answer _ _ _) (c .before .before .before .before .before .j .given .1) (c .before .before .before .before .before .before .before .value-within .ensures) in
       going-more (c .before .before .before .before .before .before .before .before .before .before .before .before .loop .inv) (c .before .before .before .before .before .j .given .0 .0) (member-named _ _ (n .0) (v .0)) (member-reads (value-reads (c .before .before .before .before .before .before .before .before .before .before .before .before .before .before .before .before .before .before .args .depth))) (subst (Follows _ _ _) (c .before .k .given .1) (c .before .before .before .closing .ensures))
 
   pub returns-5 : lts.Need-returns-5 (claims t) (object-at t) object.Post Inv-loop μ-loop

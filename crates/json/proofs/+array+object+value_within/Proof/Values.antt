@@ -1,4 +1,4 @@
--- `value`: by the first byte an object, an array or a scalar.
+-- `value_within`: by the first byte an object, an array or a scalar.
 use Prim.Native.Nat.{ℕ}
 use borrow.Author.Needs.{needs}
 use mathlib.Core.Path.{sym, ap, _∙_}
@@ -8,10 +8,10 @@ use Rattle.rules.proofs.Json.Steps.{value-end, value-object, value-array, value
 use Rattle.text.proofs.Places.{here, here-is, ended, answer-from}
 use Rattle.json.proofs.array.Reads as array
 use Rattle.json.proofs.object.Reads as object
-use Rattle.json.proofs.value.Reads as value
+use Rattle.json.proofs.value_within.Reads as value
 use Rattle.json.proofs.skip_scalar.Reads as skip-scalar
-use Rattle.json.proofs.+array+object+value.Proof.Falling.{array-below, object-below, value-at}
-use Rattle.json.proofs.+array+object+value.Lts-value as lts
+use Rattle.json.proofs.+array+object+value_within.Proof.Falling.{array-below, object-below, value-at}
+use Rattle.json.proofs.+array+object+value_within.Lts-value_within as lts
 
 abbrev pub claims : ℕ → lts.Claims
 claims t = (object-below t, object.Post, array-below t, array.Post, skip-scalar.Asked, skip-scalar.Learnt)

@@ -1,23 +1,23 @@
--- `value`, `object` and `array` call each other: what each of them leaves is answered in a file of its own, and the depth that is left falls.
+-- `value_within`, `object` and `array` call each other: what each of them leaves is answered in a file of its own, and the depth that is left falls.
 mod Falling
 mod Elements
 mod Members
 mod Values
 use Rattle.json.proofs.array.Reads as array
-use Rattle.json.proofs.+array+object+value.Lts-array as array-lts
+use Rattle.json.proofs.+array+object+value_within.Lts-array as array-lts
 use Rattle.json.proofs.object.Reads as object
-use Rattle.json.proofs.+array+object+value.Lts-object as object-lts
-use Rattle.json.proofs.value.Reads as value
-use Rattle.json.proofs.+array+object+value.Lts-value as value-lts
-use Rattle.json.proofs.+array+object+value.{statement}
-use Rattle.json.proofs.+array+object+value.Tie.{close}
-use Rattle.json.proofs.+array+object+value.Proof.Falling.{μ-array, μ-object, μ-value, array-at, object-at, value-at}
-use Rattle.json.proofs.+array+object+value.Proof.Elements as elements
-use Rattle.json.proofs.+array+object+value.Proof.Members as members
-use Rattle.json.proofs.+array+object+value.Proof.Values as values
+use Rattle.json.proofs.+array+object+value_within.Lts-object as object-lts
+use Rattle.json.proofs.value_within.Reads as value
+use Rattle.json.proofs.+array+object+value_within.Lts-value_within as value-lts
+use Rattle.json.proofs.+array+object+value_within.{statement}
+use Rattle.json.proofs.+array+object+value_within.Tie.{close}
+use Rattle.json.proofs.+array+object+value_within.Proof.Falling.{μ-array, μ-object, μ-value, array-at, object-at, value-at}
+use Rattle.json.proofs.+array+object+value_within.Proof.Elements as elements
+use Rattle.json.proofs.+array+object+value_within.Proof.Members as members
+use Rattle.json.proofs.+array+object+value_within.Proof.Values as values
 
-pub +array+object+value-spec : {M : Type 1} → statement M
-+array+object+value-spec =
+pub +array+object+value-within-spec : {M : Type 1} → statement M
++array+object+value-within-spec =
     close
     μ-array
     μ-object
@@ -28,7 +28,7 @@ pub +array+object+value-spec : {M : Type 1} → statement M
     (elements.enum-known-end t)
     (elements.enum-known-first t)
     (elements.loop-holds t)
-    (elements.value-requires t)
+    (elements.value-within-requires t)
     (elements.enum-known-j t)
     (elements.enum-told-2 t)
     (elements.returns t)
@@ -52,7 +52,7 @@ pub +array+object+value-spec : {M : Type 1} → statement M
     (members.enum-known-v t)
     (members.enum-told-2 t)
     (members.returns t)
-    (members.value-requires t)
+    (members.value-within-requires t)
     (members.enum-known-j t)
     (members.enum-told-3 t)
     (members.returns-2 t)

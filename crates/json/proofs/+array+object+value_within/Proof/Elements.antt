@@ -13,11 +13,11 @@ use Rattle.text.specs.Answers.{Answer}
 use Rattle.json.specs.Follows.{Follows}
 use Rattle.json.proofs.Turns.{Going, going-start, opened-none, opened-closed, going-none, going-neither, going-closed, going-more, turn-less}
 use Rattle.json.proofs.array.Reads as array
-use Rattle.json.proofs.value.Reads as value
+use Rattle.json.proofs.value_within.Reads as value
 use Rattle.json.proofs.opening.Reads as opening
 use Rattle.json.proofs.closing.Reads as closing
-use Rattle.json.proofs.+array+object+value.Proof.Falling.{array-at, value-below}
-use Rattle.json.proofs.+array+object+value.Lts-array as lts
+use Rattle.json.proofs.+array+object+value_within.Proof.Falling.{array-at, value-below}
+use Rattle.json.proofs.+array+object+value_within.Lts-array as lts
 
 abbrev pub claims : ℕ → lts.Claims
 claims t = (opening.Asked, opening.Learnt, value-below t, value.Post, closing.Asked, closing.Learnt)
@@ -46,8 +46,8 @@ module _ (t : ℕ) where
       let a = (c .before .before .before .before .before .args) in
       going-start (spelled (rValue (a .depth))) 0x5D (a .s .now) (a .at) (subst (Follows _ _ _) (c .before .first .given .1) (c .before .before .before .opening .ensures))
 
-  pub value-requires : lts.Need-value-requires (claims t) (array-at t) array.Post Inv-loop μ-loop
-  value-requires c κs = (omega arith, (c .loop .inv .within))
+  pub value-within-requires : lts.Need-value-within-requires (claims t) (array-at t) array.Post Inv-loop μ-loop
+  value-within-requires c κs = (omega arith, (c .loop .inv .within))
 
   pub enum-known-j : lts.Need-enum-known-j (claims t) (array-at t) array.Post Inv-loop μ-loop
   enum-known-j c = search needs
@@ -57,10 +57,10 @@ module _ (t : ℕ) where
 
   pub returns : lts.Need-returns (claims t) (array-at t) array.Post Inv-loop μ-loop
   unfolding elements
-  returns c = going-none (c .before .before .before .loop .inv) (behind-spelled _ _ ∙ subst (Answer _ _ _) (c .enum-told2 .given .1) (c .before .before .value .ensures))
+  returns c = going-none (c .before .before .before .loop .inv) (behind-spelled _ _ ∙ subst (Answer _ _ _) (c .enum-told2 .given .1) (c .before .before .value-within .ensures))
 
   pub closing-requires : lts.Need-closing-requires (claims t) (array-at t) array.Post Inv-loop μ-loop
-  closing-requires c κs = subst (Answer _ _ _) (c .before .j .given .1) (c .before .before .before .value .ensures) .2
+  closing-requires c κs = subst (Answer _ _ _) (c .before .j .given .1) (c .before .before .before .value-within .ensures) .2
 
   pub enum-told-3 : lts.Need-enum-told-3 (claims t) (array-at t) array.Post Inv-loop μ-loop
   enum-told-3 c = search needs
@@ -68,7 +68,7 @@ module _ (t : ℕ) where
   pub returns-2 : lts.Need-returns-2 (claims t) (array-at t) array.Post Inv-loop μ-loop
   unfolding elements
   returns-2 c =
-      let v = subst (Answer _ _ _) (c .before .before .before .before .j .given .1) (c .before .before .before .before .before .before .value .ensures) in
+      let v = subst (Answer _ _ _) (c .before .before .before .before .j .given .1) (c .before .before .before .before .before .before .value-within .ensures) in
       going-neither (c .before .before .before .before .before .before .before .loop .inv) (c .before .before .before .before .j .given .0 .0) (behind-spelled _ _ ∙ v .0) (subst (Follows _ _ _) (c .enum-told3 .given .1) (c .before .before .closing .ensures))
 
   pub enum-known-end-2 : lts.Need-enum-known-end-2 (claims t) (array-at t) array.Post Inv-loop μ-loop
@@ -77,7 +77,7 @@ module _ (t : ℕ) where
   pub returns-3 : lts.Need-returns-3 (claims t) (array-at t) array.Post Inv-loop μ-loop
   unfolding elements
   returns-3 c =
-      let v = subst (Answer _ _ _) (c .before .before .before .before .before .j .given .1) (c .before .before .before .before .before .before .before .value .ensures) in
+      let v = subst (Answer _ _ _) (c .before .before .before .before .before .j .given .1) (c .before .before .before .before .before .before .before .value-within .ensures) in
       going-closed (c .before .before .before .before .before .before .before .before .loop .inv) (c .before .before .before .before .before .j .given .0 .0) (behind-spelled _ _ ∙ v .0) (spelled-reads (value-reads (c .before .before .before .before .before .before .before .before .before .before .before .before .before .before .args .depth))) (c .before .before .before .before .before .before .before .before .before .before .before .before .before .before .pre .1) (subst (Follows _ _ _) (c .before .end2 .given .1) (c .before .before .before .closing .ensures))
 
   pub enum-known-k : lts.Need-enum-known-k (claims t) (array-at t) array.Post Inv-loop μ-loop
@@ -85,13 +85,13 @@ module _ (t : ℕ) where
 
   pub loop-less : lts.Need-loop-less (claims t) (array-at t) array.Post Inv-loop μ-loop
   loop-less c =
-      let v = subst (Answer _ _ _) (c .before .before .before .before .before .j .given .1) (c .before .before .before .before .before .before .before .value .ensures) in
+      let v = subst (Answer _ _ _) (c .before .before .before .before .before .j .given .1) (c .before .before .before .before .before .before .before .value-within .ensures) in
       let o = subst (Follows _ _ _) (c .before .k .given .1) (c .before .before .before .closing .ensures) in
       turn-less (c .before .before .before .before .before .before .before .before .before .before .before .before .before .before .args .s .now) (c .before .before .before .before .before .before .before .before .loop .i) (v .1) (o .1) (o .2)
 
   pub loop-again : lts.Need-loop-again (claims t) (array-at t) array.Post Inv-loop μ-loop
   loop-again c =
-      let v = subst (Answer _ _ _) (c .before .before .before .before .before .j .given .1) (c .before .before .before .before .before .before .before .value .ensures) in
+      let v = subst (Answer _ _ _) (c .before .before .before .before .before .j .given .1) (c .before .before .before .before .before .before .before .value-within .ensures) in
       going-more (c .before .before .before .before .before .before .before .before .loop .inv) (c .before .before .before .before .before .j .given .0 .0) (behind-spelled _ _ ∙ v .0) (spelled-reads (value-reads (c .before .before .before .before .before .before .before .before .before .before .before .before .before .before .args .depth))) (subst (Follows _ _ _) (c .before .k .given .1) (c .before .before .before .closing .ensures))
 
   pub returns-4 : lts.Need-returns-4 (claims t) (array-at t) array.Post Inv-loop μ-loop
