@@ -18,7 +18,7 @@ use Rattle.characters.specs.Runs.{Plains}
 use Rattle.cursors.specs.Flat.{flat}
 use Rattle.cursors.proofs.Ahead.{flat-at-itself, flat-at-escape}
 use Rattle.cursors.proofs.Widths.{utf8-one}
-use Rattle.strings.specs.Spelling.{Raw, Whole, Tells, Common}
+use Rattle.strings.specs.Spelling.{Raw, Whole, Tells}
 use Rattle.strings.proofs.Raw.{plain-quote, plain-backslash}
 use Rattle.strings.proofs.Orders.{order-next-less, order-next-more, order-next-equal}
 
@@ -68,6 +68,12 @@ module _ {t : Text} {a b : ℕ} (r : Raw t a b) where
 
 -- ---- strings that are spelled alike
 
+-- two strings stand to each other as they do n bytes further on
+pub record Common (s : Text) (i : ℕ) (t : Text) (j n : ℕ) : Type 0 where
+  pub same : order (flat (drop i s)) (flat (drop j t)) ≡ order (flat (drop (i + n) s)) (flat (drop (j + n) t))
+  pub first : i + n ≤ length s
+  pub second : j + n ≤ length t
+
 common-start : {s t : Text} {i j : ℕ} → i ≤ length s → j ≤ length t → Common s i t j 0
 common-start {s} {t} {i} {j} h k =
     let e : i ≡ i + 0 = omega arith in
@@ -78,7 +84,7 @@ common-start {s} {t} {i} {j} h k =
       second = omega arith;
     }
 
--- the same bytes stand for the next m
+-- the next m stand for the same byte
 common-next : {s t : Text} {i j n : ℕ} (m l : ℕ) {b c : ℕ} → n + m ≡ l → Common s i t j n → i + l ≤ length s → j + l ≤ length t
     → flat (drop (i + n) s) ≡ b ∷ flat (drop (i + n + m) s) → flat (drop (j + n) t) ≡ c ∷ flat (drop (j + n + m) t) → b ≡ c → Common s i t j l
 common-next {s} {t} {i} {j} {n} m l q o h k x y z =
@@ -99,25 +105,19 @@ flat-at-slash s i h e f =
     ∙ ap (λ (x : Bytes). x ++ flat (drop (i + 2) s)) (utf8-one 0x2F (omega arith))
 
 module _ {t : Text} {j end : ℕ} (w : Raw t j end) where
-  -- a backslash stands before no other
-  whole-before : (n : ℕ) → j + n < end → getD t (j + n) 0 ≡ 0x5C → Whole t j n
-  whole-before n l e k q f =
-      let p : j + k + 1 ≡ j + n = omega arith in
-      let g : getD t (j + k + 1) 0 ≡ 0x2F = w .slashed (j + k) (omega arith) (omega arith) f .1 in
-      omega (arith, g, ap (λ (m : ℕ). getD t m 0) p, e)
+  -- a backslash stands before nothing but a slash
+  whole-other : (n : ℕ) → j + n < end → (getD t (j + n) 0 ≡ 0x2F → ⊥) → Whole t j n
+  whole-other n l e k q f =
+      let p : j + n ≡ j + k + 1 = omega arith in
+      e (ap (λ (m : ℕ). getD t m 0) p ∙ w .slashed (j + k) (omega arith) (omega arith) f .1)
 
-  -- but one at their end
+  whole-before : (n : ℕ) → j + n < end → getD t (j + n) 0 ≡ 0x5C → Whole t j n
+  whole-before n l e = whole-other n l (λ f. omega (arith, e, f))
+
   pub whole-cut : {n : ℕ} → 0 < n → j + n ≤ end → getD t (j + n - 1) 0 ≡ 0x5C → Whole t j (n - 1)
   whole-cut {n} h l e =
       let p : j + (n - 1) ≡ j + n - 1 = omega arith in
       whole-before (n - 1) (omega arith) (ap (λ (m : ℕ). getD t m 0) p ∙ e)
-
-  -- neither does it stand before what is no slash
-  pub whole-other : (n : ℕ) → j + n < end → (getD t (j + n) 0 ≡ 0x2F → ⊥) → Whole t j n
-  whole-other n l e k q f =
-      let p : j + k + 1 ≡ j + n = omega arith in
-      let g : getD t (j + k + 1) 0 ≡ 0x2F = w .slashed (j + k) (omega arith) (omega arith) f .1 in
-      e (ap (λ (m : ℕ). getD t m 0) (sym p) ∙ g)
 
 pub whole-kept : (t : Text) (j : ℕ) {n : ℕ} → 0 < n → (getD t (j + n - 1) 0 ≡ 0x5C → ⊥) → Whole t j n
 whole-kept t j {n} h e k q f =
@@ -158,8 +158,14 @@ module _ (s : Text) (i : ℕ) {t : Text} {j end : ℕ} (w : Raw t j end) where
     common-told : Common s i t j n
     common-told = common-raw n (omega arith) (omega arith) a (whole-other w n l (b .slash))
 
+    first-told : flat (drop (i + n) s) ≡ getD s (i + n) 0 ∷ flat (drop (i + n + 1) s)
+    first-told = flat-at-itself s (i + n) h (b .inside) (b .first)
+
+    second-told : flat (drop (j + n) t) ≡ getD t (j + n) 0 ∷ flat (drop (j + n + 1) t)
+    second-told = flat-at-itself t (j + n) (omega (arith, w .high)) (w .inside (j + n) (omega arith) l) (b .second)
+
     pub less-raw : getD s (i + n) 0 < getD t (j + n) 0 → order (flat (drop i s)) (flat (drop j t)) ≡ less
-    less-raw d = common-told .same ∙ order-next-less (flat-at-itself s (i + n) h (b .inside) (b .first)) (flat-at-itself t (j + n) (omega (arith, w .high)) (w .inside (j + n) (omega arith) l) (b .second)) d
+    less-raw d = common-told .same ∙ order-next-less first-told second-told d
 
     pub more-raw : getD t (j + n) 0 < getD s (i + n) 0 → order (flat (drop i s)) (flat (drop j t)) ≡ more
-    more-raw d = common-told .same ∙ order-next-more (flat-at-itself s (i + n) h (b .inside) (b .first)) (flat-at-itself t (j + n) (omega (arith, w .high)) (w .inside (j + n) (omega arith) l) (b .second)) d
+    more-raw d = common-told .same ∙ order-next-more first-told second-told d

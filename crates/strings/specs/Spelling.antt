@@ -1,10 +1,8 @@
 -- Strings compared as they are spelled, as far as that tells how they stand.
 use mathlib.Core.Path.{_≡_}
 use Prim.Native.Nat.{ℕ, _+_, _≤_, _<_}
-use lib.ListN.{length, drop, getD}
-use Rattle.rules.specs.Bytes.{order}
+use lib.ListN.{length, getD}
 use Rattle.rules.specs.Json.Text.{Text}
-use Rattle.cursors.specs.Flat.{flat}
 
 -- from a up to b no byte of t is the quote, and a backslash stands before a slash
 pub record Raw (t : Text) (a b : ℕ) : Type 0 where
@@ -23,9 +21,3 @@ pub record Tells (x y : ℕ) : Type 0 where
   pub first : x ≡ 0x5C → ⊥
   pub second : y ≡ 0x5C → ⊥
   pub slash : y ≡ 0x2F → ⊥
-
--- two strings stand to each other as they do n bytes further on
-pub record Common (s : Text) (i : ℕ) (t : Text) (j n : ℕ) : Type 0 where
-  pub same : order (flat (drop i s)) (flat (drop j t)) ≡ order (flat (drop (i + n) s)) (flat (drop (j + n) t))
-  pub first : i + n ≤ length s
-  pub second : j + n ≤ length t

@@ -43,7 +43,7 @@ fn raw_here(t: &[u8], k: usize) -> usize
     if t[k + 1] == SLASH { 2 } else { 0 }
 }
 
-// Up to where the string in t behind j is compared as it is spelled: its quote, or an escape.
+// Up to where the string in t behind j is compared as it is spelled: its quote, or an escape that is not a slash.
 pub fn raw_end(t: &[u8], j: usize) -> usize
     requires { ⌜ j ≤ length (now t) ⌝ }
     ensures { λ r. ⌜ Raw (now (t .entry)) j r ⌝ }
@@ -59,7 +59,7 @@ pub fn raw_end(t: &[u8], j: usize) -> usize
     k
 }
 
-// Of n bytes that are compared as they are spelled, those before a backslash that ends them.
+// So many of n bytes that are compared as they are spelled: all but a backslash at their end, whose slash is not among them.
 fn whole(t: &[u8], j: usize, end: usize, n: usize) -> usize
     requires { ⌜ Raw (now t) j end × (j + n ≤ end) ⌝ }
     ensures { λ r. ⌜ (r ≤ n) × Whole (now (t .entry)) j r ⌝ }
@@ -70,7 +70,8 @@ fn whole(t: &[u8], j: usize, end: usize, n: usize) -> usize
     if t[j + n - 1] == BACKSLASH { n - 1 } else { n }
 }
 
-// Whether two bytes, where they differ, tell how two strings stand that are spelled alike before them: neither is the quote or of an escape.
+// Whether two bytes tell, where they differ, how two strings stand that are spelled alike before them: not where one ends its string or
+// belongs to an escape.
 fn tells(x: u8, y: u8) -> bool
     ensures { λ r. ⌜ (r ≡ true → Tells x y) ⌝ }
 {
@@ -130,8 +131,8 @@ fn order_rests(s: &[u8], i: usize, t: &[u8], j: usize) -> Order
     }
 }
 
-// How the string in s behind i stands to the string in t behind j, by the unsigned bytes that they stand for, where the one in t is
-// compared as it is spelled up to `end`.
+// How the string in s behind i stands to the string in t behind j, by the unsigned bytes that they stand for, where it is known that up
+// to `end` the one in t is compared as it is spelled.
 pub fn order_raw(s: &[u8], i: usize, t: &[u8], j: usize, end: usize) -> Order
     requires { ⌜ WellSpelled (now s) i × WellSpelled (now t) j × Raw (now t) j end ⌝ }
     ensures { λ r. ⌜ r ≡ orderIs (order (decoded (drop i (now (s .entry)))) (decoded (drop j (now (t .entry))))) ⌝ }
@@ -154,7 +155,7 @@ pub fn order_raw(s: &[u8], i: usize, t: &[u8], j: usize, end: usize) -> Order
     order_rests(s, i + m, t, j + m)
 }
 
-// The same where it is not known how far that is.
+// The same where that is not known.
 pub fn order_strings(s: &[u8], i: usize, t: &[u8], j: usize) -> Order
     requires { ⌜ WellSpelled (now s) i × WellSpelled (now t) j ⌝ }
     ensures { λ r. ⌜ r ≡ orderIs (order (decoded (drop i (now (s .entry)))) (decoded (drop j (now (t .entry))))) ⌝ }

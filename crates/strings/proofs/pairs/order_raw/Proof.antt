@@ -6,10 +6,9 @@ use lib.ListN.{length}
 use native.Mathlib.Omega.{arith}
 use borrow.Author.Needs.{needs}
 use Rattle.values.specs.Answers.{orderIs}
-use Rattle.strings.specs.Spelling.{Common}
 use Rattle.strings.proofs.Raw.{well-within}
 use Rattle.strings.proofs.Orders.{order-decoded}
-use Rattle.strings.proofs.AsSpelled.{common-raw, less-raw, more-raw}
+use Rattle.strings.proofs.AsSpelled.{Common, common-raw, less-raw, more-raw}
 use Rattle.strings.proofs.pairs.order_raw.Statement.{statement}
 use Rattle.strings.proofs.pairs.order_raw.Tie as tie
 

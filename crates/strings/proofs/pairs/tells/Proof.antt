@@ -1,21 +1,20 @@
 -- `tells` meets its contract: the four tests.
-use native.Mathlib.Omega.{arith}
 use borrow.Author.Needs.{needs}
 use mathlib.Core.Bool.{false≢true}
 use Rattle.strings.proofs.pairs.tells.Statement.{statement}
 use Rattle.strings.proofs.pairs.tells.Tie as tie
 
 returns : tie.Need-returns
-returns c = λ e. absurd (false≢true e)
+returns c e = absurd (false≢true e)
 
 returns-2 : tie.Need-returns-2
-returns-2 c = λ e. absurd (false≢true e)
+returns-2 c e = absurd (false≢true e)
 
 returns-3 : tie.Need-returns-3
-returns-3 c = λ e. absurd (false≢true e)
+returns-3 c e = absurd (false≢true e)
 
 returns-4 : tie.Need-returns-4
-returns-4 c = λ e. absurd (false≢true e)
+returns-4 c e = absurd (false≢true e)
 
 returns-5 : tie.Need-returns-5
 returns-5 c = search needs
