@@ -2,3 +2,4 @@
 pub mod Seeking
 pub mod Naming
 pub mod Quotes
+pub mod Alone

@@ -6,10 +6,12 @@ use Prim.Native.Nat.{ℕ, zero, suc, _+_, _-_, _≤_, _<_}
 use native.Mathlib.Omega.{arith}
 use lib.ListN.{length, take, drop, getD, length-drop}
 use lib.Seq.{length-take-le, getD-take, getD-drop}
+use Rattle.facts.proofs.Lists.{drop-here}
 use Rattle.rules.specs.Bytes.{Bytes}
 use Rattle.rules.specs.Json.Text.{Text}
-use Rattle.rules.specs.Json.Strings.{isPlain}
-use Rattle.spellings.proofs.Scanning.{Scanning, scanning-start, scanning-plain, scanning-quote}
+use Rattle.rules.specs.Json.Strings.{isPlain, unescaped}
+use Rattle.strings.proofs.Raw.{plain-quote, plain-backslash}
+use Rattle.spellings.proofs.Scanning.{Scanning, scanning-start, scanning-quote, scanning-more}
 use Rattle.keys.specs.Spelled.{nameIn, Named}
 use Rattle.keys.specs.declared.Spell.{Spell}
 use Rattle.keys.proofs.Quoting.{named-plain}
@@ -20,10 +22,14 @@ use Rattle.kinds.proofs.Naming.{every, every-at, name-plain}
 
 module _ (s : Text) (i : ℕ) where
   passed : (n : ℕ) → i + n ≤ length s → ((b : ℕ) → b < n → isPlain (getD s (i + b) 0) ≡ true) → Scanning s i (i + n)
+  unfolding unescaped
   passed zero h f = let e : i ≡ i + 0 = omega arith in subst (Scanning s i) e (scanning-start (omega arith))
   passed (suc n) h f =
       let e : i + n + 1 ≡ i + suc n = omega arith in
-      subst (Scanning s i) e (scanning-plain (passed n (omega arith) (λ b l. f b (omega arith))) (omega arith) (f n (omega arith)))
+      let here : i + n < length s = omega arith in
+      let p = f n (omega arith) in
+      subst (Scanning s i) e (scanning-more (passed n (omega arith) (λ b l. f b (omega arith))) here (plain-quote p) (plain-backslash p) (i + n + 1)
+      (ap unescaped (drop-here s (i + n) 0 here) ∙ rw (unescaped, p)) (omega arith) (omega arith))
 
   -- the bytes before the quote at j
   module _ (j : ℕ) (low : i ≤ j) (high : j < length s) (quote : getD s j 0 ≡ 0x22) where

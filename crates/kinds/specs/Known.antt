@@ -1,4 +1,4 @@
--- A name that was read, with its place among the names of a kind.
+-- A name that was read, with its place among the names of a kind. No two answers are so (proofs/Alone.antt).
 use mathlib.Core.Path.{_≡_}
 use mathlib.Core.Option.{none}
 use mathlib.Core.List.{List}
