@@ -5,6 +5,8 @@ use mathlib.Core.List.{[], _∷_}
 use Prim.Native.Nat.{ℕ, _+_, _≤_, _<_}
 use native.Mathlib.Omega.{arith}
 use lib.ListN.{length, drop, getD}
+use borrow.Author.Tests.{ne-eqb}
+use Rattle.rules.specs.Bytes.{first}
 use Rattle.rules.specs.Numbers.{isDigit}
 use Rattle.rules.specs.Json.Text.{Text, isWs, ws}
 use Rattle.rules.specs.Json.Numbers.{digits}
@@ -20,6 +22,11 @@ pub record Run (run : Text → Text) (test : ℕ → Bool) : Type 0 where
 pub ws-run : Run ws isWs
 unfolding ws
 ws-run = record { empty = refl; more = λ b t e. rw (ws, e); stop = λ b t e. rw (ws, e) }
+
+-- no byte above the space is white space
+pub ws-above : (b : ℕ) → 0x20 < b → isWs b ≡ false
+unfolding isWs first
+ws-above b h = rw (isWs, first, ne-eqb b 0x20 (λ e. omega arith), ne-eqb b 0x09 (λ e. omega arith), ne-eqb b 0x0A (λ e. omega arith), ne-eqb b 0x0D (λ e. omega arith))
 
 pub digits-run : Run digits isDigit
 unfolding digits

@@ -30,6 +30,11 @@ pub fn skip_ws(s: &[u8], at: usize) -> usize
     requires { ⌜ at ≤ length (now s) ⌝ }
     ensures { λ r. ⌜ Skips (ws (drop at (now (s .entry)))) (now (s .entry)) at r ⌝ }
 {
+    if at < s.len() {
+        if 0x20 < s[at] {
+            return at; // none, as mostly
+        }
+    }
     let mut i = at;
     while i < s.len() {
         if is_ws(s[i]) {
