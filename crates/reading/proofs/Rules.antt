@@ -35,9 +35,9 @@ module _ (q : Bytes) (r : Query) (s : QueryIs q r) where
   query-bad g = let m = subst (λ (b : Bool). QueryBy q b r) g s in m .0
 
 module _ (version : AskedFor) (log : Log) where
-  pub asked-latest : (v : ℕ) → version ≡ Latest → v ≡ latest log → versionAsked (askedIs version) log ≡ v
+  pub asked-latest : version ≡ Latest → versionAsked (askedIs version) log ≡ latest log
   unfolding askedIs versionAsked
-  asked-latest v e f = ap (λ (a : AskedFor). versionAsked (askedIs a) log) e ∙ sym f
+  asked-latest e = ap (λ (a : AskedFor). versionAsked (askedIs a) log) e
 
   pub asked-at : (v : Version) → version ≡ At v → versionAsked (askedIs version) log ≡ v .0
   unfolding askedIs versionAsked
@@ -87,6 +87,10 @@ module _ (cs : List Condition) (log : Log) (v : ℕ) where
   pub listingAt-refused : (r : Refusal) → stateBy log (wayTo log v) ≡ refused r → listingAt cs log v ≡ refused r
   unfolding listingAt listingBy
   listingAt-refused r e = ap (λ (a : Answer State). a >>= (λ st. listing cs v st)) e
+
+-- the latest, where v is that version
+pub listingAt-latest : (cs : List Condition) (log : Log) (v : ℕ) (st : State) → v ≡ latest log → stateBy log (wayTo log (latest log)) ≡ accepted st → listingAt cs log (latest log) ≡ listing cs v st
+listingAt-latest cs log v st q e = listingAt-state cs log (latest log) st e ∙ ap (λ (n : ℕ). listing cs n st) (sym q)
 
 -- ---- a state
 

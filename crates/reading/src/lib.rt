@@ -14,6 +14,7 @@ ghost use lib.ListN.{length};
 ghost use Rattle.rules.specs.Bundle.{bundle as rBundle};
 ghost use Rattle.rules.specs.Live.{mostLive};
 ghost use Rattle.rules.specs.Starts.{logOf};
+ghost use Rattle.rules.specs.Marker.{latest as rLatest};
 ghost use Rattle.rules.specs.Refusals.{refused};
 ghost use Rattle.rules.specs.Reading.{theLatest, theVersion, listing, listingAt};
 ghost use Rattle.bundle.specs.Files.{isSome, filesIn};
@@ -118,6 +119,20 @@ fn list_at(src: &[u8], q: &[u8], asked: Query, v: Version, t: &mut [u64]) -> Rea
     }
 }
 
+// What the well-formed bundle src answers at its latest version.
+fn list_latest(src: &[u8], q: &[u8], asked: Query, t: &mut [u64]) -> Read
+    requires { ⌜ (isSome (rBundle (now src)) ≡ true) × (4096 ≤ length (now t)) × Sounds (now q) (asked .count) (asked .conditions) ⌝ }
+    ensures { λ r. ⌜ AnswerIs (listingAt (conditionsOf (now (q .entry)) (asked .count) (asked .conditions)) (logOf (filesIn (now (src .entry)))) (rLatest (logOf (filesIn (now (src .entry)))))) (now (t .entry)) (now (t .exit)) r ⌝ }
+{
+    let newest = latest::state_at_latest(src, t);
+    let version = newest.version;
+    let reached = newest.reached;
+    match reached {
+        Reached::At(st) => list_state(src, q, asked, version, st, t),
+        Reached::Refused(x) => refuse(t, x),
+    }
+}
+
 // What the well-formed bundle src answers at the version that is asked for.
 fn list_asked(src: &[u8], q: &[u8], asked: Query, version: Asked, t: &mut [u64]) -> Read
     requires { ⌜ (isSome (rBundle (now src)) ≡ true) × (4096 ≤ length (now t)) × Sounds (now q) (asked .count) (asked .conditions) ⌝ }
@@ -127,10 +142,7 @@ fn list_asked(src: &[u8], q: &[u8], asked: Query, version: Asked, t: &mut [u64])
         return refuse(t, Refusal::VersionTooLarge);
     }
     match version {
-        Asked::Latest => {
-            let latest = starts::latest(src);
-            list_at(src, q, asked, latest, t)
-        }
+        Asked::Latest => list_latest(src, q, asked, t),
         Asked::At(v) => list_at(src, q, asked, v, t),
     }
 }

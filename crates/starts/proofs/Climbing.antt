@@ -1,7 +1,7 @@
 -- The climb to the latest version: its bound is never met, since no version is above 2^63 - 1.
 use mathlib.Core.Path.{_≡_, refl, sym, ap, _∙_}
-use mathlib.Core.Option.{none, some}
-use Prim.Native.Nat.{ℕ, zero, suc, _+_, _-_, _<_}
+use mathlib.Core.Option.{Option, none, some}
+use Prim.Native.Nat.{ℕ, zero, suc, _+_, _-_, _≤_, _<_}
 use native.Mathlib.Omega.{arith}
 use Rattle.rules.specs.Bundle.{File}
 use Rattle.rules.specs.Starts.{Log}
@@ -16,6 +16,15 @@ climb-none : (n : ℕ) (log : Log) (w : ℕ) → log .versionFile (suc w) ≡ no
 unfolding climb climbBy
 climb-none zero log w e = refl
 climb-none (suc n) log w e = rw (climb, e)
+
+pub climb-above : (n : ℕ) (log : Log) (s : ℕ) → s ≤ climb n log s
+unfolding climb climbBy
+climb-above zero log s = omega arith
+climb-above (suc n) log s = go (log .versionFile (suc s)) (climb-above n log (suc s))
+  where
+    go : (o : Option File) → suc s ≤ climb n log (suc s) → s ≤ climbBy o s (λ _. climb n log (suc s))
+    go none h = omega arith
+    go (some f) h = omega arith
 
 -- up from v the climb is at w, with n still allowed
 pub record Climbing (log : Log) (v w : ℕ) : Type 0 where

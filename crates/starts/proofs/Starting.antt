@@ -2,7 +2,7 @@
 use mathlib.Core.Path.{_≡_, refl, sym, ap, _∙_, subst}
 use mathlib.Core.Bool.{true, false}
 use mathlib.Core.Option.{Option, none, some}
-use Prim.Native.Nat.{ℕ, zero, suc, _-_}
+use Prim.Native.Nat.{ℕ, zero, suc, _-_, _≤_}
 use native.Mathlib.Omega.{arith}
 use Rattle.rules.specs.Bytes.{Bytes, _>>=_}
 use Rattle.rules.specs.Numbers.{most}
@@ -12,9 +12,9 @@ use Rattle.rules.specs.Marker.{markerVersion, marked, climb, orZero, latest}
 use Rattle.rules.proofs.Tests.{apart}
 use Rattle.bundle.specs.Files.{filesIn}
 use Rattle.names.specs.declared.Version.{Version}
-use Rattle.starts.specs.Marks.{markIs}
+use Rattle.starts.specs.Marks.{namedBy, markIs}
 use Rattle.starts.specs.declared.Mark.the-variants.{At, Nothing}
-use Rattle.starts.specs.Ways.{Leads, here, next, StartIs}
+use Rattle.starts.specs.Ways.{Leads, here, next, StartIs, PassesIs}
 use Rattle.starts.specs.declared.Start.{Start}
 use Rattle.starts.specs.declared.Start.the-variants.{Zero, Checkpoint, NoStart}
 
@@ -45,34 +45,40 @@ module _ (log : Log) (v : ℕ) where
 -- ---- the marker
 
 module _ (log : Log) where
-  named : File → Option ℕ
-  named m = markerVersion (m .body) >>= λ c. startAt log c >>= λ _. some c
+  pub named-none : log .markerFile ≡ none → namedBy log ≡ none
+  unfolding namedBy
+  named-none e = ap (λ (o : Option File). o >>= λ m. markerVersion (m .body)) e
 
-  pub marked-none : log .markerFile ≡ none → marked log ≡ none
-  unfolding marked named
-  marked-none e = ap (λ (o : Option File). o >>= named) e
+  pub named-text : (m : File) → log .markerFile ≡ some m → namedBy log ≡ markerVersion (m .body)
+  unfolding namedBy
+  named-text m e = ap (λ (o : Option File). o >>= λ m. markerVersion (m .body)) e
 
-  module _ (m : File) (e : log .markerFile ≡ some m) where
-    marked-file : marked log ≡ named m
-    unfolding marked named
-    marked-file = ap (λ (o : Option File). o >>= named) e
+  marked-named : marked log ≡ (namedBy log >>= λ c. startAt log c >>= λ _. some c)
+  unfolding marked namedBy
+  marked-named = go (log .markerFile)
+    where
+      go : (o : Option File) → (o >>= λ m. markerVersion (m .body) >>= λ c. startAt log c >>= λ _. some c) ≡ ((o >>= λ m. markerVersion (m .body)) >>= λ c. startAt log c >>= λ _. some c)
+      go none = refl
+      go (some m) = refl
 
-    pub marked-unread : markerVersion (m .body) ≡ none → marked log ≡ none
-    unfolding named
-    marked-unread n = marked-file ∙ ap (λ (o : Option ℕ). o >>= λ c. startAt log c >>= λ _. some c) n
+  pub marked-none : namedBy log ≡ none → marked log ≡ none
+  marked-none e = marked-named ∙ ap (λ (o : Option ℕ). o >>= λ c. startAt log c >>= λ _. some c) e
 
-    module _ (c : ℕ) (n : markerVersion (m .body) ≡ some c) where
-      marked-number : marked log ≡ (startAt log c >>= λ _. some c)
-      unfolding named
-      marked-number = marked-file ∙ ap (λ (o : Option ℕ). o >>= λ k. startAt log k >>= λ _. some k) n
+  module _ (c : ℕ) (n : namedBy log ≡ some c) where
+    marked-number : marked log ≡ (startAt log c >>= λ _. some c)
+    marked-number = marked-named ∙ ap (λ (o : Option ℕ). o >>= λ k. startAt log k >>= λ _. some k) n
 
-      pub marked-dead : startAt log c ≡ none → marked log ≡ none
-      marked-dead s = marked-number ∙ ap (λ (o : Option File). o >>= λ _. some c) s
+    pub marked-dead : startAt log c ≡ none → marked log ≡ none
+    marked-dead s = marked-number ∙ ap (λ (o : Option File). o >>= λ _. some c) s
 
-      pub marked-at : {f : File} → startAt log c ≡ some f → marked log ≡ some c
-      marked-at s = marked-number ∙ ap (λ (o : Option File). o >>= λ _. some c) s
+    pub marked-at : {f : File} → startAt log c ≡ some f → marked log ≡ some c
+    marked-at s = marked-number ∙ ap (λ (o : Option File). o >>= λ _. some c) s
 
   -- ---- the latest version
+
+  pub latest-at : {n : ℕ} → marked log ≡ some n → climb most log n ≡ latest log
+  unfolding latest orZero
+  latest-at e = ap (λ (o : Option ℕ). climb most log (orZero o)) (sym e)
 
   pub latest-marked : (v : Version) → At v ≡ markIs (marked log) → climb most log (v .0) ≡ latest log
   unfolding latest markIs orZero
@@ -99,7 +105,7 @@ leads-before e here = next here e
 leads-before e (next l f) = next (leads-before e l) f
 
 module _ (log : Log) where
-  way-start : (w : ℕ) {f : File} → startAt log w ≡ some f → wayTo log w ≡ some (fromCheckpoint f)
+  pub way-start : (w : ℕ) {f : File} → startAt log w ≡ some f → wayTo log w ≡ some (fromCheckpoint f)
   unfolding wayTo byStart
   way-start zero e = ap (λ (o : Option File). byStart o (λ _. some fromZero)) e
   way-start (suc w) e = ap (λ (o : Option File). byStart o (λ _. byFile (log .versionFile (suc w)) (λ _. wayTo log w))) e
@@ -164,6 +170,11 @@ module _ (log : Log) where
 
     pub falling-checkpoint : {f : File} → startAt log w ≡ some f → (x : Way) × (o ≡ some x) × Leads log (fromCheckpoint f) w v x
     falling-checkpoint {f} s = h .on (fromCheckpoint f) (way-start w s)
+
+  pub falling-through : {v w n : ℕ} → Falling v (wayTo log v) w → n ≤ w → w ≤ n → PassesIs log n v true
+  falling-through {v} {w} {n} h a b =
+      let z : w ≡ n = omega arith in
+      subst (λ (i : ℕ). PassesIs log i v true) z (h .on)
 
   -- ---- the way that is not from the checkpoint at c
 

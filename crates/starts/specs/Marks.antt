@@ -8,7 +8,8 @@ use Rattle.rules.specs.Bytes.{Bytes, _>>=_}
 use Rattle.rules.specs.Json.Text.{Text}
 use Rattle.rules.specs.Json.Values.{Member}
 use Rattle.rules.specs.Json.Fields.{ifThere, stringOf}
-use Rattle.rules.specs.Marker.{isJson}
+use Rattle.rules.specs.Starts.{Log}
+use Rattle.rules.specs.Marker.{isJson, markerVersion}
 use Rattle.kinds.specs.Kinds.{namesOf}
 use Rattle.fields.specs.Slots.{Each, optionalIn}
 use Rattle.kinds.specs.declared.Kind.{Kind}
@@ -36,6 +37,12 @@ fits none = false
 fits (some f) = isJson f
 
 -- ---- the version that it names
+
+-- what its text says, whatever stands there
+unfoldable pub namedBy : Log → Option ℕ
+namedBy log = do
+  m ← log .markerFile
+  markerVersion (m .body)
 
 unfoldable pub markIs : Option ℕ → Mark
 markIs none = Nothing

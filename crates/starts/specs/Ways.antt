@@ -1,11 +1,12 @@
 -- From a start up to a version, one version file after the other, so that a caller can read them in that order.
 use mathlib.Core.Path.{_≡_}
+use mathlib.Core.Bool.{Bool, true, false}
 use mathlib.Core.Option.{Option, none, some}
 use Prim.Native.Nat.{ℕ, suc, _<_}
 use lib.ListN.{length}
 use Rattle.rules.specs.Bytes.{Bytes}
 use Rattle.rules.specs.Bundle.{File}
-use Rattle.rules.specs.Starts.{Log, logOf, startAt, Way, fromZero, fromCheckpoint, andThen}
+use Rattle.rules.specs.Starts.{Log, logOf, startAt, Way, fromZero, fromCheckpoint, andThen, wayTo}
 use Rattle.bundle.specs.Files.{filesIn, fileIn}
 use Rattle.starts.specs.declared.Start.{Start}
 use Rattle.starts.specs.declared.Start.the-variants.{Zero, Checkpoint, NoStart}
@@ -25,3 +26,8 @@ StartIs src v o (Checkpoint k s) =
     × (o ≡ some w)
     × Leads (logOf (filesIn src)) (fromCheckpoint (fileIn src k)) (s .0) v w
 StartIs src v o NoStart = o ≡ none
+
+-- where the answer is true, the way to v goes on from the way to n
+abbrev pub PassesIs : (log : Log) (n v : ℕ) → Bool → Type 0
+PassesIs log n v true = (x : Way) → wayTo log n ≡ some x → (y : Way) × (wayTo log v ≡ some y) × Leads log x n v y
+PassesIs log n v false = Unit {0}

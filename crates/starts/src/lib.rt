@@ -9,6 +9,7 @@ use text::Next;
 use values::Whole;
 ghost use mathlib.Core.Path.{_≡_};
 ghost use mathlib.Core.Bool.{true};
+ghost use Prim.Native.Nat.{_≤_};
 ghost use Rattle.rules.specs.Numbers.{most};
 ghost use Rattle.rules.specs.Bundle.{bundle as rBundle};
 ghost use Rattle.rules.specs.Starts.{logOf, startAt, wayTo, otherWayTo, wellFormed};
@@ -19,8 +20,8 @@ ghost use Rattle.values.specs.Answers.{wholeIs};
 ghost use Rattle.bundle.specs.Files.{isSome, filesIn};
 ghost use Rattle.logs.specs.Logs.{PlaceIs};
 ghost use Rattle.slots.specs.Inside.{Inside};
-ghost use Rattle.starts.specs.Marks.{ObjectIs, formatIn, fits, markIs};
-ghost use Rattle.starts.specs.Ways.{StartIs};
+ghost use Rattle.starts.specs.Marks.{ObjectIs, formatIn, fits, namedBy, markIs};
+ghost use Rattle.starts.specs.Ways.{StartIs, PassesIs};
 
 // 2^63 - 1, the highest version.
 const MOST: u64 = 9223372036854775807;
@@ -189,6 +190,26 @@ pub fn other_start_for(s: &[u8], c: Version) -> Start
     start_for(s, Version(c.0 - 1), k)
 }
 
+// Whether the way to v goes through version n: no start is above n, and no version file is missing from there up to v.
+pub fn passes(s: &[u8], n: Version, v: Version, near: usize) -> bool
+    requires { ⌜ (isSome (rBundle (now s)) ≡ true) × (n .0 ≤ v .0) ⌝ }
+    ensures { λ r. ⌜ PassesIs (logOf (filesIn (now (s .entry)))) (n .0) (v .0) r ⌝ }
+{
+    let mut w = v.0;
+    let mut place = near;
+    while n.0 < w {
+        let Place::Nowhere = start_at(s, Version(w), place) else {
+            return false;
+        };
+        let Place::At(k) = logs::version_file(s, Version(w), place) else {
+            return false;
+        };
+        w -= 1;
+        place = place_before(k);
+    }
+    true
+}
+
 // ---- the latest version
 
 // The version that the marker names, if the marker is usable.
@@ -197,15 +218,23 @@ pub enum Mark {
     Nothing,
 }
 
+// The version that the marker's text names, whatever stands there.
+pub fn named(s: &[u8]) -> Whole
+    requires { ⌜ isSome (rBundle (now s)) ≡ true ⌝ }
+    ensures { λ r. ⌜ r ≡ wholeIs (namedBy (logOf (filesIn (now (s .entry))))) ⌝ }
+{
+    let Place::At(m) = logs::marker_file(s) else {
+        return Whole::NotWhole;
+    };
+    marker_version(bundle::body_in(s, m))
+}
+
 // What the marker of the log names.
 pub fn marked(s: &[u8]) -> Mark
     requires { ⌜ isSome (rBundle (now s)) ≡ true ⌝ }
     ensures { λ r. ⌜ r ≡ markIs (rMarked (logOf (filesIn (now (s .entry))))) ⌝ }
 {
-    let Place::At(m) = logs::marker_file(s) else {
-        return Mark::Nothing;
-    };
-    let Whole::Number(n) = marker_version(bundle::body_in(s, m)) else {
+    let Whole::Number(n) = named(s) else {
         return Mark::Nothing;
     };
     match start_at(s, Version(n), 0) {

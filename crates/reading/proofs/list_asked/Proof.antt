@@ -25,29 +25,26 @@ returns c = answer-same _ _ _ _ _ (answering-large _ _ _ (sym (c .before .before
 enum-told : tie.Need-enum-told
 enum-told c = search needs
 
-latest-requires : tie.Need-latest-requires
-latest-requires c κs = search needs
-
-list-at-requires : tie.Need-list-at-requires
-list-at-requires c κs = search needs
+list-latest-requires : tie.Need-list-latest-requires
+list-latest-requires c κs = search needs
 
 enum-known-version : tie.Need-enum-known-version
 enum-known-version c = search needs
 
-list-at-requires-2 : tie.Need-list-at-requires-2
-list-at-requires-2 c κs = search needs
+list-at-requires : tie.Need-list-at-requires
+list-at-requires c κs = search needs
 
 same-length-2 : tie.Need-same-length-2
 same-length-2 c = search needs
 
 returns-2 : tie.Need-returns-2
-returns-2 c = answer-same _ _ _ _ _ (answering-version _ _ _ (sym (c .before .before .before .before .before .before .before .before .any-too-large .ensures) ∙ c .before .before .before .before .before .before .before .if1 .left) _ (asked-latest _ _ _ (c .before .before .before .before .before .enum-told .given .1) (c .before .before .before .before .latest .ensures))) (c .before .before .list-at .ensures)
+returns-2 c = answer-same _ _ _ _ _ (answering-version _ _ _ (sym (c .before .before .before .before .before .before .before .any-too-large .ensures) ∙ c .before .before .before .before .before .before .if1 .left) _ (asked-latest _ _ (c .before .before .before .before .enum-told .given .1))) (c .before .before .list-latest .ensures)
 
 same-length-3 : tie.Need-same-length-3
 same-length-3 c = search needs
 
 returns-3 : tie.Need-returns-3
-returns-3 c = answer-same _ _ _ _ _ (answering-version _ _ _ (sym (c .before .before .before .before .before .before .before .before .any-too-large .ensures) ∙ c .before .before .before .before .before .before .before .if1 .left) _ (asked-at _ _ _ (c .before .before .before .before .before .version .given .1))) (c .before .before .list-at2 .ensures)
+returns-3 c = answer-same _ _ _ _ _ (answering-version _ _ _ (sym (c .before .before .before .before .before .before .before .before .any-too-large .ensures) ∙ c .before .before .before .before .before .before .before .if1 .left) _ (asked-at _ _ _ (c .before .before .before .before .before .version .given .1))) (c .before .before .list-at .ensures)
 
 pub list-asked-spec : {M : Type 1} → statement M
 list-asked-spec =
@@ -58,10 +55,9 @@ list-asked-spec =
     same-length
     returns
     enum-told
-    latest-requires
-    list-at-requires
+    list-latest-requires
     enum-known-version
-    list-at-requires-2
+    list-at-requires
     same-length-2
     returns-2
     same-length-3

@@ -1,0 +1,2 @@
+-- The crate's answers in the rules' terms.
+pub mod Answers
