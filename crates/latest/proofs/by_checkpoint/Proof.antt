@@ -5,7 +5,6 @@ use Rattle.rules.specs.Live.{mostLive}
 use Rattle.replay.specs.Answers.{OutcomeIs}
 use Rattle.history.proofs.Reaching.{bundle-places}
 use Rattle.latest.proofs.Beginning.{begun, latest-join}
-use native.Mathlib.Omega.{arith}
 use borrow.Author.Needs.{needs}
 use Rattle.latest.proofs.by_checkpoint.Statement.{statement}
 use Rattle.latest.proofs.by_checkpoint.Tie as tie

@@ -1,6 +1,5 @@
 -- `by_search`: the latest version, and the state there.
 use Rattle.latest.proofs.Beginning.{latest-is}
-use native.Mathlib.Omega.{arith}
 use borrow.Author.Needs.{needs}
 use Rattle.latest.proofs.by_search.Statement.{statement}
 use Rattle.latest.proofs.by_search.Tie as tie

@@ -10,7 +10,6 @@ use Rattle.starts.specs.Ways.{PassesIs}
 use Rattle.starts.proofs.Climbing.{climb-above}
 use Rattle.history.specs.Ends.{ReachedIs}
 use Rattle.latest.proofs.Beginning.{begun-latest, begun-onward, reached-outcome, latest-is}
-use native.Mathlib.Omega.{arith}
 use borrow.Author.Needs.{needs}
 use Rattle.latest.proofs.from_checkpoint.Statement.{statement}
 use Rattle.latest.proofs.from_checkpoint.Tie as tie

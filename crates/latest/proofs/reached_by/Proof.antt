@@ -1,7 +1,6 @@
 -- `reached_by`: by its cases.
 use mathlib.Core.Path.{sym, ap}
 use Rattle.latest.specs.Answers.{reachedBy}
-use native.Mathlib.Omega.{arith}
 use borrow.Author.Needs.{needs}
 use Rattle.latest.proofs.reached_by.Statement.{statement}
 use Rattle.latest.proofs.reached_by.Tie as tie

@@ -5,7 +5,6 @@ use Rattle.values.proofs.Back.{whole-number}
 use Rattle.bundle.specs.Files.{fileIn}
 use Rattle.logs.specs.Logs.{PlaceIs}
 use Rattle.replay.specs.Answers.{ZeroIs}
-use native.Mathlib.Omega.{arith}
 use borrow.Author.Needs.{needs}
 use Rattle.latest.proofs.state_at_latest.Statement.{statement}
 use Rattle.latest.proofs.state_at_latest.Tie as tie
