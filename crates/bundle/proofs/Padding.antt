@@ -1,9 +1,9 @@
 -- A name and the zeros behind it, byte by byte.
-use mathlib.Core.Path.{_≡_, refl, ap}
+use mathlib.Core.Path.{_≡_, refl, sym, ap, _∙_}
 use mathlib.Core.Bool.{Bool, true, false, _||_, true≢false}
 use mathlib.Core.Option.{Option, none, some}
 use mathlib.Core.List.{[], _∷_}
-use Prim.Native.Nat.{ℕ, suc, _+_, _≤_, _<_}
+use Prim.Native.Nat.{ℕ, zero, suc, _+_, _≤_, _<_}
 use native.Mathlib.Nat.{not-suc-le-zero}
 use native.Mathlib.Omega.{arith}
 use lib.Dec.{eqb, leb}
@@ -14,6 +14,8 @@ use Rattle.rules.specs.Bytes.{Bytes, among, _>>=_, guard}
 use Rattle.rules.specs.Bundle.{zeros, unpadded, nameIn}
 use Rattle.rules.proofs.Order.{le-among, among-true}
 use Rattle.rules.proofs.Tests.{false-of}
+use Rattle.octets.specs.Words.{Eight}
+use Rattle.octets.proofs.Words.{byte-zeros, zeros-all}
 use Rattle.bundle.specs.Files.{isSome, nameSize, Filled}
 
 -- ---- a byte of a name
@@ -61,6 +63,20 @@ module _ (p : Bytes) (i : ℕ) (h : i < length p) where
       go : (z : Bool) → isSome {A = Bytes} (elim z [ true ↦ some [] | false ↦ none ]) ≡ z
       go true = refl
       go false = refl
+
+-- ---- from place i on, eight at a time
+
+-- as far as there are only zeros
+zeros-run : (p : Bytes) (i n : ℕ) → i + n ≤ length p → ((k : ℕ) → k < n → getD p (i + k) 0 ≡ 0) → zeros (drop i p) ≡ zeros (drop (i + n) p)
+zeros-run p i zero h f = let place : i ≡ i + 0 = omega arith in ap (λ (l : ℕ). zeros (drop l p)) place
+zeros-run p i (suc n) h f =
+    let place : i + n + 1 ≡ i + suc n = omega arith in
+    zeros-run p i n (omega arith) (λ k l. f k (omega arith))
+    ∙ zeros-more p (i + n) (omega arith) (f n (omega arith))
+    ∙ ap (λ (l : ℕ). zeros (drop l p)) place
+
+pub zeros-eight : (p : Bytes) (i w : ℕ) → i + 8 ≤ length p → Eight w p i → w ≡ 0 → zeros (drop i p) ≡ zeros (drop (i + 8) p)
+zeros-eight p i w h f e = zeros-run p i 8 h (λ k l. sym (f k l) ∙ byte-zeros k w (omega (arith, zeros-all w e)))
 
 -- ---- from place i on, by tests side by side
 

@@ -75,11 +75,27 @@ fn visible(b: u8) -> bool
     true
 }
 
-// Whether p is zeros from place `at` on.
-fn zeros_from(p: &[u8], at: usize) -> bool
-    ensures { λ r. ⌜ r ≡ zeros (drop at (now (p .entry))) ⌝ }
+// Passes zeros from place `at` on, eight at a time; there may be more of them.
+fn skip_zeros(p: &[u8], at: usize) -> usize
+    requires { ⌜ at ≤ length (now p) ⌝ }
+    ensures { λ r. ⌜ (r ≤ length (now (p .entry))) × (zeros (drop at (now (p .entry))) ≡ zeros (drop r (now (p .entry)))) ⌝ }
 {
     let mut i = at;
+    while 8 <= p.len() - i {
+        if octets::word_at(p, i) != 0 {
+            return i;
+        }
+        i += 8;
+    }
+    i
+}
+
+// Whether p is zeros from place `at` on.
+fn zeros_from(p: &[u8], at: usize) -> bool
+    requires { ⌜ at ≤ length (now p) ⌝ }
+    ensures { λ r. ⌜ r ≡ zeros (drop at (now (p .entry))) ⌝ }
+{
+    let mut i = skip_zeros(p, at);
     while i < p.len() {
         if p[i] != 0 {
             return false;

@@ -27,9 +27,9 @@ pub fn skip_plain(s: &[u8], at: usize) -> usize
 {
     let mut i = at;
     while 8 <= s.len() - i {
-        let k = octets::plain_in(octets::word_at(s, i));
-        if k < 8 {
-            return i + k;
+        let bad = octets::stops(octets::word_at(s, i));
+        if bad != 0 {
+            return i + octets::zero_bytes(bad);
         }
         i += 8;
     }

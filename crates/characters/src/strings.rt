@@ -5,11 +5,14 @@ use crate::utf8::QUOTE;
 use crate::utf8::skip_unescaped;
 use escapes::Code;
 use text::Next;
+ghost use mathlib.Core.Path.{_≡_};
+ghost use mathlib.Core.Bool.{true};
 ghost use Prim.Native.Nat.{_≤_, _+_};
 ghost use lib.ListN.{length, drop};
 ghost use Rattle.rules.specs.Json.Text.{behind};
 ghost use Rattle.rules.specs.Json.Strings.{char, string};
 ghost use Rattle.text.specs.Answers.{Answer};
+ghost use Rattle.text.specs.declared.Next.the-variants.{At};
 
 // A character of a string, as it is or escaped.
 pub fn skip_char(s: &[u8], at: usize) -> Next
@@ -29,6 +32,25 @@ pub fn skip_char(s: &[u8], at: usize) -> Next
     }
 }
 
+// Whether a backslash and a byte that stands for itself behind one are there: the quote, the backslash or the slash.
+fn is_literal_escape(s: &[u8], at: usize) -> bool
+    requires { ⌜ at ≤ length (now s) ⌝ }
+    ensures { λ r. ⌜ (r ≡ true → Answer (behind (char (drop at (now (s .entry))))) (now (s .entry)) (at + 1) (At (at + 2))) ⌝ }
+{
+    if s.len() - at < 2 {
+        return false;
+    }
+    if s[at] != BACKSLASH {
+        return false;
+    }
+    match s[at + 1] {
+        0x22 => true,
+        0x5C => true,
+        0x2F => true,
+        _ => false,
+    }
+}
+
 // The characters of a string from `at` on, and its closing quote.
 pub fn skip_chars(s: &[u8], at: usize) -> Next
     requires { ⌜ at ≤ length (now s) ⌝ }
@@ -39,10 +61,14 @@ pub fn skip_chars(s: &[u8], at: usize) -> Next
         if s[i] == QUOTE {
             return Next::At(i + 1);
         }
-        let Next::At(j) = skip_char(s, i) else {
-            return Next::Bad;
-        };
-        i = skip_plain(s, j);
+        if is_literal_escape(s, i) {
+            i = skip_plain(s, i + 2); // not decoded
+        } else {
+            let Next::At(j) = skip_char(s, i) else {
+                return Next::Bad;
+            };
+            i = skip_plain(s, j);
+        }
     }
     Next::Bad
 }
@@ -59,7 +85,7 @@ pub fn skip_string(s: &[u8], at: usize) -> Next
     if s[i] == QUOTE {
         return Next::At(i + 1);
     }
-    let Next::At(j) = skip_chars(s, i) else {
+    let Next::At(j) = skip_chars(&s[0..], i) else { // handed on anew, so that the compiler keeps it in registers here
         return Next::Bad;
     };
     Next::At(j)

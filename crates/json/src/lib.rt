@@ -145,7 +145,10 @@ fn value_within(s: &[u8], at: usize, depth: usize) -> Next
         }
         return array(s, at + 1, depth - 1);
     }
-    skip_scalar(s, at)
+    let Next::At(end) = skip_scalar(s, at) else { // the answer is made anew, not copied with its padding
+        return Next::Bad;
+    };
+    Next::At(end)
 }
 
 // Behind the opening brace: the members of an object, whose values nest at most `depth` deep, and its closing brace.
@@ -159,7 +162,7 @@ pub fn object(s: &[u8], at: usize, depth: usize) -> Next
         Tail::More(first) => {
             let mut i = first;
             loop {
-                let Next::At(v) = skip_name(s, i) else {
+                let Next::At(v) = skip_name(&s[0..], i) else { // handed on anew: it stays in registers here
                     return Next::Bad;
                 };
                 let Next::At(j) = value_within(s, v, depth) else {

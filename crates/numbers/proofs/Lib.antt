@@ -1,1 +1,2 @@
--- The laws that the proofs here cite are those of crate `text`.
+-- The laws that the proofs here cite beside those of crate `text`.
+pub mod Eights

@@ -22,12 +22,28 @@ fn is_digit(b: u8) -> bool
     if 0x30 <= b { b <= 0x39 } else { false }
 }
 
+// Passes digits from `at` on, eight at a time; there may be more of them.
+fn skip_eights(s: &[u8], at: usize) -> usize
+    requires { ⌜ at ≤ length (now s) ⌝ }
+    ensures { λ r. ⌜ (at ≤ r) × (r ≤ length (now (s .entry))) × (digits (drop at (now (s .entry))) ≡ digits (drop r (now (s .entry)))) ⌝ }
+{
+    let mut i = at;
+    while 8 <= s.len() - i {
+        let bad = octets::non_digits(octets::word_at(s, i));
+        if bad != 0 {
+            return i + octets::zero_bytes(bad);
+        }
+        i += 8;
+    }
+    i
+}
+
 // Digits, as many as there are.
 fn skip_digits(s: &[u8], at: usize) -> usize
     requires { ⌜ at ≤ length (now s) ⌝ }
     ensures { λ r. ⌜ Skips (digits (drop at (now (s .entry)))) (now (s .entry)) at r ⌝ }
 {
-    let mut i = at;
+    let mut i = skip_eights(s, at);
     while i < s.len() {
         if is_digit(s[i]) {
             i += 1;

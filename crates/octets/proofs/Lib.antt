@@ -1,3 +1,4 @@
 pub mod Words
 pub mod Marks
+pub mod Digits
 pub mod Sides

@@ -1,102 +1,120 @@
 -- Bytes that are no plain characters, marked by arithmetic: in a byte by itself, and in all eight of a number at once.
 use mathlib.Core.Path.{_≡_, refl, sym, ap, ap₂, _∙_}
 use mathlib.Core.Bool.{Bool, true, _&&_, _||_, not}
-use Prim.Native.Nat.{ℕ, zero, suc, _+_, _/_, _<_}
+use Prim.Native.Nat.{ℕ, zero, suc, _+_, _%_, _^_, _≤_, _<_}
 use native.Mathlib.Nat.{le-of-suc-le-suc}
 use native.Mathlib.Omega.{arith}
 use lib.Arith.{lt-of-le-ne}
-use lib.Dec.{eqb, lit<}
-use lib.Bits.{bitAnd, bitOr, bitXor, and-le-r, xor-lt}
-use lib.Count.{trailingZeros, trailing-le}
-use borrow.Author.Tests.{eqb-true, eqb-false, eq-eqb}
+use lib.Dec.{eqb, leb, lit<}
+use lib.Bits.{bitAnd, bitOr, bitXor}
+use borrow.Author.Tests.{eqb-true, eqb-false, eq-eqb, leb-true}
 use Rattle.rules.specs.Bytes.{among, first}
 use Rattle.rules.specs.Json.Strings.{isPlain}
 use Rattle.rules.proofs.Tests.{by, and-left, and-right}
-use Rattle.octets.specs.Words.{byte, Plain}
-use Rattle.octets.proofs.Words.{joined, byte-lt, byte-joined, byte-and, byte-or, byte-xor, byte-add, byte-zeros}
+use Rattle.octets.specs.Words.{byte, zeros, Plain}
+use Rattle.octets.proofs.Words.{joined, byte-lt, byte-joined, byte-and, byte-or, byte-xor, less, byte-less, byte-zeros, zeros-le}
 
--- what is not zero where w is no plain character: high bits h, low bits l, quotes q, backslashes b and lifts u, for one byte or for many
-abbrev marks : (h l q b u : ℕ) → ℕ → ℕ
-marks h l q b u w =
-    bitOr (bitXor (bitAnd (bitAnd (bitAnd (bitXor (bitAnd w l) q + l) (bitXor (bitAnd w l) b + l)) (bitAnd w l + u)) h) h) (bitAnd w h)
-
+-- the highest bit of a byte x is set in one of three: where x is the quote, the backslash, a control, or past ASCII
 abbrev mark : ℕ → ℕ
-mark = marks 0x80 0x7F 0x22 0x5C 0x60
+mark x = bitAnd (bitOr (bitOr (less (bitXor x 0x22) 1) (less (bitXor x 0x5C) 1)) (less x 0x20)) 0x80
 
 -- ---- one byte: all 256 are tried
 
-unfoldable allBelow : ℕ → (ℕ → Bool) → Bool
+unfoldable pub allBelow : ℕ → (ℕ → Bool) → Bool
 allBelow zero f = true
 allBelow (suc n) f = f n && allBelow n f
 
-all-below : (n : ℕ) (f : ℕ → Bool) → allBelow n f ≡ true → (k : ℕ) → k < n → f k ≡ true
+pub all-below : (n : ℕ) (f : ℕ → Bool) → allBelow n f ≡ true → (k : ℕ) → k < n → f k ≡ true
 unfolding allBelow
 all-below zero f e k h = absurd (omega arith)
 all-below (suc n) f e k h =
     by (eqb k n) (λ t. ap f (eqb-true k n t) ∙ and-left (f n) (allBelow n f) e)
     (λ u. all-below n f (and-right (f n) (allBelow n f) e) k (lt-of-le-ne (le-of-suc-le-suc h) (eqb-false k n u)))
 
+-- a plain character, of which no difference goes below zero
+unfoldable clear : ℕ → Bool
+clear x = isPlain x && (leb 1 (bitXor x 0x22) && (leb 1 (bitXor x 0x5C) && leb 0x20 x))
+
 unfoldable fine : ℕ → Bool
-fine x = not (eqb (mark x) 0) || isPlain x
+fine x = not (eqb (mark x) 0) || clear x
 
 all-fine : allBelow 256 fine ≡ true
-unfolding allBelow fine isPlain first among
+unfolding allBelow fine clear isPlain first among
 all-fine = refl
 
-plain-unmarked : (x : ℕ) → x < 256 → mark x ≡ 0 → isPlain x ≡ true
+clear-unmarked : (x : ℕ) → x < 256 → mark x ≡ 0 → clear x ≡ true
 unfolding fine
-plain-unmarked x h e = sym (rw (fine, eq-eqb (mark x) 0 e)) ∙ all-below 256 fine all-fine x h
+clear-unmarked x h e = sym (rw (fine, eq-eqb (mark x) 0 e)) ∙ all-below 256 fine all-fine x h
+
+module _ (x : ℕ) (c : clear x ≡ true) where
+  clear-plain : isPlain x ≡ true
+  unfolding clear
+  clear-plain = and-left (isPlain x) _ c
+
+  clear-rest : (leb 1 (bitXor x 0x22) && (leb 1 (bitXor x 0x5C) && leb 0x20 x)) ≡ true
+  unfolding clear
+  clear-rest = and-right (isPlain x) _ c
+
+  clear-quote : 1 ≤ bitXor x 0x22
+  clear-quote = leb-true _ _ (and-left (leb 1 (bitXor x 0x22)) _ clear-rest)
+
+  clear-backslash : 1 ≤ bitXor x 0x5C
+  clear-backslash = leb-true _ _ (and-left (leb 1 (bitXor x 0x5C)) _ (and-right (leb 1 (bitXor x 0x22)) _ clear-rest))
+
+  clear-control : 0x20 ≤ x
+  clear-control = leb-true _ _ (and-right (leb 1 (bitXor x 0x5C)) _ (and-right (leb 1 (bitXor x 0x22)) _ clear-rest))
 
 -- ---- eight bytes
 
 -- eight times the byte c
-abbrev eight : ℕ → ℕ
+abbrev pub eight : ℕ → ℕ
 eight c = joined 8 (λ k. c)
 
-byte-eight : (c : ℕ) → c < 256 → (k : ℕ) → k < 8 → byte k (eight c) ≡ c
+pub byte-eight : (c : ℕ) → c < 256 → (k : ℕ) → k < 8 → byte k (eight c) ≡ c
 byte-eight c h = byte-joined 8 (λ k. c) (λ k. h)
 
-module _ (w : ℕ) where
-  low : (k : ℕ) → k < 8 → byte k (bitAnd w (eight 0x7F)) ≡ bitAnd (byte k w) 0x7F
-  low k h = byte-and k w (eight 0x7F) ∙ ap (bitAnd (byte k w)) (byte-eight 0x7F (lit< tt) k h)
+-- a number less eight times the byte y, as far as no byte takes from the next
+less-eight : (a d y : ℕ) → y < 256 → (d + eight y) % 2 ^ 64 ≡ a → (k : ℕ) → k < 8 → ((j : ℕ) → j < k → y ≤ byte j a) → byte k d ≡ less (byte k a) y
+less-eight a d y l e k h f =
+    byte-less k 8 a (eight y) d h e (λ j m. omega (arith, byte-eight y l j (omega arith), f j m)) ∙ ap (less (byte k a)) (byte-eight y l k h)
 
-  high : (k : ℕ) → k < 8 → byte k (bitAnd w (eight 0x80)) ≡ bitAnd (byte k w) 0x80
-  high k h = byte-and k w (eight 0x80) ∙ ap (bitAnd (byte k w)) (byte-eight 0x80 (lit< tt) k h)
-
-  -- not the byte q
-  module _ (q : ℕ) (l : q < 128) where
-    other : (k : ℕ) → k < 8 → byte k (bitXor (bitAnd w (eight 0x7F)) (eight q)) ≡ bitXor (bitAnd (byte k w) 0x7F) q
-    other k h = byte-xor k (bitAnd w (eight 0x7F)) (eight q) ∙ ap₂ bitXor (low k h) (byte-eight q (omega arith) k h)
-
-    other-lt : (k : ℕ) → bitXor (bitAnd (byte k w) 0x7F) q < 128
-    other-lt k = xor-lt 7 (bitAnd (byte k w) 0x7F) q (omega (arith, and-le-r (byte k w) 0x7F)) l
-
-    test : (k : ℕ) → k < 8 → byte k (bitXor (bitAnd w (eight 0x7F)) (eight q) + eight 0x7F) ≡ bitXor (bitAnd (byte k w) 0x7F) q + 0x7F
-    test k h =
-        byte-add k (bitXor (bitAnd w (eight 0x7F)) (eight q)) (eight 0x7F) (λ j m. omega (arith, other j (omega arith), other-lt j, byte-eight 0x7F (lit< tt) j (omega arith)))
-        ∙ ap₂ (λ (x y : ℕ). x + y) (other k h) (byte-eight 0x7F (lit< tt) k h)
-
-  lifted : (k : ℕ) → k < 8 → byte k (bitAnd w (eight 0x7F) + eight 0x60) ≡ bitAnd (byte k w) 0x7F + 0x60
-  lifted k h =
-      byte-add k (bitAnd w (eight 0x7F)) (eight 0x60) (λ j m. omega (arith, low j (omega arith), and-le-r (byte j w) 0x7F, byte-eight 0x60 (lit< tt) j (omega arith)))
-      ∙ ap₂ (λ (x y : ℕ). x + y) (low k h) (byte-eight 0x60 (lit< tt) k h)
-
+-- the differences of a number w: less the quotes, the backslashes and the spaces
+module _ (w q b c : ℕ)
+    (quotes : (q + eight 1) % 2 ^ 64 ≡ bitXor w (eight 0x22))
+    (backslashes : (b + eight 1) % 2 ^ 64 ≡ bitXor w (eight 0x5C))
+    (controls : (c + eight 0x20) % 2 ^ 64 ≡ w) where
   abbrev marked : ℕ
-  marked = marks (eight 0x80) (eight 0x7F) (eight 0x22) (eight 0x5C) (eight 0x60) w
+  marked = bitAnd (bitOr (bitOr q b) c) (eight 0x80)
 
-  byte-marked : (k : ℕ) → k < 8 → byte k marked ≡ mark (byte k w)
-  byte-marked k h =
-      let u = byte-eight 0x80 (lit< tt) k h in
-      byte-or k _ _ ∙ ap₂ bitOr
-      (byte-xor k _ _ ∙ ap₂ bitXor
-      (byte-and k _ _ ∙ ap₂ bitAnd
-      (byte-and k _ _ ∙ ap₂ bitAnd
-      (byte-and k _ _ ∙ ap₂ bitAnd (test 0x22 (lit< tt) k h) (test 0x5C (lit< tt) k h))
-      (lifted k h))
-      u)
-      u)
-      (high k h)
+  other : (y : ℕ) → y < 256 → (k : ℕ) → k < 8 → byte k (bitXor w (eight y)) ≡ bitXor (byte k w) y
+  other y l k h = byte-xor k w (eight y) ∙ ap (bitXor (byte k w)) (byte-eight y l k h)
 
-  pub plain-marked : Plain w (trailingZeros 64 marked / 8)
-  plain-marked k h =
-      plain-unmarked (byte k w) (byte-lt k w) (sym (byte-marked k (omega (arith, trailing-le 64 marked))) ∙ byte-zeros k 64 marked h)
+  -- byte k, where those below it are clear
+  module _ (k : ℕ) (h : k < 8) (below : (j : ℕ) → j < k → clear (byte j w) ≡ true) where
+    byte-quotes : byte k q ≡ less (bitXor (byte k w) 0x22) 1
+    byte-quotes =
+        less-eight _ q 1 (lit< tt) quotes k h (λ j m. omega (arith, other 0x22 (lit< tt) j (omega arith), clear-quote (byte j w) (below j m)))
+        ∙ ap (λ (x : ℕ). less x 1) (other 0x22 (lit< tt) k h)
+
+    byte-backslashes : byte k b ≡ less (bitXor (byte k w) 0x5C) 1
+    byte-backslashes =
+        less-eight _ b 1 (lit< tt) backslashes k h (λ j m. omega (arith, other 0x5C (lit< tt) j (omega arith), clear-backslash (byte j w) (below j m)))
+        ∙ ap (λ (x : ℕ). less x 1) (other 0x5C (lit< tt) k h)
+
+    byte-controls : byte k c ≡ less (byte k w) 0x20
+    byte-controls = less-eight w c 0x20 (lit< tt) controls k h (λ j m. clear-control (byte j w) (below j m))
+
+    byte-marked : byte k marked ≡ mark (byte k w)
+    byte-marked =
+        byte-and k _ _ ∙ ap₂ bitAnd
+        (byte-or k _ _ ∙ ap₂ bitOr (byte-or k _ _ ∙ ap₂ bitOr byte-quotes byte-backslashes) byte-controls)
+        (byte-eight 0x80 (lit< tt) k h)
+
+  clear-below : (n : ℕ) → n ≤ zeros marked → (k : ℕ) → k < n → clear (byte k w) ≡ true
+  clear-below zero h k l = absurd (omega arith)
+  clear-below (suc n) h k l =
+      clear-unmarked (byte k w) (byte-lt k w)
+      (sym (byte-marked k (omega (arith, zeros-le marked)) (λ j m. clear-below n (omega arith) j (omega arith))) ∙ byte-zeros k marked (omega arith))
+
+  pub plain-marked : Plain w (zeros marked)
+  plain-marked k h = clear-plain (byte k w) (clear-below (zeros marked) (omega arith) k h)

@@ -1,7 +1,7 @@
--- Laws of numbers as bytes: what is done to a number is done to each byte, where no sum passes over.
+-- Laws of numbers as bytes: what is done to a number is done to each byte, where no difference takes from the next.
 use mathlib.Core.Path.{_≡_, refl, sym, ap, ap₂, _∙_}
 use mathlib.Core.List.{List}
-use Prim.Native.Nat.{ℕ, zero, suc, _+_, _*_, _/_, _%_, _^_, _≤_, _<_}
+use Prim.Native.Nat.{ℕ, zero, suc, _+_, _-_, _*_, _/_, _%_, _^_, _≤_, _<_}
 use native.Mathlib.Nat.{mod-lt, mod-one, pow-suc, le-of-suc-le-suc}
 use native.Mathlib.Omega.{arith}
 use lib.Dec.{lit<}
@@ -9,8 +9,8 @@ use lib.Arith.{mod-mul, digits-div, digits-mod}
 use lib.Pow.{pow-pos, mod-pow-add}
 use lib.ListN.{getD}
 use lib.Bits.{bitAnd, bitOr, bitXor, and-shr, or-shr, xor-shr, and-mod, or-mod, xor-mod, and-le-l, and-le-r, xor-add-and}
-use lib.Count.{under, trailingZeros}
-use Rattle.octets.specs.Words.{byte, Eight, Same}
+use lib.Count.{under, trailingZeros, trailing-of-zero, trailing-le}
+use Rattle.octets.specs.Words.{byte, Eight, zeros, Same}
 
 -- ---- bytes put together
 
@@ -80,14 +80,32 @@ byte-or = byte-op bitOr or-shr or-mod
 pub byte-xor : (k a b : ℕ) → byte k (bitXor a b) ≡ bitXor (byte k a) (byte k b)
 byte-xor = byte-op bitXor xor-shr xor-mod
 
--- sums that stay within each byte
-pub byte-add : (k a b : ℕ) → ((j : ℕ) → j ≤ k → byte j a + byte j b < 256) → byte k (a + b) ≡ byte k a + byte k b
+-- a byte less another, around 256
+abbrev pub less : ℕ → ℕ → ℕ
+less x y = (x + (256 - y)) % 256
+
+less-sum : (x y : ℕ) → x < 256 → y < 256 → x ≡ less ((x + y) % 256) y
+less-sum x y h k = omega arith
+
+less-lowest : (n a b d : ℕ) → (d + b) % 2 ^ (suc n * 8) ≡ a → a ≡ ((d + b) / 256 % 2 ^ (n * 8)) * 256 + (d + b) % 256
+less-lowest n a b d e =
+    let p : suc n * 8 ≡ n * 8 + 8 = omega arith in
+    sym e ∙ ap (λ (m : ℕ). (d + b) % 2 ^ m) p ∙ mod-pow-add (d + b) (n * 8) 8
+
+-- a difference d of n bytes, as far as no byte takes from the next
+pub byte-less : (k n a b d : ℕ) → k < n → (d + b) % 2 ^ (n * 8) ≡ a → ((j : ℕ) → j < k → byte j b ≤ byte j a) → byte k d ≡ less (byte k a) (byte k b)
 unfolding byte
-byte-add zero a b h = let l : a % 256 + b % 256 < 256 = h 0 (omega arith) in omega arith
-byte-add (suc k) a b h =
-    let l : a % 256 + b % 256 < 256 = h 0 (omega arith) in
-    let e : (a + b) / 256 ≡ a / 256 + b / 256 = omega arith in
-    ap (byte k) e ∙ byte-add k (a / 256) (b / 256) (λ j m. h (suc j) (omega arith))
+byte-less k zero a b d l e f = absurd (omega arith)
+byte-less zero (suc n) a b d l e f =
+    let s = less-lowest n a b d e in
+    let g : (d % 256 + b % 256) % 256 ≡ a % 256 = omega arith in
+    less-sum (d % 256) (b % 256) (omega arith) (omega arith) ∙ ap (λ (x : ℕ). less x (b % 256)) g
+byte-less (suc k) (suc n) a b d l e f =
+    let s = less-lowest n a b d e in
+    let t : b % 256 ≤ a % 256 = f 0 (omega arith) in
+    let g : d / 256 + b / 256 ≡ (d + b) / 256 = omega arith in
+    let h : (d + b) / 256 % 2 ^ (n * 8) ≡ a / 256 = omega arith in
+    byte-less k n (a / 256) (b / 256) (d / 256) (omega arith) (ap (λ (x : ℕ). x % 2 ^ (n * 8)) g ∙ h) (λ j m. f (suc j) (omega arith))
 
 -- ---- the zeros that a number ends in
 
@@ -111,14 +129,22 @@ byte-zero (suc k) x e =
     let f : (x / 256 % 2 ^ (k * 8 + 8)) * 256 + x % 256 ≡ 0 = sym (mod-pow-add x (k * 8 + 8) 8) ∙ ap (λ (m : ℕ). x % 2 ^ m) (sym p) ∙ e in
     byte-zero k (x / 256) (omega arith)
 
--- as many bytes as eights of such zeros are zero
-pub byte-zeros : (k n x : ℕ) → k < trailingZeros n x / 8 → byte k x ≡ 0
-byte-zeros k n x h = byte-zero k x (zeros-mod (k * 8 + 8) n x (omega arith))
+pub byte-zeros : (k x : ℕ) → k < zeros x → byte k x ≡ 0
+unfolding zeros
+byte-zeros k x h = byte-zero k x (zeros-mod (k * 8 + 8) 64 x (omega arith))
+
+pub zeros-le : (x : ℕ) → zeros x ≤ 8
+unfolding zeros
+zeros-le x = omega (arith, trailing-le 64 x)
+
+pub zeros-all : (x : ℕ) → x ≡ 0 → zeros x ≡ 8
+unfolding zeros
+zeros-all x e = omega (arith, ap (trailingZeros 64) e ∙ trailing-of-zero 64)
 
 -- ---- two numbers side by side
 
 xor-equal : (a b : ℕ) → bitXor a b ≡ 0 → a ≡ b
 xor-equal a b e = omega (arith, xor-add-and a b, and-le-l a b, and-le-r a b)
 
-pub same-xor : (n a b : ℕ) → Same a b (trailingZeros n (bitXor a b) / 8)
-same-xor n a b k h = xor-equal (byte k a) (byte k b) (sym (byte-xor k a b) ∙ byte-zeros k n (bitXor a b) h)
+pub same-xor : (a b : ℕ) → Same a b (zeros (bitXor a b))
+same-xor a b k h = xor-equal (byte k a) (byte k b) (sym (byte-xor k a b) ∙ byte-zeros k (bitXor a b) h)

@@ -1,18 +1,25 @@
-// Eight bytes as one number of 64 bits, the first byte the lowest. What is done to the number is done to each byte: no sum passes over into the next.
+// Eight bytes as one number of 64 bits, the first byte the lowest. What is done to the number is done to each byte.
+ghost use mathlib.Core.Path.{_≡_};
 ghost use Prim.Native.Nat.{_≤_, _+_};
 ghost use lib.ListN.{length};
-ghost use Rattle.octets.specs.Words.{Eight, Same, Plain};
+ghost use Rattle.octets.specs.Words.{Eight, zeros, Same, Plain, Digits};
 
 const HIGHS: u64 = 0x8080808080808080;
 
 const LOWS: u64 = 0x7F7F7F7F7F7F7F7F;
 
+const ONES: u64 = 0x0101010101010101;
+
+const SPACES: u64 = 0x2020202020202020;
+
 const QUOTES: u64 = 0x2222222222222222;
 
 const BACKSLASHES: u64 = 0x5C5C5C5C5C5C5C5C;
 
-// What lifts a byte from 0x20 on over 0x7F.
-const LIFTS: u64 = 0x6060606060606060;
+const ZEROS: u64 = 0x3030303030303030;
+
+// What lifts a byte from 10 on over 0x7F.
+const TENS: u64 = 0x7676767676767676;
 
 // The eight bytes from i on.
 pub fn word_at(s: &[u8], i: usize) -> u64
@@ -29,24 +36,42 @@ pub fn word_at(s: &[u8], i: usize) -> u64
         + (s[i + 7] as u64) * 0x100000000000000
 }
 
-// So many first bytes two have in common: only where they are the same is their `^` zero.
+// So many first bytes of a number are zero, eight where all are.
+pub fn zero_bytes(m: u64) -> usize
+    ensures { λ r. ⌜ (r ≤ 8) × (r ≡ zeros m) ⌝ }
+{
+    (u64::trailing_zeros(m) / 8) as usize
+}
+
+// Zero in the first bytes that two have in common.
+pub fn differ(a: u64, b: u64) -> u64
+    ensures { λ r. ⌜ Same a b (zeros r) ⌝ }
+{
+    a ^ b
+}
+
+// So many first bytes two have in common.
 pub fn common_in(a: u64, b: u64) -> usize
     ensures { λ r. ⌜ (r ≤ 8) × Same a b r ⌝ }
 {
-    (u64::trailing_zeros(a ^ b) / 8) as usize
+    zero_bytes(differ(a, b))
 }
 
-// So many first bytes are plain characters: from 0x20 on, below 0x80, and neither the quote nor the backslash. What a byte is not shows in its
-// highest bit.
-pub fn plain_in(w: u64) -> usize
-    ensures { λ r. ⌜ (r ≤ 8) × Plain w r ⌝ }
+// Zero in the first bytes that are plain characters: from 0x20 on, below 0x80, and neither the quote nor the backslash. What a byte is not shows
+// in the highest bit of a difference. One below zero takes from the byte above, so that only the marks up to the first tell something.
+pub fn stops(w: u64) -> u64
+    ensures { λ r. ⌜ Plain w (zeros r) ⌝ }
 {
-    let high = w & HIGHS;
-    let low = w & LOWS;
-    let no_quote = (low ^ QUOTES) + LOWS;
-    let no_backslash = (low ^ BACKSLASHES) + LOWS;
-    let no_control = low + LIFTS;
-    let good = no_quote & no_backslash & no_control & HIGHS;
-    let bad = (good ^ HIGHS) | high;
-    (u64::trailing_zeros(bad) / 8) as usize
+    let quotes = std::num::wrapping_sub_u64(w ^ QUOTES, ONES);
+    let backslashes = std::num::wrapping_sub_u64(w ^ BACKSLASHES, ONES);
+    let controls = std::num::wrapping_sub_u64(w, SPACES);
+    (quotes | backslashes | controls) & HIGHS
+}
+
+// Zero in the first bytes that are digits. Without the bits of the digit zero these are below 10; what a byte is not shows in its highest bit.
+pub fn non_digits(w: u64) -> u64
+    ensures { λ r. ⌜ Digits w (zeros r) ⌝ }
+{
+    let x = w ^ ZEROS;
+    (((x & LOWS) + TENS) | x) & HIGHS
 }

@@ -2,8 +2,11 @@
 mod eights;
 
 use eights::common_in;
-pub use eights::plain_in;
+use eights::differ;
+pub use eights::non_digits;
+pub use eights::stops;
 pub use eights::word_at;
+pub use eights::zero_bytes;
 ghost use Prim.Native.Nat.{_≤_, _+_};
 ghost use lib.ListN.{length};
 ghost use Rattle.octets.specs.Alike.{Alike};
@@ -31,7 +34,24 @@ fn common_few(s: &[u8], i: usize, t: &[u8], j: usize, room: usize) -> usize
     n
 }
 
-// So many bytes, at most `room`, the text s from i on and the text t from j on have in common. The last eight may begin among those before.
+// By eights, of which the last may begin among those before.
+fn common_long(s: &[u8], i: usize, t: &[u8], j: usize, room: usize) -> usize
+    requires { ⌜ (8 ≤ room) × (i + room ≤ length (now s)) × (j + room ≤ length (now t)) ⌝ }
+    ensures { λ r. ⌜ (r ≤ room) × Alike (now (s .entry)) i (now (t .entry)) j r ⌝ }
+{
+    let last = room - 8;
+    let mut n = 0;
+    while n < last {
+        let d = differ(word_at(s, i + n), word_at(t, j + n));
+        if d != 0 {
+            return n + zero_bytes(d);
+        }
+        n += 8;
+    }
+    last + common_eight(s, i + last, t, j + last)
+}
+
+// So many bytes, at most `room`, the text s from i on and the text t from j on have in common.
 pub fn common(s: &[u8], i: usize, t: &[u8], j: usize, room: usize) -> usize
     requires { ⌜ (i + room ≤ length (now s)) × (j + room ≤ length (now t)) ⌝ }
     ensures { λ r. ⌜ (r ≤ room) × Alike (now (s .entry)) i (now (t .entry)) j r ⌝ }
@@ -39,14 +59,5 @@ pub fn common(s: &[u8], i: usize, t: &[u8], j: usize, room: usize) -> usize
     if room < 8 {
         return common_few(s, i, t, j, room);
     }
-    let last = room - 8;
-    let mut n = 0;
-    while n < last {
-        let k = common_eight(s, i + n, t, j + n);
-        if k < 8 {
-            return n + k;
-        }
-        n += 8;
-    }
-    last + common_eight(s, i + last, t, j + last)
+    common_long(s, i, t, j, room)
 }

@@ -34,12 +34,12 @@ pub fn scan_string(s: &[u8], at: usize) -> Spelling
             return Spelling::Plain(i + 1);
         }
         if b == BACKSLASH {
-            let Next::At(j) = characters::skip_chars(s, i) else {
+            let Next::At(j) = characters::skip_chars(&s[0..], i) else { // handed on anew: it stays in registers here
                 return Spelling::Bad;
             };
             return Spelling::Escaped(j);
         }
-        let Next::At(k) = characters::skip_unescaped(s, i) else {
+        let Next::At(k) = characters::skip_unescaped(&s[0..], i) else {
             return Spelling::Bad;
         };
         i = skip_plain(s, k);

@@ -132,7 +132,7 @@ module _ (s : Text) (i : ℕ) {t : Text} {j end : ℕ} (w : Raw t j end) where
       (flat-at-itself s (i + n) h (λ p. q (sym e ∙ p)) (λ p. b (sym e ∙ p)))
       (flat-at-itself t (j + n) (omega (arith, w .high)) q b) e
 
-  pub common-raw : (n : ℕ) → i + n ≤ length s → j + n ≤ end → Alike s i t j n → Whole t j n → Common s i t j n
+  common-raw : (n : ℕ) → i + n ≤ length s → j + n ≤ end → Alike s i t j n → Whole t j n → Common s i t j n
   common-raw zero h l a v = common-start (omega arith) (omega (arith, w .high))
   common-raw (suc zero) h l a v =
       common-itself (common-start (omega arith) (omega (arith, w .high))) (omega arith) (omega arith) (a 0 (omega arith)) (v 0 (omega arith))
@@ -153,6 +153,11 @@ module _ (s : Text) (i : ℕ) {t : Text} {j end : ℕ} (w : Raw t j end) where
 
       here : (k : ℕ) → k + 1 ≡ suc n → (getD t (j + n) 0 ≡ 0x5C → ⊥) → getD t (j + k) 0 ≡ 0x5C → ⊥
       here k q x f = let p : n ≡ k = omega arith in x (ap (λ (m : ℕ). getD t (j + m) 0) p ∙ f)
+
+  -- as far as both are looked at, `room` bytes, n are alike, and m of them are whole
+  pub common-whole : {room n m : ℕ} → i < length s → (room ≤ end - j) × (room ≤ length s - i) → (n ≤ room) × Alike s i t j n → (m ≤ n) × Whole t j m → Common s i t j m
+  common-whole {room} {n} {m} h r a v =
+      common-raw m (omega (arith, r .1, a .0, v .0)) (omega (arith, w .low, r .0, a .0, v .0)) (λ k l. a .1 k (omega (arith, v .0))) (v .1)
 
   module _ {n : ℕ} (h : i + n < length s) (l : j + n < end) (a : Alike s i t j n) (b : Tells (getD s (i + n) 0) (getD t (j + n) 0)) where
     common-told : Common s i t j n

@@ -1,8 +1,11 @@
 -- Two strings met byte by byte, as a reader meets them.
 use mathlib.Core.Path.{_≡_, refl, sym, ap, _∙_}
 use mathlib.Core.List.{[], _∷_}
-use Prim.Native.Nat.{ℕ, _<_}
-use lib.ListN.{drop}
+use Prim.Native.Nat.{ℕ, _-_, _<_}
+use native.Mathlib.Omega.{arith}
+use lib.ListN.{length, take, drop}
+use Rattle.facts.specs.Parts.{part}
+use Rattle.facts.proofs.Parts.{part-whole}
 use Rattle.rules.specs.Bytes.{Bytes, same, Order as rOrder, less, equal, more, order, isEqual}
 use Rattle.rules.specs.Json.Text.{Text}
 use Rattle.rules.proofs.Order.{order-cons-less, order-cons-more, order-cons-equal, same-order}
@@ -50,3 +53,11 @@ same-answer x y r e = ap (λ (o : Order). isEqual (orderOf o)) e ∙ ap isEqual 
 pub order-decoded : {s t : Text} {i j : ℕ} → WellSpelled s i → WellSpelled t j
     → order (flat (drop i s)) (flat (drop j t)) ≡ order (decoded (drop i s)) (decoded (drop j t))
 order-decoded {s} {t} {i} {j} v w = ap (λ (x : Bytes). order x (flat (drop j t))) (well-flat v) ∙ ap (order (decoded (drop i s))) (well-flat w)
+
+-- ---- texts that are handed on anew, as their part from 0 on
+
+pub order-anew : (s t : Text) (i j : ℕ) → order (flat (drop i (take (length s - 0) s))) (flat (drop j (take (length t - 0) t))) ≡ order (flat (drop i s)) (flat (drop j t))
+unfolding part
+order-anew s t i j =
+    ap (λ (x : Text). order (flat (drop i x)) (flat (drop j (take (length t - 0) t)))) (part-whole s (length s) (omega arith))
+    ∙ ap (λ (x : Text). order (flat (drop i s)) (flat (drop j x))) (part-whole t (length t) (omega arith))

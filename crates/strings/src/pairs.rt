@@ -152,7 +152,8 @@ pub fn order_raw(s: &[u8], i: usize, t: &[u8], j: usize, end: usize) -> Order
         }
     }
     let m = whole(t, j, end, n);
-    order_rests(s, i + m, t, j + m)
+    // Handed on anew, so that the compiler keeps both texts in registers here.
+    order_rests(&s[0..], i + m, &t[0..], j + m)
 }
 
 // The same where that is not known.
@@ -161,7 +162,10 @@ pub fn order_strings(s: &[u8], i: usize, t: &[u8], j: usize) -> Order
     ensures { λ r. ⌜ r ≡ orderIs (order (decoded (drop i (now (s .entry)))) (decoded (drop j (now (t .entry))))) ⌝ }
 {
     let end = raw_end(t, j);
-    order_raw(s, i, t, j, end)
+    let room = lesser(end - j, s.len() - i);
+    let n = octets::common(s, i, t, j, room);
+    let m = whole(t, j, end, n);
+    order_rests(s, i + m, t, j + m)
 }
 
 // Whether the string in s behind i and the string in t behind j stand for the same bytes.

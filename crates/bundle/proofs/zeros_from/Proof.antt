@@ -2,7 +2,7 @@
 use native.Mathlib.Omega.{arith}
 use Rattle.bundle.proofs.zeros_from.Statement.{statement}
 use Rattle.bundle.proofs.zeros_from.Tie as tie
-use mathlib.Core.Path.{_≡_, refl, sym, _∙_}
+use mathlib.Core.Path.{_≡_, sym, _∙_}
 use Prim.Native.Nat.{_-_}
 use lib.ListN.{length, drop}
 use Rattle.rules.specs.Bundle.{zeros}
@@ -14,14 +14,17 @@ Inv-loop p at i₀ i = zeros (drop at p) ≡ zeros (drop i p)
 abbrev μ-loop : tie.MeasureT-loop
 μ-loop p at i₀ i = length p - i
 
+skip-zeros-requires : tie.Need-skip-zeros-requires Inv-loop μ-loop
+skip-zeros-requires c κs = c .before .pre
+
 loop-holds : tie.Need-loop-holds Inv-loop μ-loop
-loop-holds c = refl
+loop-holds c = c .skip-zeros .ensures .1
 
 shared-slice-read-if1 : tie.Need-shared-slice-read-if1 Inv-loop μ-loop
 shared-slice-read-if1 c = omega arith
 
 returns : tie.Need-returns Inv-loop μ-loop
-returns c = sym (c .before .before .before .loop .inv ∙ zeros-other (c .before .before .before .before .args .p .now) (c .before .before .before .loop .i) (omega arith) (c .if1 .taken))
+returns c = sym (c .before .before .before .loop .inv ∙ zeros-other (c .before .before .before .before .before .before .args .p .now) (c .before .before .before .loop .i) (omega arith) (c .if1 .taken))
 
 add-i : tie.Need-add-i Inv-loop μ-loop
 add-i c = omega arith
@@ -30,10 +33,10 @@ loop-less : tie.Need-loop-less Inv-loop μ-loop
 loop-less c = omega arith
 
 loop-again : tie.Need-loop-again Inv-loop μ-loop
-loop-again c = c .before .before .before .loop .inv ∙ zeros-more (c .before .before .before .before .args .p .now) (c .before .before .before .loop .i) (omega arith) (c .if1 .left)
+loop-again c = c .before .before .before .loop .inv ∙ zeros-more (c .before .before .before .before .before .before .args .p .now) (c .before .before .before .loop .i) (omega arith) (c .if1 .left)
 
 returns-2 : tie.Need-returns-2 Inv-loop μ-loop
-returns-2 c = sym (c .before .loop .inv ∙ zeros-end (c .before .before .args .p .now) (c .before .loop .i) (omega arith))
+returns-2 c = sym (c .before .loop .inv ∙ zeros-end (c .before .before .before .before .args .p .now) (c .before .loop .i) (omega arith))
 
 pub zeros-from-spec : {M : Type 1} → statement M
 zeros-from-spec =
@@ -41,6 +44,7 @@ zeros-from-spec =
     (tie.spec
     Inv-loop
     μ-loop
+    skip-zeros-requires
     loop-holds
     shared-slice-read-if1
     returns

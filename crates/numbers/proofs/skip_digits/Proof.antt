@@ -5,7 +5,8 @@ use lib.ListN.{length}
 use mathlib.Core.Path.{sym, _∙_}
 use native.Mathlib.Omega.{arith}
 use Rattle.rules.specs.Json.Numbers.{digits}
-use Rattle.text.proofs.Runs.{digits-run, Running, running-start, running-more, running-stop, running-ended}
+use Rattle.text.proofs.Runs.{digits-run, Running, running-more, running-stop, running-ended}
+use Rattle.numbers.proofs.Eights.{passed-running}
 use Rattle.numbers.proofs.skip_digits.Statement.{statement}
 use Rattle.numbers.proofs.skip_digits.Tie as tie
 
@@ -15,8 +16,11 @@ Inv-loop s at i₀ i = Running digits s at i
 abbrev μ-loop : tie.MeasureT-loop
 μ-loop s at i₀ i = length s - i
 
+skip-eights-requires : tie.Need-skip-eights-requires Inv-loop μ-loop
+skip-eights-requires c κs = c .before .pre
+
 loop-holds : tie.Need-loop-holds Inv-loop μ-loop
-loop-holds c = running-start (c .before .pre)
+loop-holds c = passed-running (c .skip-eights .ensures)
 
 shared-slice-read-is-digit : tie.Need-shared-slice-read-is-digit Inv-loop μ-loop
 shared-slice-read-is-digit c = search needs
@@ -45,6 +49,7 @@ skip-digits-spec =
     (tie.spec
     Inv-loop
     μ-loop
+    skip-eights-requires
     loop-holds
     shared-slice-read-is-digit
     is-digit-requires

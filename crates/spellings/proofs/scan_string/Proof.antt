@@ -1,10 +1,13 @@
 -- `scan_string` meets its contract. As far as it went the string is spelled as it stands.
 use Prim.Native.Nat.{_+_, _-_, _≤_}
 use borrow.Author.Needs.{needs}
-use lib.ListN.{length}
+use lib.ListN.{length, drop}
 use mathlib.Core.Path.{subst}
 use native.Mathlib.Omega.{arith}
+use Rattle.rules.specs.Json.Text.{behind}
+use Rattle.rules.specs.Json.Strings.{unescaped, string}
 use Rattle.text.specs.Answers.{Answer}
+use Rattle.text.proofs.Places.{within-anew, answer-anew}
 use Rattle.spellings.proofs.Scanning.{Scanning, scanning-start, scanning-no-rest, scanning-ended, scanning-quote, scanning-backslash, scanning-bad, scanning-more, scanning-run}
 use Rattle.spellings.proofs.scan_string.Statement.{statement}
 use Rattle.spellings.proofs.scan_string.Tie as tie
@@ -42,8 +45,17 @@ add-t16 c = omega arith
 returns-3 : tie.Need-returns-3 Inv-loop μ-loop
 returns-3 c = scanning-quote (c .before .before .before .loop .inv) (c .before .before .loop-test .taken) (c .if3 .taken)
 
+sub-skip-chars : tie.Need-sub-skip-chars Inv-loop μ-loop
+sub-skip-chars c = search needs
+
+part-skip-chars-start : tie.Need-part-skip-chars-start Inv-loop μ-loop
+part-skip-chars-start c = search needs
+
+part-skip-chars-end : tie.Need-part-skip-chars-end Inv-loop μ-loop
+part-skip-chars-end c = search needs
+
 skip-chars-requires : tie.Need-skip-chars-requires Inv-loop μ-loop
-skip-chars-requires c κs = c .before .before .before .before .loop .inv .within
+skip-chars-requires c κs = within-anew (c .before .before .before .before .before .before .before .before .before .before .before .args .s .now) _ (c .before .before .before .before .before .loop .inv .within)
 
 enum-known-j : tie.Need-enum-known-j Inv-loop μ-loop
 enum-known-j c = search needs
@@ -51,14 +63,27 @@ enum-known-j c = search needs
 enum-told : tie.Need-enum-told Inv-loop μ-loop
 enum-told c = search needs
 
+-- what the characters from the backslash on answer
+chars-answer : (c : tie.After-skip-chars Inv-loop μ-loop) → Answer (behind (string (drop (c .before .before .before .before .before .before .loop .i) (c .before .before .before .before .before .before .before .before .before .before .before .before .args .s .now)))) (c .before .before .before .before .before .before .before .before .before .before .before .before .args .s .now) (c .before .before .before .before .before .before .loop .i + 1) (c .skip-chars .result)
+chars-answer c = answer-anew (λ t. behind (string t)) (c .before .before .before .before .before .before .before .before .before .before .before .before .args .s .now) (c .before .before .before .before .before .before .loop .i) (c .skip-chars .result) (c .skip-chars .ensures)
+
 returns-4 : tie.Need-returns-4 Inv-loop μ-loop
-returns-4 c = scanning-no-rest (c .before .before .before .before .before .before .before .loop .inv) (subst (Answer _ _ _) (c .enum-told .given .1) (c .before .before .skip-chars .ensures))
+returns-4 c = scanning-no-rest (c .before .before .before .before .before .before .before .before .loop .inv) (subst (Answer _ _ _) (c .enum-told .given .1) (chars-answer (c .before .before)))
 
 returns-5 : tie.Need-returns-5 Inv-loop μ-loop
-returns-5 c = scanning-backslash (c .before .before .before .before .before .before .before .before .loop .inv) (c .before .before .before .before .before .before .before .loop-test .taken) (c .before .j .given .0 .0) (c .before .before .before .before .if4 .taken) (subst (Answer _ _ _) (c .before .j .given .1) (c .before .before .before .skip-chars .ensures))
+returns-5 c = scanning-backslash (c .before .before .before .before .before .before .before .before .before .loop .inv) (c .before .before .before .before .before .before .before .before .loop-test .taken) (c .before .j .given .0 .0) (c .before .before .before .before .before .if4 .taken) (subst (Answer _ _ _) (c .before .j .given .1) (chars-answer (c .before .before .before)))
+
+sub-skip-unescaped : tie.Need-sub-skip-unescaped Inv-loop μ-loop
+sub-skip-unescaped c = search needs
+
+part-skip-unescaped-start : tie.Need-part-skip-unescaped-start Inv-loop μ-loop
+part-skip-unescaped-start c = search needs
+
+part-skip-unescaped-end : tie.Need-part-skip-unescaped-end Inv-loop μ-loop
+part-skip-unescaped-end c = search needs
 
 skip-unescaped-requires : tie.Need-skip-unescaped-requires Inv-loop μ-loop
-skip-unescaped-requires c κs = c .before .before .before .before .loop .inv .within
+skip-unescaped-requires c κs = within-anew (c .before .before .before .before .before .before .before .before .before .before .before .args .s .now) _ (c .before .before .before .before .before .loop .inv .within)
 
 enum-known-k : tie.Need-enum-known-k Inv-loop μ-loop
 enum-known-k c = search needs
@@ -66,23 +91,27 @@ enum-known-k c = search needs
 enum-told-2 : tie.Need-enum-told-2 Inv-loop μ-loop
 enum-told-2 c = search needs
 
+-- what the character answers
+char-answer : (c : tie.After-skip-unescaped Inv-loop μ-loop) → Answer (unescaped (drop (c .before .before .before .before .before .before .loop .i) (c .before .before .before .before .before .before .before .before .before .before .before .before .args .s .now))) (c .before .before .before .before .before .before .before .before .before .before .before .before .args .s .now) (c .before .before .before .before .before .before .loop .i + 1) (c .skip-unescaped .result)
+char-answer c = answer-anew unescaped (c .before .before .before .before .before .before .before .before .before .before .before .before .args .s .now) (c .before .before .before .before .before .before .loop .i) (c .skip-unescaped .result) (c .skip-unescaped .ensures)
+
 returns-6 : tie.Need-returns-6 Inv-loop μ-loop
-returns-6 c = scanning-bad (c .before .before .before .before .before .before .before .loop .inv) (c .before .before .before .before .before .before .loop-test .taken) (c .before .before .before .before .if3 .left) (c .before .before .before .if4 .left) (subst (Answer _ _ _) (c .enum-told2 .given .1) (c .before .before .skip-unescaped .ensures))
+returns-6 c = scanning-bad (c .before .before .before .before .before .before .before .before .loop .inv) (c .before .before .before .before .before .before .before .loop-test .taken) (c .before .before .before .before .before .if3 .left) (c .before .before .before .before .if4 .left) (subst (Answer _ _ _) (c .enum-told2 .given .1) (char-answer (c .before .before)))
 
 skip-plain-requires-2 : tie.Need-skip-plain-requires-2 Inv-loop μ-loop
-skip-plain-requires-2 c κs = (subst (Answer _ _ _) (c .before .k .given .1) (c .before .before .before .skip-unescaped .ensures)) .2
+skip-plain-requires-2 c κs = (subst (Answer _ _ _) (c .before .k .given .1) (char-answer (c .before .before .before))) .2
 
 loop-less : tie.Need-loop-less Inv-loop μ-loop
 loop-less c =
-    let e = subst (Answer _ _ _) (c .before .before .k .given .1) (c .before .before .before .before .skip-unescaped .ensures) in
-    let further : c .before .before .before .before .before .before .before .before .before .loop .i + 1 ≤ c .before .before .k .given .0 .0 = e .1 in
+    let e = subst (Answer _ _ _) (c .before .before .k .given .1) (char-answer (c .before .before .before .before)) in
+    let further : c .before .before .before .before .before .before .before .before .before .before .loop .i + 1 ≤ c .before .before .k .given .0 .0 = e .1 in
     let run = c .skip-plain2 .ensures in
     omega (arith, run .0, run .1)
 
 loop-again : tie.Need-loop-again Inv-loop μ-loop
 loop-again c =
-    let e = subst (Answer _ _ _) (c .before .before .k .given .1) (c .before .before .before .before .skip-unescaped .ensures) in
-    scanning-run (scanning-more (c .before .before .before .before .before .before .before .before .before .loop .inv) (c .before .before .before .before .before .before .before .before .loop-test .taken) (c .before .before .before .before .before .before .if3 .left) (c .before .before .before .before .before .if4 .left) _ (e .0) (e .1) (e .2)) (c .skip-plain2 .ensures)
+    let e = subst (Answer _ _ _) (c .before .before .k .given .1) (char-answer (c .before .before .before .before)) in
+    scanning-run (scanning-more (c .before .before .before .before .before .before .before .before .before .before .loop .inv) (c .before .before .before .before .before .before .before .before .before .loop-test .taken) (c .before .before .before .before .before .before .before .if3 .left) (c .before .before .before .before .before .before .if4 .left) _ (e .0) (e .1) (e .2)) (c .skip-plain2 .ensures)
 
 returns-7 : tie.Need-returns-7 Inv-loop μ-loop
 returns-7 c = scanning-ended (c .before .loop .inv) (c .loop-test .left)
@@ -102,11 +131,17 @@ scan-string-spec =
     shared-slice-read-b
     add-t16
     returns-3
+    sub-skip-chars
+    part-skip-chars-start
+    part-skip-chars-end
     skip-chars-requires
     enum-known-j
     enum-told
     returns-4
     returns-5
+    sub-skip-unescaped
+    part-skip-unescaped-start
+    part-skip-unescaped-end
     skip-unescaped-requires
     enum-known-k
     enum-told-2

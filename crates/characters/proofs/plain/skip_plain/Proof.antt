@@ -1,7 +1,10 @@
 -- The invariant: what has been passed is plain. The measure is what is left. A number that is not plain as a whole ends the run within it.
+use mathlib.Core.Path.{sym, subst}
 use native.Mathlib.Omega.{arith}
 use Prim.Native.Nat.{_≤_, _-_}
 use lib.ListN.{length}
+use Rattle.octets.specs.Words.{Plain}
+use Rattle.octets.proofs.Words.{zeros-all}
 use Rattle.characters.specs.Runs.{Plains}
 use Rattle.characters.proofs.Runs.{plains-none, plains-joined, plains-eight}
 use Rattle.characters.proofs.plain.skip_plain.Statement.{statement}
@@ -22,20 +25,23 @@ sub-loop c = c .loop .inv .1
 word-at-requires : tie.Need-word-at-requires Inv-loop μ-loop
 word-at-requires c κs = omega (arith, c .loop-test .taken, c .before .loop .inv .1)
 
-plain-in-requires : tie.Need-plain-in-requires Inv-loop μ-loop
-plain-in-requires c κs = tt
+stops-requires : tie.Need-stops-requires Inv-loop μ-loop
+stops-requires c κs = tt
+
+zero-bytes-requires : tie.Need-zero-bytes-requires Inv-loop μ-loop
+zero-bytes-requires c κs = tt
 
 add-result : tie.Need-add-result Inv-loop μ-loop
-add-result c = omega (arith, c .before .before .before .before .loop .inv .1, c .before .before .before .loop-test .taken, c .before .plain-in .ensures .0)
+add-result c = omega (arith, c .before .before .before .before .before .loop .inv .1, c .before .before .before .before .loop-test .taken, c .zero-bytes .ensures .0)
 
 returns : tie.Need-returns Inv-loop μ-loop
 returns c =
-    let s = c .before .before .before .before .before .before .args .s .now in
-    let l = c .before .before .before .before .loop .inv in
-    let e = c .before .plain-in .ensures in (
+    let s = c .before .before .before .before .before .before .before .args .s .now in
+    let l = c .before .before .before .before .before .loop .inv in
+    let e = c .zero-bytes .ensures in (
       omega (arith, l .0),
-      omega (arith, l .1, c .before .before .before .loop-test .taken, e .0),
-      plains-joined s _ _ _ (l .2) (plains-eight s _ _ _ (c .before .before .word-at .ensures) (e .0) (e .1)),
+      omega (arith, l .1, c .before .before .before .before .loop-test .taken, e .0),
+      plains-joined s _ _ _ (l .2) (plains-eight s _ _ _ (c .before .before .before .word-at .ensures) (e .0) (subst (Plain _) (sym (e .1)) (c .before .before .stops .ensures))),
     )
 
 add-i : tie.Need-add-i Inv-loop μ-loop
@@ -47,11 +53,10 @@ loop-less c = omega arith
 loop-again : tie.Need-loop-again Inv-loop μ-loop
 loop-again c =
     let s = c .before .before .before .before .before .before .args .s .now in
-    let l = c .before .before .before .before .loop .inv in
-    let e = c .before .plain-in .ensures in (
+    let l = c .before .before .before .before .loop .inv in (
       omega (arith, l .0),
       omega (arith, l .1, c .before .before .before .loop-test .taken),
-      plains-joined s _ _ _ (l .2) (plains-eight s _ _ 8 (c .before .before .word-at .ensures) (omega arith) (λ k h. e .1 k (omega arith))),
+      plains-joined s _ _ _ (l .2) (plains-eight s _ _ 8 (c .before .before .word-at .ensures) (omega arith) (subst (Plain _) (zeros-all _ (c .if1 .left)) (c .before .stops .ensures))),
     )
 
 skip-few-requires : tie.Need-skip-few-requires Inv-loop μ-loop
@@ -72,7 +77,8 @@ skip-plain-spec =
     loop-holds
     sub-loop
     word-at-requires
-    plain-in-requires
+    stops-requires
+    zero-bytes-requires
     add-result
     returns
     add-i

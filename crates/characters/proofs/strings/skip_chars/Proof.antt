@@ -27,8 +27,27 @@ add-t9 c = omega arith
 returns : tie.Need-returns Inv-loop μ-loop
 returns c = (inside-quote (c .before .before .before .loop .inv) (c .before .before .loop-test .taken) (c .if1 .taken), omega arith, omega arith)
 
+is-literal-escape-requires : tie.Need-is-literal-escape-requires Inv-loop μ-loop
+is-literal-escape-requires c κs = c .before .before .before .loop .inv .within
+
+add-skip-plain : tie.Need-add-skip-plain Inv-loop μ-loop
+add-skip-plain c = omega (arith, c .before .is-literal-escape .ensures (c .if2 .taken) .2)
+
+skip-plain-requires : tie.Need-skip-plain-requires Inv-loop μ-loop
+skip-plain-requires c κs = c .before .is-literal-escape .ensures (c .if2 .taken) .2
+
+loop-less : tie.Need-loop-less Inv-loop μ-loop
+loop-less c =
+    let run = c .skip-plain .ensures in
+    omega (arith, run .0, run .1)
+
+loop-again : tie.Need-loop-again Inv-loop μ-loop
+loop-again c =
+    let e = c .before .before .is-literal-escape .ensures (c .before .if2 .taken) in
+    inside-run (inside-more (c .before .before .before .before .before .before .loop .inv) (c .before .before .before .before .before .loop-test .taken) (c .before .before .before .if1 .left) (e .0) (e .1) (e .2)) (c .skip-plain .ensures)
+
 skip-char-requires : tie.Need-skip-char-requires Inv-loop μ-loop
-skip-char-requires c κs = c .before .before .before .loop .inv .within
+skip-char-requires c κs = c .before .before .before .before .before .loop .inv .within
 
 enum-known-j : tie.Need-enum-known-j Inv-loop μ-loop
 enum-known-j c = search needs
@@ -37,22 +56,22 @@ enum-told : tie.Need-enum-told Inv-loop μ-loop
 enum-told c = search needs
 
 returns-2 : tie.Need-returns-2 Inv-loop μ-loop
-returns-2 c = inside-none (c .before .before .before .before .before .before .loop .inv) (c .before .before .before .before .before .loop-test .taken) (c .before .before .before .if1 .left) (subst (Answer _ _ _) (c .enum-told .given .1) (c .before .before .skip-char .ensures))
+returns-2 c = inside-none (c .before .before .before .before .before .before .before .before .loop .inv) (c .before .before .before .before .before .before .before .loop-test .taken) (c .before .before .before .before .before .if1 .left) (subst (Answer _ _ _) (c .enum-told .given .1) (c .before .before .skip-char .ensures))
 
-skip-plain-requires : tie.Need-skip-plain-requires Inv-loop μ-loop
-skip-plain-requires c κs = (subst (Answer _ _ _) (c .before .j .given .1) (c .before .before .before .skip-char .ensures)) .2
+skip-plain-requires-2 : tie.Need-skip-plain-requires-2 Inv-loop μ-loop
+skip-plain-requires-2 c κs = (subst (Answer _ _ _) (c .before .j .given .1) (c .before .before .before .skip-char .ensures)) .2
 
-loop-less : tie.Need-loop-less Inv-loop μ-loop
-loop-less c =
+loop-less-2 : tie.Need-loop-less-2 Inv-loop μ-loop
+loop-less-2 c =
     let e = subst (Answer _ _ _) (c .before .before .j .given .1) (c .before .before .before .before .skip-char .ensures) in
-    let further : c .before .before .before .before .before .before .before .before .loop .i + 1 ≤ c .before .before .j .given .0 .0 = e .1 in
-    let run = c .skip-plain .ensures in
+    let further : c .before .before .before .before .before .before .before .before .before .before .loop .i + 1 ≤ c .before .before .j .given .0 .0 = e .1 in
+    let run = c .skip-plain2 .ensures in
     omega (arith, run .0, run .1)
 
-loop-again : tie.Need-loop-again Inv-loop μ-loop
-loop-again c =
+loop-again-2 : tie.Need-loop-again-2 Inv-loop μ-loop
+loop-again-2 c =
     let e = subst (Answer _ _ _) (c .before .before .j .given .1) (c .before .before .before .before .skip-char .ensures) in
-    inside-run (inside-more (c .before .before .before .before .before .before .before .before .loop .inv) (c .before .before .before .before .before .before .before .loop-test .taken) (c .before .before .before .before .before .if1 .left) (e .0) (e .1) (e .2)) (c .skip-plain .ensures)
+    inside-run (inside-more (c .before .before .before .before .before .before .before .before .before .before .loop .inv) (c .before .before .before .before .before .before .before .before .before .loop-test .taken) (c .before .before .before .before .before .before .before .if1 .left) (e .0) (e .1) (e .2)) (c .skip-plain2 .ensures)
 
 returns-3 : tie.Need-returns-3 Inv-loop μ-loop
 returns-3 c = inside-ended (c .before .loop .inv) (c .loop-test .left)
@@ -67,11 +86,16 @@ skip-chars-spec =
     shared-slice-read-if1
     add-t9
     returns
+    is-literal-escape-requires
+    add-skip-plain
+    skip-plain-requires
+    loop-less
+    loop-again
     skip-char-requires
     enum-known-j
     enum-told
     returns-2
-    skip-plain-requires
-    loop-less
-    loop-again
+    skip-plain-requires-2
+    loop-less-2
+    loop-again-2
     returns-3)

@@ -1,10 +1,14 @@
 -- `skip_string` meets its contract: what follows the plain bytes is the string's rest.
-use Prim.Native.Nat.{_≤_, _+_}
+use Prim.Native.Nat.{_+_}
 use borrow.Author.Needs.{needs}
-use mathlib.Core.Path.{sym, subst, _∙_}
+use lib.ListN.{drop}
+use mathlib.Core.Path.{sym, subst}
 use native.Mathlib.Omega.{arith}
 use Rattle.characters.proofs.Inside.{inside-start, inside-ended, inside-quote, inside-run, inside-rest}
+use Rattle.rules.specs.Json.Text.{behind}
+use Rattle.rules.specs.Json.Strings.{string}
 use Rattle.text.specs.Answers.{Answer}
+use Rattle.text.proofs.Places.{answer-from, within-anew, answer-anew}
 use Rattle.characters.proofs.strings.skip_string.Statement.{statement}
 use Rattle.characters.proofs.strings.skip_string.Tie as tie
 
@@ -25,8 +29,17 @@ returns-2 c =
     let run = c .before .before .before .skip-plain .ensures in
     (inside-quote (inside-run (inside-start (c .before .before .before .before .before .pre)) run) (c .before .before .if1 .left) (c .if2 .taken), omega (arith, run .0), omega arith)
 
+sub-skip-chars : tie.Need-sub-skip-chars
+sub-skip-chars c = search needs
+
+part-skip-chars-start : tie.Need-part-skip-chars-start
+part-skip-chars-start c = search needs
+
+part-skip-chars-end : tie.Need-part-skip-chars-end
+part-skip-chars-end c = search needs
+
 skip-chars-requires : tie.Need-skip-chars-requires
-skip-chars-requires c κs = c .before .before .before .skip-plain .ensures .1
+skip-chars-requires c κs = within-anew (c .before .before .before .before .before .before .args .s .now) _ (c .before .before .before .before .skip-plain .ensures .1)
 
 enum-known-j : tie.Need-enum-known-j
 enum-known-j c = search needs
@@ -34,14 +47,19 @@ enum-known-j c = search needs
 enum-told : tie.Need-enum-told
 enum-told c = search needs
 
+-- what the characters behind the plain ones answer, as the string does
+rest-answer : (c : tie.After-skip-chars) → Answer (behind (string (drop (c .before .before .before .before .before .before .before .args .at) (c .before .before .before .before .before .before .before .args .s .now)))) (c .before .before .before .before .before .before .before .args .s .now) (c .before .before .before .before .before .before .before .args .at + 1) (c .skip-chars .result)
+rest-answer c =
+    let s = c .before .before .before .before .before .before .before .args .s .now in
+    let run = c .before .before .before .before .before .skip-plain in
+    let e = answer-anew (λ t. behind (string t)) s (run .result) (c .skip-chars .result) (c .skip-chars .ensures) in
+    answer-from _ _ s _ _ (c .skip-chars .result) e (omega (arith, run .ensures .0)) (sym (inside-rest (inside-run (inside-start (c .before .before .before .before .before .before .before .pre)) (run .ensures))))
+
 returns-3 : tie.Need-returns-3
-returns-3 c = sym (inside-rest (inside-run (inside-start (c .before .before .before .before .before .before .before .before .pre)) (c .before .before .before .before .before .before .skip-plain .ensures))) ∙ subst (Answer _ _ _) (c .enum-told .given .1) (c .before .before .skip-chars .ensures)
+returns-3 c = subst (Answer _ _ _) (c .enum-told .given .1) (rest-answer (c .before .before))
 
 returns-4 : tie.Need-returns-4
-returns-4 c =
-    let run = c .before .before .before .before .before .before .before .skip-plain .ensures in
-    let e = subst (Answer _ _ _) (c .before .j .given .1) (c .before .before .before .skip-chars .ensures) in
-    (sym (inside-rest (inside-run (inside-start (c .before .before .before .before .before .before .before .before .before .pre)) run)) ∙ e .0, omega (arith, run .0, e .1), e .2)
+returns-4 c = subst (Answer _ _ _) (c .before .j .given .1) (rest-answer (c .before .before .before))
 
 pub skip-string-spec : {M : Type 1} → statement M
 skip-string-spec =
@@ -52,6 +70,9 @@ skip-string-spec =
     shared-slice-read-if2
     add-t9
     returns-2
+    sub-skip-chars
+    part-skip-chars-start
+    part-skip-chars-end
     skip-chars-requires
     enum-known-j
     enum-told

@@ -1,10 +1,12 @@
 -- `value_within`: by the first byte an object, an array or a scalar.
-use Prim.Native.Nat.{ℕ}
+use Prim.Native.Nat.{ℕ, _+_}
 use borrow.Author.Needs.{needs}
-use mathlib.Core.Path.{sym, ap, _∙_}
+use lib.ListN.{drop}
+use mathlib.Core.Path.{sym, ap, subst, _∙_}
 use native.Mathlib.Omega.{arith}
 use Rattle.rules.specs.Json.Values.{scalar, value as rValue}
 use Rattle.rules.proofs.Json.Steps.{value-end, value-object, value-array, value-no-object, value-no-array, value-scalar}
+use Rattle.text.specs.Answers.{Answer}
 use Rattle.text.proofs.Places.{here, here-is, ended, answer-from}
 use Rattle.json.proofs.array.Reads as array
 use Rattle.json.proofs.object.Reads as object
@@ -56,7 +58,20 @@ module _ (t : ℕ) where
   pub skip-scalar-requires : lts.Need-skip-scalar-requires (claims t) (value-at t) value.Post
   skip-scalar-requires c κs = search needs
 
-  pub returns-6 : lts.Need-returns-6 (claims t) (value-at t) value.Post
-  returns-6 c =
+  pub enum-known-end : lts.Need-enum-known-end (claims t) (value-at t) value.Post
+  enum-known-end c = search needs
+
+  pub enum-told : lts.Need-enum-told (claims t) (value-at t) value.Post
+  enum-told c = search needs
+
+  -- what a value answers that holds no others
+  scalar-answer : (c : lts.After-skip-scalar (claims t) (value-at t) value.Post) → Answer (rValue (c .before .before .before .before .before .before .args .depth) (drop (c .before .before .before .before .before .before .args .at) (c .before .before .before .before .before .before .args .s .now))) (c .before .before .before .before .before .before .args .s .now) (c .before .before .before .before .before .before .args .at + 1) (c .skip-scalar .result)
+  scalar-answer c =
       let h = here _ _ (c .before .before .before .before .if1 .left) in
       answer-from _ _ (c .before .before .before .before .before .before .args .s .now) _ _ (c .skip-scalar .result) (c .skip-scalar .ensures) (omega arith) (ap (rValue (c .before .before .before .before .before .before .args .depth)) h ∙ value-scalar _ _ _ (c .before .before .if2 .left) (c .before .if4 .left) ∙ ap scalar (sym h))
+
+  pub returns-6 : lts.Need-returns-6 (claims t) (value-at t) value.Post
+  returns-6 c = subst (Answer _ _ _) (c .enum-told .given .1) (scalar-answer (c .before .before))
+
+  pub returns-7 : lts.Need-returns-7 (claims t) (value-at t) value.Post
+  returns-7 c = subst (Answer _ _ _) (c .before .end .given .1) (scalar-answer (c .before .before .before))

@@ -1,16 +1,19 @@
 -- `common_in` meets its contract.
-use native.Mathlib.Omega.{arith}
-use lib.Bits.{bitXor}
-use lib.Count.{trailing-le}
-use Rattle.octets.proofs.Words.{same-xor}
+use mathlib.Core.Path.{sym, subst}
+use Rattle.octets.specs.Words.{Same}
 use Rattle.octets.proofs.eights.common_in.Statement.{statement}
 use Rattle.octets.proofs.eights.common_in.Tie as tie
 
-cast-result : tie.Need-cast-result
-cast-result c = omega (arith, trailing-le 64 (bitXor (c .args .a) (c .args .b)))
+differ-requires : tie.Need-differ-requires
+differ-requires c κs = tt
+
+zero-bytes-requires : tie.Need-zero-bytes-requires
+zero-bytes-requires c κs = tt
 
 returns : tie.Need-returns
-returns c = (omega (arith, trailing-le 64 (bitXor (c .args .a) (c .args .b))), same-xor 64 (c .args .a) (c .args .b))
+returns c =
+    let e = c .zero-bytes .ensures in
+    (e .0, subst (Same _ _) (sym (e .1)) (c .before .differ .ensures))
 
 pub common-in-spec : {M : Type 1} → statement M
-common-in-spec = tie.close (tie.spec cast-result returns)
+common-in-spec = tie.close (tie.spec differ-requires zero-bytes-requires returns)

@@ -1,33 +1,22 @@
 -- `order_raw` meets its contract. The first bytes that differ tell how the strings stand, or what is left behind those in common does.
 use denote.Ref.{now}
 use mathlib.Core.Path.{sym, ap, _∙_}
-use Prim.Native.Nat.{_+_, _≤_}
-use lib.ListN.{length}
+use Prim.Native.Nat.{_+_}
 use native.Mathlib.Omega.{arith}
 use borrow.Author.Needs.{needs}
 use Rattle.values.specs.Answers.{orderIs}
 use Rattle.strings.proofs.Raw.{well-within}
-use Rattle.strings.proofs.Orders.{order-decoded}
-use Rattle.strings.proofs.AsSpelled.{Common, common-raw, less-raw, more-raw}
+use Rattle.strings.proofs.Orders.{order-decoded, order-anew}
+use Rattle.strings.proofs.AsSpelled.{Common, common-whole, less-raw, more-raw}
 use Rattle.strings.proofs.pairs.order_raw.Statement.{statement}
 use Rattle.strings.proofs.pairs.order_raw.Tie as tie
-
--- where both are looked at
-room : (c : tie.After-lesser)
-    → let a = c .before .before .before .args in (a .i + c .lesser .result ≤ length (now (a .s))) × (a .j + c .lesser .result ≤ a .end)
-room c =
-    let p = c .before .before .before .pre in
-    (omega (arith, c .lesser .ensures .1, well-within (p .0)), omega (arith, c .lesser .ensures .0, p .2 .low))
 
 -- what they begin with in common
 passed : (c : tie.After-whole)
     → let a = c .before .before .before .before .before .before .args in Common (now (a .s)) (a .i) (now (a .t)) (a .j) (c .whole .result)
 passed c =
     let a = c .before .before .before .before .before .before in
-    let f = room (c .before .before .before) in
-    let n = c .before .before .common .ensures in
-    let m = c .whole .ensures in
-    common-raw (now (a .args .s)) (a .args .i) (a .pre .2) (c .whole .result) (omega (arith, f .0, n .0, m .0)) (omega (arith, f .1, n .0, m .0)) (λ k h. n .1 k (omega (arith, m .0))) (m .1)
+    common-whole (now (a .args .s)) (a .args .i) (a .pre .2) (well-within (a .pre .0)) (c .before .before .before .lesser .ensures) (c .before .before .common .ensures) (c .whole .ensures)
 
 sub-lesser : tie.Need-sub-lesser
 sub-lesser c = search needs
@@ -39,7 +28,9 @@ lesser-requires : tie.Need-lesser-requires
 lesser-requires c κs = search needs
 
 common-requires : tie.Need-common-requires
-common-requires c κs = let f = room c in (f .0, omega (arith, f .1, c .before .before .before .pre .2 .high))
+common-requires c κs =
+    let p = c .before .before .before .pre in
+    (omega (arith, c .lesser .ensures .1, well-within (p .0)), omega (arith, c .lesser .ensures .0, p .2 .low, p .2 .high))
 
 add-b : tie.Need-add-b
 add-b c = search needs
@@ -59,37 +50,53 @@ tells-requires c κs = search needs
 returns : tie.Need-returns
 unfolding orderIs
 returns c =
-    let p = c .before .before .before .before .before .before .before .before .before .before .pre in
-    let f = room (c .before .before .before .before .before .before .before) in
-    let n = c .before .before .before .before .before .before .common in
-    let d = less-raw (c .before .before .before .before .before .before .before .before .before .before .args .s .now) (c .before .before .before .before .before .before .before .before .before .before .args .i) (p .2) (omega arith) (omega (arith, f .1)) (n .ensures .1) (c .before .before .tells .ensures (c .before .if2 .taken)) (c .if3 .taken) in
-    ap orderIs (sym d ∙ order-decoded (p .0) (p .1))
+    let a = c .before .before .before .before .before .before .before .before .before .before in
+    let d = less-raw (now (a .args .s)) (a .args .i) (a .pre .2) (omega arith) (omega (arith, c .before .before .before .before .before .before .before .lesser .ensures .0)) (c .before .before .before .before .before .before .common .ensures .1) (c .before .before .tells .ensures (c .before .if2 .taken)) (c .if3 .taken) in
+    ap orderIs (sym d ∙ order-decoded (a .pre .0) (a .pre .1))
 
 returns-2 : tie.Need-returns-2
 unfolding orderIs
 returns-2 c =
-    let p = c .before .before .before .before .before .before .before .before .before .before .before .pre in
-    let f = room (c .before .before .before .before .before .before .before .before) in
-    let n = c .before .before .before .before .before .before .before .common in
-    let d = more-raw (c .before .before .before .before .before .before .before .before .before .before .before .args .s .now) (c .before .before .before .before .before .before .before .before .before .before .before .args .i) (p .2) (omega arith) (omega (arith, f .1)) (n .ensures .1) (c .before .before .before .tells .ensures (c .before .before .if2 .taken)) (c .if4 .taken) in
-    ap orderIs (sym d ∙ order-decoded (p .0) (p .1))
+    let a = c .before .before .before .before .before .before .before .before .before .before .before in
+    let d = more-raw (now (a .args .s)) (a .args .i) (a .pre .2) (omega arith) (omega (arith, c .before .before .before .before .before .before .before .before .lesser .ensures .0)) (c .before .before .before .before .before .before .before .common .ensures .1) (c .before .before .before .tells .ensures (c .before .before .if2 .taken)) (c .if4 .taken) in
+    ap orderIs (sym d ∙ order-decoded (a .pre .0) (a .pre .1))
 
 whole-requires : tie.Need-whole-requires
 whole-requires c κs = search needs
 
+sub-order-rests : tie.Need-sub-order-rests
+sub-order-rests c = search needs
+
+part-order-rests-start : tie.Need-part-order-rests-start
+part-order-rests-start c = search needs
+
+part-order-rests-end : tie.Need-part-order-rests-end
+part-order-rests-end c = search needs
+
 add-order-rests : tie.Need-add-order-rests
 add-order-rests c = search needs
+
+sub-order-rests-2 : tie.Need-sub-order-rests-2
+sub-order-rests-2 c = search needs
+
+part-order-rests-start-2 : tie.Need-part-order-rests-start-2
+part-order-rests-start-2 c = search needs
+
+part-order-rests-end-2 : tie.Need-part-order-rests-end-2
+part-order-rests-end-2 c = search needs
 
 add-order-rests-2 : tie.Need-add-order-rests-2
 add-order-rests-2 c = search needs
 
 order-rests-requires : tie.Need-order-rests-requires
-order-rests-requires c κs = let g = passed c in (g .first, g .second)
+order-rests-requires c κs = let p = c .before .before .before .before .before .before .before .before .pre in (omega (arith, well-within (p .0)), omega (arith, p .2 .low, p .2 .high))
 
 returns-3 : tie.Need-returns-3
 returns-3 c =
-    let p = c .before .before .before .before .before .before .before .pre in
-    c .order-rests .ensures ∙ ap orderIs (sym (passed (c .before) .same) ∙ order-decoded (p .0) (p .1))
+    let a = c .before .before .before .before .before .before .before .before .before in
+    let m = c .before .before .before .whole .result in
+    c .order-rests .ensures
+    ∙ ap orderIs (order-anew (now (a .args .s)) (now (a .args .t)) (a .args .i + m) (a .args .j + m) ∙ sym (passed (c .before .before .before) .same) ∙ order-decoded (a .pre .0) (a .pre .1))
 
 pub order-raw-spec : {M : Type 1} → statement M
 order-raw-spec =
@@ -107,7 +114,13 @@ order-raw-spec =
     returns
     returns-2
     whole-requires
+    sub-order-rests
+    part-order-rests-start
+    part-order-rests-end
     add-order-rests
+    sub-order-rests-2
+    part-order-rests-start-2
+    part-order-rests-end-2
     add-order-rests-2
     order-rests-requires
     returns-3)
