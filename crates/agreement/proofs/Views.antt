@@ -14,7 +14,7 @@ use Rattle.rules.specs.Agreement.{agreeFacts, agreeRows, agreeProtocols, agree}
 use Rattle.rules.specs.Same.{SameRows, no-rows, row as same-row}
 use Rattle.rules.proofs.Tests.{false-of, and-fails-left, and-fails-right}
 use Rattle.rules.proofs.Agreement.{agreeRows-true}
-use Rattle.table.specs.Table.{wide, row, rows, rowAt}
+use Rattle.table.specs.Table.{wide, row, rows, rowAt, behind}
 use Rattle.replay.specs.Views.{protocolAt, factsAt, rowOf, stateOf, Stands}
 use Rattle.replay.specs.declared.State.{State}
 use Rattle.agreement.specs.Held.{HeldRows}
@@ -88,14 +88,14 @@ module _ (src : Text) (a b : State) (ta tb : List ℕ) where
 
   pub counts-decide : (a .live ≡ b .live → ⊥) → agree (stateOf src a ta) (stateOf src b tb) ≡ false
   unfolding agree stateOf
-  counts-decide h = and-fails-right protocols (counts-differ src (a .live) (b .live) ta tb h)
+  counts-decide h = and-fails-right protocols (counts-differ src (a .live) (b .live) (behind (a .base) ta) (behind (b .base) tb) h)
 
   pub protocols-decide : protocols ≡ false → agree (stateOf src a ta) (stateOf src b tb) ≡ false
   unfolding agree stateOf
-  protocols-decide h = and-fails-left (agreeRows (viewed src (a .live) ta) (viewed src (b .live) tb)) h
+  protocols-decide h = and-fails-left (agreeRows (viewed src (a .live) (behind (a .base) ta)) (viewed src (b .live) (behind (b .base) tb))) h
 
-  pub rows-decide : a .live ≡ b .live → protocols ≡ true → agree (stateOf src a ta) (stateOf src b tb) ≡ agreeRows (viewed src (a .live) ta) (viewed src (a .live) tb)
+  pub rows-decide : a .live ≡ b .live → protocols ≡ true → agree (stateOf src a ta) (stateOf src b tb) ≡ agreeRows (viewed src (a .live) (behind (a .base) ta)) (viewed src (a .live) (behind (b .base) tb))
   unfolding agree stateOf
   rows-decide e h =
-      and-past (agreeRows (viewed src (a .live) ta) (viewed src (b .live) tb)) h
-      ∙ ap (λ (n : ℕ). agreeRows (viewed src (a .live) ta) (viewed src n tb)) (sym e)
+      and-past (agreeRows (viewed src (a .live) (behind (a .base) ta)) (viewed src (b .live) (behind (b .base) tb))) h
+      ∙ ap (λ (n : ℕ). agreeRows (viewed src (a .live) (behind (a .base) ta)) (viewed src n (behind (b .base) tb))) (sym e)

@@ -1,9 +1,10 @@
 -- What is held of a state and its table where it is compared with another.
 use Prim.Native.Nat.{ℕ}
+use native.Mathlib.Omega.{arith}
 use mathlib.Core.List.{List}
 use Rattle.facts.specs.Lists.{All}
 use Rattle.rules.specs.Json.Text.{Text}
-use Rattle.table.specs.Table.{rows, Room}
+use Rattle.table.specs.Table.{rows, Room, behind}
 use Rattle.replay.specs.Views.{Inside, Stands, Carries}
 use Rattle.replay.specs.declared.State.{State}
 
@@ -13,10 +14,10 @@ pub record HeldRows (src : Text) (n : ℕ) (t : List ℕ) : Type 0 where
   pub stands : All (Stands src) (rows n t)
 
 pub record Held (src : Text) (st : State) (t : List ℕ) : Type 0 where
-  pub room : Room (st .live) t
-  pub stands : All (Stands src) (rows (st .live) t)
+  pub before : Room (st .base) t
+  pub rows : HeldRows src (st .live) (behind (st .base) t)
   pub protocol : Inside src (st .protocol)
 
 -- what is carried while a log is read is so held
 pub carries-held : {src : Text} {limit : ℕ} {st : State} {t : List ℕ} → Carries src limit st t → Held src st t
-carries-held c = record { room = c .table .room; stands = c .stands; protocol = c .protocol }
+carries-held c = record { before = omega (arith, c .few, c .room); rows = record { room = c .table .room; stands = c .stands }; protocol = c .protocol }

@@ -144,7 +144,9 @@ pub fn agree(src: &[u8], a: State, ta: &[u64], b: State, tb: &[u64]) -> bool
     let p = a.protocol;
     let q = b.protocol;
     if same_protocols(src, p, q) {
-        return same_rows(src, ta, tb, n);
+        let here = a.base * table::ROW;
+        let there = b.base * table::ROW;
+        return same_rows(src, &ta[here..], &tb[there..], n);
     }
     false
 }

@@ -1,6 +1,6 @@
 -- The live files as rows of a lent slice, in the order of the bytes that their paths stand for. While a log is read, a
 -- row's head carries two positions in the bundle: where the line stands, and where the path in it is spelled.
-use Prim.Native.Nat.{ℕ, _/_, _%_, _≤_, _<_}
+use Prim.Native.Nat.{ℕ, _+_, _/_, _%_, _≤_, _<_}
 use mathlib.Core.Path.{_≡_}
 use mathlib.Core.List.{List, []}
 use lib.ListN.{length, drop}
@@ -12,6 +12,7 @@ use Rattle.rules.proofs.Searching.{Bracket}
 use Rattle.strings.specs.Decoded.{decoded, WellSpelled}
 use Rattle.table.specs.Table.{row, rows, rowAt, Room, behind}
 use Rattle.table.specs.declared.Cells.{Cells}
+use Rattle.live.specs.declared.Standing.{Standing}
 use Rattle.live.specs.declared.Found.{Found}
 use Rattle.live.specs.declared.Found.the-variants.{Held, Place}
 
@@ -51,13 +52,14 @@ abbrev pub Finds : Text → (k : Bytes) → ℕ → List ℕ → Found → Type 
 Finds src k n t (Held i) = (i < n) × (key src (rowAt (rows n t) i) ≡ k)
 Finds src k n t (Place i) = Bracket (key src) k (rows n t) (row []) i i
 
--- the n rows of t became the m rows of t′, which are rs
-pub record Became (src : Text) (rs : List Cells) (n : ℕ) (t : List ℕ) (m : ℕ) (t′ : List ℕ) : Type 0 where
-  pub count : m ≡ length rs
-  pub holds : rows m t′ ≡ rs
-  pub rest : (k : ℕ) → n ≤ k → m ≤ k → behind k t′ ≡ behind k t
+-- t became t′: its rows are rs, and stand within a room of `limit` rows, behind which nothing changed
+pub record Became (src : Text) (rs : List Cells) (limit : ℕ) (t : List ℕ) (r : Standing) (t′ : List ℕ) : Type 0 where
+  pub count : r .live ≡ length rs
+  pub holds : rows (r .live) (behind (r .base) t′) ≡ rs
+  pub within : r .base + r .live ≤ limit
+  pub rest : behind limit t′ ≡ behind limit t
   pub length : length t′ ≡ length t
-  pub table : Table src m t′
+  pub table : Table src (r .live) (behind (r .base) t′)
 
 -- ---- the last pass
 

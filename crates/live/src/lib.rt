@@ -1,11 +1,11 @@
 // The live table: the live files as rows in a lent slice, in the order of the bytes that their paths stand for, found by halving.
 use table::Cells;
-ghost use Prim.Native.Nat.{_+_, _<_};
+ghost use Prim.Native.Nat.{_+_, _≤_, _<_};
 ghost use mathlib.Core.List.{map};
 ghost use lib.ListN.{drop};
 ghost use Rattle.rules.specs.Live.{put, takeOut};
 ghost use Rattle.strings.specs.Decoded.{decoded, WellSpelled};
-ghost use Rattle.table.specs.Table.{Room, rows, Changed};
+ghost use Rattle.table.specs.Table.{Room, rows, behind, Changed};
 ghost use Rattle.live.specs.Live.{places, pathAt, key, Packed, Table, Finds, Became, bared};
 
 // Positions in a bundle are below this.
@@ -30,7 +30,8 @@ pub fn find(src: &[u8], t: &[u64], n: usize, path: usize) -> Found
     requires { ⌜ Table (now src) n (now t) × WellSpelled (now src) path ⌝ }
     ensures { λ r. ⌜ Finds (now (src .entry)) (decoded (drop path (now (src .entry)))) n (now (t .entry)) r ⌝ }
 {
-    let end = strings::raw_end(src, path);
+    // Handed on anew, so that the compiler keeps it in registers here.
+    let end = strings::raw_end(&src[0..], path);
     let mut lo = 0;
     let mut hi = n;
     while lo < hi {
@@ -52,35 +53,57 @@ pub fn find(src: &[u8], t: &[u64], n: usize, path: usize) -> Found
     Found::Place(lo)
 }
 
-// Puts the row c into the table, in place of the row with the same path if there is one. Answers how many rows there are.
-pub fn store(src: &[u8], t: &mut [u64], n: usize, c: Cells) -> usize
-    requires { ⌜ Table (now src) n (now t) × WellSpelled (now src) (pathAt c) × Room (n + 1) (now t) ⌝ }
-    ensures { λ m. ⌜ Became (now (src .entry)) (put (key (now (src .entry))) c (rows n (now (t .entry)))) n (now (t .entry)) m (now (t .exit)) ⌝ }
+// Where the rows of a table stand in their room: behind so many that are free, and how many they are.
+pub struct Standing {
+    pub base: usize,
+    pub live: usize,
+}
+
+// Puts the row c into the table of n rows behind `base` others, in place of the row with the same path if there is one.
+// Answers where the rows stand then, in a room of `limit` rows.
+pub fn store(src: &[u8], t: &mut [u64], base: usize, n: usize, limit: usize, c: Cells) -> Standing
+    requires { ⌜ Table (now src) n (behind base (now t)) × WellSpelled (now src) (pathAt c) × (n < limit) × (base + n ≤ limit) × Room limit (now t) ⌝ }
+    ensures { λ r. ⌜ Became (now (src .entry)) (put (key (now (src .entry))) c (rows n (behind base (now (t .entry))))) limit (now (t .entry)) r (now (t .exit)) ⌝ }
 {
     let path = (c.head / PLACES) as usize;
-    match find(src, t, n, path) {
+    let from = base * table::ROW;
+    match find(src, &t[from..], n, path) {
         Found::Held(k) => {
-            table::set_row(t, k, c);
-            n
+            table::set_row(t, base + k, c);
+            Standing { base, live: n }
         }
         Found::Place(k) => {
-            table::insert_row(t, n, k, c);
-            n + 1
+            let before = table::put_in(t, base, n, k, limit, c);
+            Standing {
+                base: before,
+                live: n + 1,
+            }
         }
     }
 }
 
-// Takes the row out whose path is spelled in src behind `path`, if there is one. Answers how many rows there are.
-pub fn take_out(src: &[u8], t: &mut [u64], n: usize, path: usize) -> usize
-    requires { ⌜ Table (now src) n (now t) × WellSpelled (now src) path ⌝ }
-    ensures { λ m. ⌜ Became (now (src .entry)) (takeOut (key (now (src .entry))) (decoded (drop path (now (src .entry)))) (rows n (now (t .entry)))) n (now (t .entry)) m (now (t .exit)) ⌝ }
+// Takes the row out whose path is spelled in src behind `path`, if there is one. Answers where the rows stand then.
+pub fn take_out(
+    src: &[u8],
+    t: &mut [u64],
+    base: usize,
+    n: usize,
+    limit: usize,
+    path: usize,
+) -> Standing
+    requires { ⌜ Table (now src) n (behind base (now t)) × WellSpelled (now src) path × (base + n ≤ limit) × Room limit (now t) ⌝ }
+    ensures { λ r. ⌜ Became (now (src .entry)) (takeOut (key (now (src .entry))) (decoded (drop path (now (src .entry)))) (rows n (behind base (now (t .entry))))) limit (now (t .entry)) r (now (t .exit)) ⌝ }
 {
-    match find(src, t, n, path) {
+    let from = base * table::ROW;
+    match find(src, &t[from..], n, path) {
         Found::Held(k) => {
-            table::remove_row(t, n, k);
-            n - 1
+            let before = table::take_away(t, base, n, k, limit);
+            Standing {
+                base: before,
+                live: n - 1,
+            }
         }
-        Found::Place(_) => n,
+        Found::Place(_) => Standing { base, live: n },
     }
 }
 

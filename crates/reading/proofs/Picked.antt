@@ -2,7 +2,7 @@
 use mathlib.Core.Path.{_≡_, refl, sym, ap, _∙_}
 use mathlib.Core.Bool.{Bool, true, false}
 use mathlib.Core.List.{List, [], _∷_, _++_, map}
-use Prim.Native.Nat.{ℕ, _*_, _≤_}
+use Prim.Native.Nat.{ℕ, _+_, _*_, _≤_}
 use native.Mathlib.Omega.{arith}
 use lib.ListN.{length, drop, length-map}
 use Rattle.facts.specs.Lists.{All}
@@ -23,7 +23,7 @@ use Rattle.rules.specs.Reading.{told, listing, roomAfterReading}
 use Rattle.rules.specs.Reading.{Listing as rListing}
 use Rattle.rules.proofs.Rooms.{zeroed-rows-filled, leaves-accepted}
 use Rattle.names.specs.declared.Version.{Version}
-use Rattle.table.specs.Table.{wide, cells, row, layout, rows, Changed}
+use Rattle.table.specs.Table.{wide, cells, row, layout, rows, Room, behind, Changed}
 use Rattle.table.specs.declared.Cells.{Cells}
 use Rattle.live.specs.Live.{placeOf, bared}
 use Rattle.replay.specs.Views.{factsAt, rowOf, stateOf, Stands, Carries}
@@ -63,50 +63,73 @@ module _ (src : Text) where
   rows-bared (c ∷ rs) h =
       ap (λ (xs : List ℕ). xs ++ flat cells (map bared rs)) (row-bared c (h .0)) ∙ ap (λ (xs : List ℕ). rowNumbers (rowOf src c) ++ xs) (rows-bared rs (h .1))
 
+-- ---- the rows in front
+
+-- the rows of the live files
+abbrev live : State → List ℕ → List Cells
+live st t = rows (st .live) (behind (st .base) t)
+
+-- u is t once they stand in front
+abbrev Settled : State → List ℕ → List ℕ → Type 0
+Settled st t u = Changed (st .live) (live st t) (st .base + st .live) t u
+
+module _ (src : Text) (st : State) (t : List ℕ) (w : Carries src mostLive st t) (u : List ℕ) (f : Settled st t u) where
+  pub settled-room : Room (st .live) u
+  settled-room = omega (arith, w .few, w .room, f .length)
+
+  pub settled-stands : All (Stands src) (rows (st .live) u)
+  settled-stands = rw (f .rows) (w .stands)
+
 -- ---- the answer
 
 module _ (src : Text) (cs : List Condition) (st : State) (t : List ℕ) (w : Carries src mostLive st t) where
   -- the rows of the picked files
   picks : List Cells
-  picks = kept (λ (c : Cells). meetsAll cs (factsAt src c)) (rows (st .live) t)
+  picks = kept (λ (c : Cells). meetsAll cs (factsAt src c)) (live st t)
 
-  module _ (m : ℕ) (t₁ t₂ : List ℕ) (p : Picks src cs (st .live) t m t₁) (b : Changed m (map bared (rows m t₁)) m t₁ t₂) where
+  module _ (u : List ℕ) (f : Settled st t u) (m : ℕ) (t₁ t₂ : List ℕ) (p : Picks src cs (st .live) u m t₁)
+      (b : Changed m (map bared (rows m t₁)) m t₁ t₂) where
+    holds : rows m t₁ ≡ picks
+    unfolding picks
+    holds = p .holds ∙ ap (kept (λ (c : Cells). meetsAll cs (factsAt src c))) (f .rows)
+
     pub picks-few : m * 4 ≤ 4096
     unfolding mostLive
-    picks-few = let a : m ≤ st .live = p .few in let l : st .live ≤ 1024 = w .few in omega arith
+    picks-few = let a : m ≤ st .live = p .few in let l : st .base + st .live ≤ 1024 = w .few in omega arith
 
     pub picks-long : 4096 ≤ length t₂
     unfolding mostLive
-    picks-long = omega (arith, w .room, p .length, b .length)
+    picks-long = omega (arith, w .room, f .length, p .length, b .length)
 
     count : length (picked cs (stateOf src st t .live)) ≡ m
     unfolding stateOf picks
     count =
-        ap length (picked-map src cs (rows (st .live) t)) ∙ length-map picks (rowOf src) ∙ ap length (sym (p .holds)) ∙ length-rowsOf wide row m t₁
+        ap length (picked-map src cs (live st t)) ∙ length-map picks (rowOf src) ∙ ap length (sym holds) ∙ length-rowsOf wide row m t₁
 
     beyond : drop 4096 t₂ ≡ drop 4096 t
     unfolding mostLive
     beyond =
         drop-later (m * 4) 4096 t₂ t₁ picks-few (b .rest)
-        ∙ drop-later (st .live * 4) 4096 t₁ t (let l : st .live ≤ 1024 = w .few in omega arith) (p .rest)
+        ∙ drop-later (st .live * 4) 4096 t₁ u (let l : st .base + st .live ≤ 1024 = w .few in omega arith) (p .rest)
+        ∙ drop-later ((st .base + st .live) * 4) 4096 u t (let l : st .base + st .live ≤ 1024 = w .few in omega arith) (f .rest)
 
     room : zeroed (m * 4) 4096 t₂ ≡ filled 4096 (rowsNumbers (picked cs (stateOf src st t .live))) t
     unfolding stateOf picks
     room =
-        zeroed-rows-filled layout m 4096 (map bared picks) t₂ t picks-few picks-long (b .rows ∙ ap (map bared) (p .holds)) beyond
+        zeroed-rows-filled layout m 4096 (map bared picks) t₂ t picks-few picks-long (b .rows ∙ ap (map bared) holds) beyond
         ∙ ap (λ (xs : List ℕ). filled 4096 xs t)
-        (rows-bared src picks (All-kept (Stands src) (λ (c : Cells). meetsAll cs (factsAt src c)) (rows (st .live) t) (w .stands))
-        ∙ ap rowsNumbers (sym (picked-map src cs (rows (st .live) t))))
+        (rows-bared src picks (All-kept (Stands src) (λ (c : Cells). meetsAll cs (factsAt src c)) (live st t) (w .stands))
+        ∙ ap rowsNumbers (sym (picked-map src cs (live st t))))
 
     pub answer-listed : (v : Version) (after : List ℕ) (n : Numbers) → Passes (stateOf src st t .inForce) n
         → allAmong (stateOf src st t .table .partitionColumns) (map columnOf cs) ≡ true → after ≡ zeroed (m * 4) 4096 t₂
         → AnswerIs (listing cs (v .0) (stateOf src st t)) t after (Listed (record { version = v; rows = m; reader = n .reader; writer = n .writer; writable = n .writable }))
     unfolding readIs told roomAfterReading rowsRoom numbers
-    answer-listed v after n g e f =
+    answer-listed v after n g e z =
         let k : listing cs (v .0) (stateOf src st t) ≡ accepted (listed cs (v .0) (stateOf src st t)) = listing-listed cs (v .0) (stateOf src st t) (g .accepts) e in
         record {
           answer = says ∙ sym (ap told k);
-          holds = f ∙ room ∙ sym (ap (λ (a : Answer rListing). roomAfterReading a t) k ∙ leaves-accepted 4096 numbers t (listed cs (v .0) (stateOf src st t)));
+          holds = z ∙ room ∙ sym (ap (λ (a : Answer rListing). roomAfterReading a t) k ∙ leaves-accepted 4096 numbers t (listed cs (v .0) (stateOf src st t)));
         }
       where
         says : readIs (Listed (record { version = v; rows = m; reader = n .reader; writer = n .writer; writable = n .writable })) ≡ told (accepted (listed cs (v .0) (stateOf src st t)))

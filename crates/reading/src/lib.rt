@@ -75,8 +75,10 @@ fn list_picked(
     ensures { λ r. ⌜ AnswerIs (listing (conditionsOf (now (q .entry)) (asked .count) (asked .conditions)) (v .0) (stateOf (now (src .entry)) st (now (t .entry)))) (now (t .entry)) (now (t .exit)) r ⌝ }
 {
     let columns = st.table;
+    let base = st.base;
     let live = st.live;
     if picking::all_columns(src, columns, q, asked) {
+        table::settle(t, base, live);
         let picked = picking::pick(src, t, live, q, asked);
         live::bare(t, picked);
         let end = picked * table::ROW;

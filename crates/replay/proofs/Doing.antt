@@ -8,7 +8,6 @@ use lib.ListN.{length, drop, length-map}
 use Rattle.facts.specs.Lists.{All}
 use Rattle.facts.specs.Parts.{part}
 use Rattle.facts.proofs.Parts.{length-part}
-use Rattle.facts.proofs.Rows.{length-rowsOf}
 use Rattle.rules.specs.Bytes.{Bytes}
 use Rattle.rules.specs.Json.Text.{Text}
 use Rattle.rules.specs.Actions.{Facts, add, remove, protocol, metaData, mergeskip, other, action}
@@ -16,10 +15,11 @@ use Rattle.rules.specs.Actions.{Action as rAction, Protocol as rProtocol}
 use Rattle.rules.specs.Live.{Row, put, takeOut, pathOf}
 use Rattle.rules.specs.Refusals.{accepted}
 use Rattle.rules.specs.History.{effect, withinLimit, readLine, orUnstated}
-use Rattle.rules.proofs.Live.{All-put, All-takeOut, takeOut-length-le}
+use Rattle.rules.proofs.Live.{All-put, All-takeOut}
 use Rattle.strings.specs.Decoded.{decoded}
-use Rattle.table.specs.Table.{wide, row, rows}
+use Rattle.table.specs.Table.{rows, behind}
 use Rattle.table.specs.declared.Cells.{Cells}
+use Rattle.live.specs.declared.Standing.{Standing}
 use Rattle.live.specs.Live.{placeOf, key, Packed, Became}
 use Rattle.actions.specs.Line.{ActionIs}
 use Rattle.actions.specs.declared.line.Added.{Added}
@@ -43,14 +43,14 @@ abbrev pub rowFor : (head from to : ℕ) → Added → Cells
 rowFor head from to a = record { head = head; len = to - from; size = a .size; time = a .time }
 
 -- rows that stand are carried on, as a change of the table left them
-became-carried : {src : Text} {limit : ℕ} {st : State} {t t′ : List ℕ} {rs : List Cells} (m : ℕ) → Carries src limit st t → m ≤ limit → All (Stands src) rs → Became src rs (st .live) t m t′
-    → Carried src limit t (record { table = st .table; protocol = st .protocol; live = m }) t′
-became-carried {src} {limit} {st} {t} {t′} {rs} m w few all b = record {
-  left = record { rest = b .rest limit (w .few) few; length = b .length };
+became-carried : {src : Text} {limit : ℕ} {st : State} {t t′ : List ℕ} {rs : List Cells} (r : Standing) → Carries src limit st t → All (Stands src) rs → Became src rs limit t r t′
+    → Carried src limit t (record { table = st .table; protocol = st .protocol; base = r .base; live = r .live }) t′
+became-carried {src} {limit} {st} {t} {t′} {rs} r w all b = record {
+  left = record { rest = b .rest; length = b .length };
   carries = record {
     short = w .short;
     room = let l : length t′ ≡ length t = b .length in omega (arith, w .room);
-    few = few;
+    few = b .within;
     table = b .table;
     stands = subst (All (Stands src)) (sym (b .holds)) all;
     metaData = w .metaData;
@@ -70,7 +70,7 @@ module _ (src : Text) (limit from to : ℕ) (st : State) (t : List ℕ) (w : Car
       readLine-some limit e k from (part src from to) (stateOf src st t) some-line a q
       ∙ ap (λ (n : ℕ). withinLimit limit e k (effect from n a (stateOf src st t))) (length-part src from to l)
 
-  leads : (a : rAction) → action (part src from to) ≡ some a → (m : State) (t′ : List ℕ) → effect from (to - from) a (stateOf src st t) ≡ stateOf src m t′ → m .live ≤ limit
+  leads : (a : rAction) → action (part src from to) ≡ some a → (m : State) (t′ : List ℕ) → effect from (to - from) a (stateOf src st t) ≡ stateOf src m t′ → m .base + m .live ≤ limit
       → (e k : ℕ) → readLine limit e k from (part src from to) (stateOf src st t) ≡ accepted (stateOf src m t′)
   leads a q m t′ f few e k =
       acts a q e k ∙ ap (withinLimit limit e k) f ∙ withinLimit-few limit e k (stateOf src m t′) (omega (arith, length-live src m t′))
@@ -100,12 +100,12 @@ module _ (src : Text) (limit from to : ℕ) (st : State) (t : List ℕ) (w : Car
   stated p q = sym (ap (λ o. orUnstated (protocolIn o)) (ap action (part-sized-to src from to (omega arith)) ∙ q))
 
   pub did-protocol : {r : Stated} → ActionIs (action (part src from to)) (part src from to) (Protocol r)
-      → LineIs src limit from to st t t (Next (record { table = st .table; protocol = record { at = from; size = to - from }; live = st .live }))
+      → LineIs src limit from to st t t (Next (record { table = st .table; protocol = record { at = from; size = to - from }; base = st .base; live = st .live }))
   unfolding effect stateOf
   did-protocol q =
-      let m : State = record { table = st .table; protocol = record { at = from; size = to - from }; live = st .live } in (
+      let m : State = record { table = st .table; protocol = record { at = from; size = to - from }; base = st .base; live = st .live } in (
         leads (protocol (q .0)) (q .1) m t
-            (ap (λ (p : rProtocol). record { table = orNoTable (tableAt src (st .table)); inForce = p; live = map (rowOf src) (rows (st .live) t) }) (stated (q .0) (q .1)))
+            (ap (λ (p : rProtocol). record { table = orNoTable (tableAt src (st .table)); inForce = p; live = map (rowOf src) (rows (st .live) (behind (st .base) t)) }) (stated (q .0) (q .1)))
             (w .few),
         record {
           left = record { rest = refl; length = refl };
@@ -121,21 +121,20 @@ module _ (src : Text) (limit from to : ℕ) (st : State) (t : List ℕ) (w : Car
   pub remove-fits : {p : ℕ} → ActionIs (action (part src from to)) (part src from to) (Remove p) → from + p ≤ to
   remove-fits {p} q = let n : p ≤ length (part src from to) = q .2 in omega (arith, length-part src from to l)
 
-  pub did-remove : {p : ℕ} {t′ : List ℕ} (m : ℕ) → ActionIs (action (part src from to)) (part src from to) (Remove p)
-      → Became src (takeOut (key src) (decoded (drop (from + p) src)) (rows (st .live) t)) (st .live) t m t′
-      → LineIs src limit from to st t t′ (Next (record { table = st .table; protocol = st .protocol; live = m }))
+  pub did-remove : {p : ℕ} {t′ : List ℕ} (r : Standing) → ActionIs (action (part src from to)) (part src from to) (Remove p)
+      → Became src (takeOut (key src) (decoded (drop (from + p) src)) (rows (st .live) (behind (st .base) t))) limit t r t′
+      → LineIs src limit from to st t t′ (Next (record { table = st .table; protocol = st .protocol; base = r .base; live = r .live }))
   unfolding effect stateOf
-  did-remove {p} {t′} m q b =
-      let rs : List Cells = rows (st .live) t in
+  did-remove {p} {t′} r q b =
+      let rs : List Cells = rows (st .live) (behind (st .base) t) in
       let k : Bytes = decoded (drop (from + p) src) in
       let x : Bytes = decoded (drop p (part src from to)) in
-      let e : map (rowOf src) (rows m t′) ≡ takeOut pathOf x (map (rowOf src) rs) =
-      ap (map (rowOf src)) (b .holds) ∙ rows-takeOut src k rs (w .stands) ∙ ap (λ (y : Bytes). takeOut pathOf y (map (rowOf src) rs)) (remove-placed q .same) in
-      let few : m ≤ limit = omega (arith, b .count, takeOut-length-le (key src) k rs, length-rowsOf wide row (st .live) t, w .few) in (
-        leads (remove x) (q .0) (record { table = st .table; protocol = st .protocol; live = m }) t′
+      let e : map (rowOf src) (rows (r .live) (behind (r .base) t′)) ≡ takeOut pathOf x (map (rowOf src) rs) =
+      ap (map (rowOf src)) (b .holds) ∙ rows-takeOut src k rs (w .stands) ∙ ap (λ (y : Bytes). takeOut pathOf y (map (rowOf src) rs)) (remove-placed q .same) in (
+        leads (remove x) (q .0) (record { table = st .table; protocol = st .protocol; base = r .base; live = r .live }) t′
             (ap (λ (rs′ : List Row). record { table = orNoTable (tableAt src (st .table)); inForce = orUnstated (protocolAt src (st .protocol)); live = rs′ }) (sym e))
-            few,
-        became-carried m w few (All-takeOut (key src) (Stands src) k rs (w .stands)) b,
+            (b .within),
+        became-carried r w (All-takeOut (key src) (Stands src) k rs (w .stands)) b,
       )
 
   -- ---- an add
@@ -167,26 +166,26 @@ module _ (src : Text) (limit from to : ℕ) (st : State) (t : List ℕ) (w : Car
           ap (λ (n : ℕ). record { at = n; size = to - from; facts = factsAt src (rowFor head from to a) }) (packed .place)
           ∙ ap (λ (f : Facts). record { at = from; size = to - from; facts = f }) (stands-facts src (rowFor head from to a) stands-add)
 
-      live-add : map (rowOf src) (put (key src) (rowFor head from to a) (rows (st .live) t)) ≡ put pathOf (record { at = from; size = to - from; facts = q .0 }) (map (rowOf src) (rows (st .live) t))
+      live-add : map (rowOf src) (put (key src) (rowFor head from to a) (rows (st .live) (behind (st .base) t))) ≡ put pathOf (record { at = from; size = to - from; facts = q .0 }) (map (rowOf src) (rows (st .live) (behind (st .base) t)))
       live-add =
-          rows-put src (rowFor head from to a) (rows (st .live) t) stands-add (w .stands)
-          ∙ ap (λ (r : Row). put pathOf r (map (rowOf src) (rows (st .live) t))) row-add
+          rows-put src (rowFor head from to a) (rows (st .live) (behind (st .base) t)) stands-add (w .stands)
+          ∙ ap (λ (r : Row). put pathOf r (map (rowOf src) (rows (st .live) (behind (st .base) t)))) row-add
 
-      pub did-add : {t′ : List ℕ} (m : ℕ) → PutIs src (rowFor head from to a) (st .live) limit t t′ (Rows m)
-          → LineIs src limit from to st t t′ (Next (record { table = st .table; protocol = st .protocol; live = m }))
+      pub did-add : {t′ : List ℕ} (r : Standing) → PutIs src (rowFor head from to a) (st .base) (st .live) limit t t′ (Rows r)
+          → LineIs src limit from to st t t′ (Next (record { table = st .table; protocol = st .protocol; base = r .base; live = r .live }))
       unfolding effect stateOf
-      did-add {t′} m b = (
-        leads (add (q .0)) (q .1) (record { table = st .table; protocol = st .protocol; live = m }) t′
+      did-add {t′} r b = (
+        leads (add (q .0)) (q .1) (record { table = st .table; protocol = st .protocol; base = r .base; live = r .live }) t′
             (ap (λ (rs : List Row). record { table = orNoTable (tableAt src (st .table)); inForce = orUnstated (protocolAt src (st .protocol)); live = rs })
-            (sym (ap (map (rowOf src)) (b .0 .holds) ∙ live-add)))
-            (b .1),
-        became-carried m w (b .1) (All-put (key src) (Stands src) (rowFor head from to a) (rows (st .live) t) (w .stands) stands-add) (b .0),
+            (sym (ap (map (rowOf src)) (b .holds) ∙ live-add)))
+            (b .within),
+        became-carried r w (All-put (key src) (Stands src) (rowFor head from to a) (rows (st .live) (behind (st .base) t)) (w .stands) stands-add) b,
       )
 
-      pub did-full : {t′ : List ℕ} → PutIs src (rowFor head from to a) (st .live) limit t t′ Full → LineIs src limit from to st t t′ TooMany
+      pub did-full : {t′ : List ℕ} → PutIs src (rowFor head from to a) (st .base) (st .live) limit t t′ Full → LineIs src limit from to st t t′ TooMany
       unfolding effect stateOf
       did-full {t′} b =
-          let rs : List Cells = put (key src) (rowFor head from to a) (rows (st .live) t) in (
+          let rs : List Cells = put (key src) (rowFor head from to a) (rows (st .live) (behind (st .base) t)) in (
             λ e k.
                 acts (add (q .0)) (q .1) e k
                 ∙ withinLimit-many limit e k _ (omega (arith, ap length live-add, length-map rs (rowOf src), b .0)),

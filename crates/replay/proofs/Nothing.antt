@@ -45,10 +45,10 @@ protocol-nowhere src sp e = ap protocolIn (action-nowhere src sp e)
 abbrev pub nowhere : Span
 nowhere = record { at = 0; size = 0 }
 
-pub carries-none : {src : Text} {limit : ℕ} {t : List ℕ} (st : State) → st .live ≡ 0 → length src < places → Room limit t → Inside src (st .table) → Inside src (st .protocol)
+pub carries-none : {src : Text} {limit : ℕ} {t : List ℕ} (st : State) → st .live ≡ 0 → length src < places → st .base ≤ limit → Room limit t → Inside src (st .table) → Inside src (st .protocol)
     → Carries src limit st t
 unfolding rowsOf All
-carries-none {src} {limit} {t} st e short room m p = record {
+carries-none {src} {limit} {t} st e short fits room m p = record {
   short = short;
   room = room;
   few = omega arith;
@@ -58,9 +58,9 @@ carries-none {src} {limit} {t} st e short room m p = record {
   protocol = p;
 }
 
-pub nothing-renewed : (z : State) → Renewed z (record { table = z .table; protocol = nowhere; live = 0 })
+pub nothing-renewed : (z : State) → Renewed z (record { table = z .table; protocol = nowhere; base = z .base; live = 0 })
 unfolding stateOf nothingLive rowsOf orUnstated
 nothing-renewed z = (
   λ src t. ap (λ (o : Option Protocol). record { table = orNoTable (tableAt src (z .table)); inForce = orUnstated o; live = [] }) (protocol-nowhere src nowhere refl),
-  λ src limit t w. carries-none (record { table = z .table; protocol = nowhere; live = 0 }) refl (w .short) (w .room) (w .metaData) (omega arith),
+  λ src limit t w. carries-none (record { table = z .table; protocol = nowhere; base = z .base; live = 0 }) refl (w .short) (omega (arith, w .few)) (w .room) (w .metaData) (omega arith),
 )

@@ -10,7 +10,7 @@ use Rattle.rules.specs.Bytes.{Bytes}
 use Rattle.rules.specs.Json.Text.{Text}
 use Rattle.rules.specs.Actions.{Facts}
 use Rattle.rules.specs.Live.{put, takeOut, pathOf}
-use Rattle.table.specs.Table.{wide, row, rows}
+use Rattle.table.specs.Table.{wide, row, rows, behind}
 use Rattle.table.specs.declared.Cells.{Cells}
 use Rattle.live.specs.Live.{key}
 use Rattle.replay.specs.declared.State.{State}
@@ -37,4 +37,4 @@ module _ (src : Text) where
 
   pub length-live : (st : State) (t : List ℕ) → length (stateOf src st t .live) ≡ st .live
   unfolding stateOf
-  length-live st t = length-map (rows (st .live) t) (rowOf src) ∙ length-rowsOf wide row (st .live) t
+  length-live st t = length-map (rows (st .live) (behind (st .base) t)) (rowOf src) ∙ length-rowsOf wide row (st .live) (behind (st .base) t)

@@ -29,7 +29,7 @@ use Rattle.replay.specs.declared.begin.Said.{Said}
 use Rattle.replay.specs.declared.begin.Saying.the-variants.{Next, Bad}
 use Rattle.replay.specs.declared.begin.Zero.the-variants.{Says, Malformed as NoZero}
 use Rattle.replay.specs.Views.{metaDataIn, protocolIn, tableAt, protocolAt, orNoTable, stateOf, saidOf, Stated}
-use Rattle.replay.specs.Answers.{bodyAs, says, SayingIs, ZeroIs}
+use Rattle.replay.specs.Answers.{bodyAs, says, SayingIs, ZeroIs, middle}
 use Rattle.rules.proofs.Applying.{zeroLines-empty}
 use Rattle.replay.proofs.Nothing.{nowhere, action-here, table-nowhere, protocol-nowhere, carries-none}
 
@@ -146,7 +146,7 @@ module _ (src : Text) (entry from to : ℕ) where
         ap (λ (a : Answer rSaid). a >>= ending entry)
         (sym (g .reads) ∙ ap (λ (ls : List Bytes). zeroLines entry line ls (saidOf src x)) (lines-part-none src at to h))
 
-    pub telling-says : to ≤ at → (x .table .size ≡ 0 → ⊥) → ZeroIs src (readZero (bodyAs src entry from to)) (Says (record { table = x .table; protocol = x .protocol; live = 0 }))
+    pub telling-says : to ≤ at → (x .table .size ≡ 0 → ⊥) → ZeroIs src (readZero (bodyAs src entry from to)) (Says (record { table = x .table; protocol = x .protocol; base = middle; live = 0 }))
     unfolding saidOf stateOf rowsOf orNoTable
     telling-says h n =
         let (m, q) = g .stated .ofTable (omega arith) in (
@@ -155,7 +155,7 @@ module _ (src : Text) (entry from to : ℕ) where
               ∙ ap (λ (o : Option rMetaData). ending entry (record { ofTable = o; ofProtocol = protocolAt src (x .protocol) })) q
               ∙ ap (λ (o : Option rMetaData). accepted (record { table = orNoTable o; inForce = orUnstated (protocolAt src (x .protocol)); live = [] })) (sym q),
           refl,
-          λ limit t short room. carries-none (record { table = x .table; protocol = x .protocol; live = 0 }) refl short room (g .stated .metaData) (g .stated .protocol),
+          λ limit t short fits room. carries-none (record { table = x .table; protocol = x .protocol; base = middle; live = 0 }) refl short fits room (g .stated .metaData) (g .stated .protocol),
         )
 
     pub telling-none : to ≤ at → x .table .size ≡ 0 → ZeroIs src (readZero (bodyAs src entry from to)) (NoZero entry 0)

@@ -42,10 +42,10 @@ pub record Carried (src : Text) (limit : ℕ) (t : List ℕ) (st : State) (t′ 
 
 -- ---- one line
 
--- of the row c put into the n rows of t
-abbrev pub PutIs : Text → Cells → (n limit : ℕ) → List ℕ → List ℕ → Put → Type 0
-PutIs src c n limit t t′ (Rows m) = Became src (put (key src) c (rows n t)) n t m t′ × (m ≤ limit)
-PutIs src c n limit t t′ Full = (length (put (key src) c (rows n t)) ≡ limit + 1) × (t′ ≡ t)
+-- of the row c put into the n rows of t behind `base` others
+abbrev pub PutIs : Text → Cells → (base n limit : ℕ) → List ℕ → List ℕ → Put → Type 0
+PutIs src c base n limit t t′ (Rows r) = Became src (put (key src) c (rows n (behind base t))) limit t r t′
+PutIs src c base n limit t t′ Full = (length (put (key src) c (rows n (behind base t))) ≡ limit + 1) × (t′ ≡ t)
 
 -- of the line from `from` to `to`, whatever its entry and number
 abbrev pub LineIs : Text → (limit from to : ℕ) → State → List ℕ → List ℕ → Applied → Type 0
@@ -70,6 +70,10 @@ OutcomeIs src limit o t t′ (TooManyAt e l) = (o ≡ refused (tooManyLive e l))
 
 -- ---- version 0
 
+-- behind so many free rows the first is put in
+abbrev pub middle : ℕ
+middle = 512
+
 -- what version 0 says with the line l more
 unfoldable pub says : Text → rSaid → Option rSaid
 says l x = do
@@ -83,7 +87,7 @@ SayingIs src o Bad = o ≡ none
 -- of version 0, which gives o: a state with nothing live, carried by any table with room; or the paper's number with entry and line
 abbrev pub ZeroIs : Text → Answer rState → Zero → Type 0
 ZeroIs src o (Says st) =
-    ((t : List ℕ) → o ≡ accepted (stateOf src st t)) × (st .live ≡ 0) × ((limit : ℕ) (t : List ℕ) → length src < places → Room limit t → Carries src limit st t)
+    ((t : List ℕ) → o ≡ accepted (stateOf src st t)) × (st .live ≡ 0) × ((limit : ℕ) (t : List ℕ) → length src < places → middle ≤ limit → Room limit t → Carries src limit st t)
 ZeroIs src o (NoZero e l) = o ≡ refused (malformed e l)
 
 -- of z, which version 0 gave: what a checkpoint's lines are applied to

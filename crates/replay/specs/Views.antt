@@ -12,7 +12,7 @@ use Rattle.rules.specs.Actions.{Facts, MetaData, Protocol, Action, add, remove,
 use Rattle.rules.specs.Live.{Row}
 use Rattle.rules.specs.History.{orUnstated}
 use Rattle.rules.specs.History.{State as rState, Said as rSaid}
-use Rattle.table.specs.Table.{rows, Room}
+use Rattle.table.specs.Table.{rows, Room, behind}
 use Rattle.table.specs.declared.Cells.{Cells}
 use Rattle.live.specs.Live.{places, placeOf, key, Table}
 use Rattle.replay.specs.declared.Span.{Span}
@@ -84,7 +84,7 @@ unfoldable pub stateOf : Text → State → List ℕ → rState
 stateOf src st t = record {
   table = orNoTable (tableAt src (st .table));
   inForce = orUnstated (protocolAt src (st .protocol));
-  live = map (rowOf src) (rows (st .live) t);
+  live = map (rowOf src) (rows (st .live) (behind (st .base) t));
 }
 
 unfoldable pub saidOf : Text → Said → rSaid
@@ -106,9 +106,9 @@ pub record Stands (src : Text) (c : Cells) : Type 0 where
 pub record Carries (src : Text) (limit : ℕ) (st : State) (t : List ℕ) : Type 0 where
   pub short : length src < places
   pub room : Room limit t
-  pub few : st .live ≤ limit
-  pub table : Table src (st .live) t
-  pub stands : All (Stands src) (rows (st .live) t)
+  pub few : st .base + st .live ≤ limit
+  pub table : Table src (st .live) (behind (st .base) t)
+  pub stands : All (Stands src) (rows (st .live) (behind (st .base) t))
   pub metaData : Inside src (st .table)
   pub protocol : Inside src (st .protocol)
 

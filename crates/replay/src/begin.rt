@@ -10,6 +10,9 @@ ghost use Rattle.bundle.specs.Files.{filesIn, fileIn};
 ghost use Rattle.replay.specs.Views.{saidOf, Stated};
 ghost use Rattle.replay.specs.Answers.{bodyAs, says, SayingIs, ZeroIs, Renewed};
 
+// Rows are put in behind so many free ones at first, so that there is room on both sides.
+const MIDDLE: usize = 512;
+
 // The lines of version 0 that say its metaData and its protocol.
 struct Said {
     table: Span,
@@ -102,6 +105,7 @@ fn zero_lines(src: &[u8], entry: usize, from: usize, to: usize) -> Zero
     Zero::Says(State {
         table: told,
         protocol,
+        base: MIDDLE,
         live: 0,
     })
 }
@@ -122,10 +126,12 @@ pub fn nothing_live(z: State) -> State
     ensures { λ r. ⌜ Renewed z r ⌝ }
 {
     let table = z.table;
+    let base = z.base;
     let none = Span { at: 0, size: 0 };
     State {
         table,
         protocol: none,
+        base,
         live: 0,
     }
 }

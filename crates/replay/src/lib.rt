@@ -8,16 +8,17 @@ pub use begin::Zero;
 pub use begin::nothing_live;
 pub use begin::read_zero;
 use live::Found;
+use live::Standing;
 use table::Cells;
 ghost use mathlib.Core.Path.{_≡_};
-ghost use Prim.Native.Nat.{_≤_, _<_};
+ghost use Prim.Native.Nat.{_+_, _≤_, _<_};
 ghost use lib.ListN.{length};
 ghost use Rattle.facts.specs.Parts.{part};
 ghost use Rattle.rules.specs.Actions.{action};
 ghost use Rattle.rules.specs.History.{readFile};
 ghost use Rattle.strings.specs.Decoded.{WellSpelled};
 ghost use Rattle.bundle.specs.Files.{filesIn, fileIn};
-ghost use Rattle.table.specs.Table.{Room};
+ghost use Rattle.table.specs.Table.{Room, behind};
 ghost use Rattle.live.specs.Live.{pathAt, Table};
 ghost use Rattle.actions.specs.Line.{ActionIs};
 ghost use Rattle.actions.specs.declared.line.Action.the-variants.{Add};
@@ -30,35 +31,39 @@ pub struct Span {
     pub size: usize,
 }
 
-// What a log says so far: the lines of the metaData and the protocol in force, and how many rows of the table are live.
+// What a log says so far: the lines of the metaData and the protocol in force, and how many rows of the table are live, behind
+// so many that are free.
 pub struct State {
     pub table: Span,
     pub protocol: Span,
+    pub base: usize,
     pub live: usize,
 }
 
 // ---- one line
 
-// So many rows there are; or the row is one too many.
+// Where the rows stand; or the row is one too many.
 enum Put {
-    Rows(usize),
+    Rows(Standing),
     Full,
 }
 
-// Puts the row c into the table of n rows, in place of the row with the same path if there is one, unless it makes more than `limit`.
-fn put_row(src: &[u8], t: &mut [u64], n: usize, limit: usize, c: Cells) -> Put
-    requires { ⌜ Table (now src) n (now t) × WellSpelled (now src) (pathAt c) × (n ≤ limit) × Room limit (now t) ⌝ }
-    ensures { λ r. ⌜ PutIs (now (src .entry)) c n limit (now (t .entry)) (now (t .exit)) r ⌝ }
+// Puts the row c into the table of n rows behind `base` others, in place of the row with the same path if there is one, unless it makes
+// more than `limit`.
+fn put_row(src: &[u8], t: &mut [u64], base: usize, n: usize, limit: usize, c: Cells) -> Put
+    requires { ⌜ Table (now src) n (behind base (now t)) × WellSpelled (now src) (pathAt c) × (base + n ≤ limit) × Room limit (now t) ⌝ }
+    ensures { λ r. ⌜ PutIs (now (src .entry)) c base n limit (now (t .entry)) (now (t .exit)) r ⌝ }
 {
     if n < limit {
-        let m = live::store(src, t, n, c);
-        return Put::Rows(m);
+        let r = live::store(src, t, base, n, limit, c);
+        return Put::Rows(r);
     }
     let path = (c.head / live::PLACES) as usize;
-    match live::find(src, t, n, path) {
+    let from = base * table::ROW;
+    match live::find(src, &t[from..], n, path) {
         Found::Held(k) => {
-            table::set_row(t, k, c);
-            Put::Rows(n)
+            table::set_row(t, base + k, c);
+            Put::Rows(Standing { base, live: n })
         }
         Found::Place(_) => Put::Full,
     }
@@ -92,14 +97,16 @@ fn apply_add(
         size: a.size,
         time: a.time,
     };
+    let base = st.base;
     let n = st.live;
     let table = st.table;
     let protocol = st.protocol;
-    match put_row(src, t, n, limit, c) {
-        Put::Rows(m) => Applied::Next(State {
+    match put_row(src, t, base, n, limit, c) {
+        Put::Rows(r) => Applied::Next(State {
             table,
             protocol,
-            live: m,
+            base: r.base,
+            live: r.live,
         }),
         Put::Full => Applied::TooMany,
     }
@@ -110,17 +117,19 @@ pub fn apply(src: &[u8], from: usize, to: usize, st: State, t: &mut [u64], limit
     requires { ⌜ Carries (now src) limit st (now t) × (from < to) × (to ≤ length (now src)) ⌝ }
     ensures { λ r. ⌜ LineIs (now (src .entry)) limit from to st (now (t .entry)) (now (t .exit)) r ⌝ }
 {
+    let base = st.base;
     let n = st.live;
     let table = st.table;
     let protocol = st.protocol;
     match actions::classify(&src[from..to]) {
         Action::Add(a) => apply_add(src, from, to, a, st, t, limit),
         Action::Remove(p) => {
-            let rest = live::take_out(src, t, n, from + p);
+            let r = live::take_out(src, t, base, n, limit, from + p);
             Applied::Next(State {
                 table,
                 protocol,
-                live: rest,
+                base: r.base,
+                live: r.live,
             })
         }
         Action::Protocol(_) => {
@@ -131,6 +140,7 @@ pub fn apply(src: &[u8], from: usize, to: usize, st: State, t: &mut [u64], limit
             Applied::Next(State {
                 table,
                 protocol: here,
+                base,
                 live: n,
             })
         }

@@ -3,3 +3,5 @@ pub mod Shifts
 pub mod Changes
 pub mod Zeroing
 pub mod Moving
+pub mod Standing
+pub mod Settling

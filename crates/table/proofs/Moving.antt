@@ -28,12 +28,13 @@ module _ {n k : ℕ} where
   }
 
   -- row j - 1 is written over row j
-  pub opening-turn : {t₀ t t′ : List ℕ} {j : ℕ} {c : Cells} → Opening n k t₀ t j → k < j → c ≡ rowAt (rows (n + 1) t) (j - 1)
-      → Changed (n + 1) (set (rows (n + 1) t) j c) (n + 1) t t′ → Opening n k t₀ t′ (j - 1)
-  opening-turn {t₀} {t} {t′} {j} {c} g h e f =
+  pub opening-turn : {t₀ t t′ : List ℕ} {j : ℕ} → Opening n k t₀ t j → k < j
+      → Changed (n + 1) (set (rows (n + 1) t) j (rowAt (rows (n + 1) t) (j - 1))) (n + 1) t t′ → Opening n k t₀ t′ (j - 1)
+  opening-turn {t₀} {t} {t′} {j} g h f =
       let l : List Cells = rows (n + 1) t₀ in
       let u : List Cells = movedUp j (n - j) 1 l in
-      let v : c ≡ rowAt u (j - 1) = e ∙ ap (λ (rs : List Cells). rowAt rs (j - 1)) (g .changed .rows) in
+      let c : Cells = rowAt (rows (n + 1) t) (j - 1) in
+      let v : c ≡ rowAt u (j - 1) = ap (λ (rs : List Cells). rowAt rs (j - 1)) (g .changed .rows) in
       let s : set u j c ≡ movedUp (j - 1) (n - (j - 1)) 1 l = ap (set u j) v ∙ open-step n l (length-rowsOf wide row (n + 1) t₀) j (row []) (omega arith) (g .high) in
       record { low = omega arith; high = omega arith; changed = changed-as s (changed-set j c (g .changed) f) }
 
@@ -64,12 +65,13 @@ module _ {n k : ℕ} where
   }
 
   -- row j + 1 is written over row j
-  pub closing-turn : {t₀ t t′ : List ℕ} {j : ℕ} {c : Cells} → Closing n k t₀ t j → j < n - 1 → c ≡ rowAt (rows n t) (j + 1)
-      → Changed n (set (rows n t) j c) n t t′ → Closing n k t₀ t′ (j + 1)
-  closing-turn {t₀} {t} {t′} {j} {c} g h e f =
+  pub closing-turn : {t₀ t t′ : List ℕ} {j : ℕ} → Closing n k t₀ t j → j < n - 1
+      → Changed n (set (rows n t) j (rowAt (rows n t) (j + 1))) n t t′ → Closing n k t₀ t′ (j + 1)
+  closing-turn {t₀} {t} {t′} {j} g h f =
       let l : List Cells = rows n t₀ in
       let u : List Cells = movedDown k (j - k) 1 l in
-      let v : c ≡ rowAt u (j + 1) = e ∙ ap (λ (rs : List Cells). rowAt rs (j + 1)) (g .changed .rows) in
+      let c : Cells = rowAt (rows n t) (j + 1) in
+      let v : c ≡ rowAt u (j + 1) = ap (λ (rs : List Cells). rowAt rs (j + 1)) (g .changed .rows) in
       let s : set u j c ≡ movedDown k (j + 1 - k) 1 l = ap (set u j) v ∙ close-step n k l (length-rowsOf wide row n t₀) (omega arith) j (row []) (g .low) h in
       record { low = omega arith; high = omega arith; changed = changed-as s (changed-set j c (g .changed) f) }
 

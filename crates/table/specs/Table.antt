@@ -1,6 +1,6 @@
 -- A table of rows in a list of numbers: how a row lies in them, the rows of a table, and what a function that changes
 -- rows leaves. How wide a row is stands here alone: in `wide` and in the layout.
-use Prim.Native.Nat.{ℕ, _*_, _≤_, _<_}
+use Prim.Native.Nat.{ℕ, _+_, _*_, _≤_, _<_}
 use mathlib.Core.Path.{_≡_, refl}
 use native.Mathlib.Omega.{arith}
 use mathlib.Core.List.{List, [], _∷_}
@@ -53,6 +53,17 @@ pub record Changed (m : ℕ) (rs : List Cells) (n : ℕ) (t t′ : List ℕ) : T
   pub rest : behind n t′ ≡ behind n t
   pub length : length t′ ≡ length t
 
+-- t became t′: its m rows behind `base` others are rs, within a room of `limit` rows, behind which nothing changed
+pub record Stood (base m : ℕ) (rs : List Cells) (limit : ℕ) (t t′ : List ℕ) : Type 0 where
+  pub rows : rows m (behind base t′) ≡ rs
+  pub within : base + m ≤ limit
+  pub rest : behind limit t′ ≡ behind limit t
+  pub length : length t′ ≡ length t
+
 -- t became t′: row k is c, and nothing else changed, however many rows are looked at
 abbrev pub Stored : ℕ → Cells → List ℕ → List ℕ → Type 0
 Stored k c t t′ = (n : ℕ) → k < n → Room n t → Changed n (set (rows n t) k c) n t t′
+
+-- t became t′: row k is as row i was, and nothing else changed
+abbrev pub Copied : (i k : ℕ) → List ℕ → List ℕ → Type 0
+Copied i k t t′ = (n : ℕ) → i < n → k < n → Room n t → Changed n (set (rows n t) k (rowAt (rows n t) i)) n t t′

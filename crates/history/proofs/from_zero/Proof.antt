@@ -5,6 +5,7 @@ use Rattle.rules.specs.Live.{mostLive}
 use Rattle.bundle.specs.Files.{fileIn}
 use Rattle.replay.specs.Answers.{ZeroIs}
 use Rattle.history.proofs.Reaching.{bundle-places, read-none, read-done, read-malformed, read-many}
+use native.Mathlib.Omega.{arith}
 use borrow.Author.Needs.{needs}
 use Rattle.history.proofs.from_zero.Statement.{statement}
 use Rattle.history.proofs.from_zero.Tie as tie
@@ -19,7 +20,7 @@ follow-requires : tie.Need-follow-requires
 unfolding mostLive
 follow-requires c κs =
     let d = subst (ZeroIs _ _) (c .before .before .z .given .1) (c .before .before .before .before .read-zero .ensures) in
-    (c .before .before .before .before .before .before .before .pre .0, d .2 _ _ (bundle-places _ (c .before .before .before .before .before .before .before .pre .0)) (c .before .before .before .before .before .before .before .pre .1), c .before .before .before .before .before .before .before .pre .3)
+    (c .before .before .before .before .before .before .before .pre .0, d .2 _ _ (bundle-places _ (c .before .before .before .before .before .before .before .pre .0)) (omega arith) (c .before .before .before .before .before .before .before .pre .1), c .before .before .before .before .before .before .before .pre .3)
 
 enum-known-st : tie.Need-enum-known-st
 enum-known-st c = search needs

@@ -5,6 +5,7 @@ use Rattle.rules.specs.Live.{mostLive}
 use Rattle.replay.specs.Answers.{OutcomeIs}
 use Rattle.history.proofs.Reaching.{bundle-places}
 use Rattle.latest.proofs.Beginning.{begun, latest-join}
+use native.Mathlib.Omega.{arith}
 use borrow.Author.Needs.{needs}
 use Rattle.latest.proofs.by_checkpoint.Statement.{statement}
 use Rattle.latest.proofs.by_checkpoint.Tie as tie
@@ -17,7 +18,7 @@ unfolding mostLive
 read-file-requires c κs =
     let a = c .before .before .before .before .args in
     let h = c .before .before .before .before .pre in
-    (c .before .nothing-live .ensures .1 (now (a .src)) mostLive (now (a .t)) (h .2 .says .2 mostLive (now (a .t)) (bundle-places (now (a .src)) (h .0)) (h .1)), h .2 .within)
+    (c .before .nothing-live .ensures .1 (now (a .src)) mostLive (now (a .t)) (h .2 .says .2 mostLive (now (a .t)) (bundle-places (now (a .src)) (h .0)) (omega arith) (h .1)), h .2 .within)
 
 enum-known-st : tie.Need-enum-known-st
 enum-known-st c = search needs

@@ -6,7 +6,7 @@ use Rattle.query.specs.Reading.{columnsOf}
 use Rattle.replay.specs.Views.{stateOf}
 use Rattle.reading.proofs.Rules.{listing-columns}
 use Rattle.reading.proofs.Rooms.{answer-same}
-use Rattle.reading.proofs.Picked.{picks-few, picks-long, answer-listed}
+use Rattle.reading.proofs.Picked.{settled-room, settled-stands, picks-few, picks-long, answer-listed}
 use borrow.Author.Needs.{needs}
 use native.Mathlib.Omega.{arith}
 use Rattle.reading.proofs.list_picked.Statement.{statement}
@@ -15,8 +15,14 @@ use Rattle.reading.proofs.list_picked.Tie as tie
 all-columns-requires : tie.Need-all-columns-requires
 all-columns-requires c κs = search needs
 
+settle-requires : tie.Need-settle-requires
+settle-requires c κs = let w = c .before .before .before .before .before .before .before .pre .0 in omega (arith, w .few, w .room)
+
 pick-requires : tie.Need-pick-requires
-pick-requires c κs = search needs
+pick-requires c κs =
+    let q = c .before .before .before .before .before .before .before .before .before .before .before .pre in
+    let f = c .before .before .before .settle .ensures in
+    (settled-room _ _ _ (q .0) _ f, settled-stands _ _ _ (q .0) _ f, q .1)
 
 bare-requires : tie.Need-bare-requires
 bare-requires c κs = search needs
@@ -25,14 +31,24 @@ mul-end : tie.Need-mul-end
 mul-end c = search needs
 
 zero-requires : tie.Need-zero-requires
-zero-requires c κs = (omega (arith, picks-few _ _ _ _ (c .before .before .before .before .before .before .before .before .before .before .before .before .before .before .before .pre .0) _ _ _ (c .before .before .before .before .before .before .before .pick .ensures) (c .before .before .before .bare .ensures)), picks-long _ _ _ _ (c .before .before .before .before .before .before .before .before .before .before .before .before .before .before .before .pre .0) _ _ _ (c .before .before .before .before .before .before .before .pick .ensures) (c .before .before .before .bare .ensures))
+zero-requires c κs =
+    let w = c .before .before .before .before .before .before .before .before .before .before .before .before .before .before .before .before .before .before .before .pre .0 in
+    let f = c .before .before .before .before .before .before .before .before .before .before .before .settle .ensures in
+    let p = c .before .before .before .before .before .before .before .pick .ensures in
+    let b = c .before .before .before .bare .ensures in
+    (omega (arith, picks-few _ _ _ _ w _ f _ _ _ p b), picks-long _ _ _ _ w _ f _ _ _ p b)
 
 same-length : tie.Need-same-length
 same-length c = search needs
 
 returns : tie.Need-returns
 unfolding stateOf columnsOf
-returns c = answer-listed _ _ _ _ (c .before .before .before .before .before .before .before .before .before .before .before .before .before .before .before .before .before .before .pre .0) _ _ _ (c .before .before .before .before .before .before .before .before .before .before .pick .ensures) (c .before .before .before .before .before .before .bare .ensures) _ _ _ (c .before .before .before .before .before .before .before .before .before .before .before .before .before .before .before .before .before .before .pre .2) (sym (c .before .before .before .before .before .before .before .before .before .before .before .before .before .all-columns .ensures) ∙ c .before .before .before .before .before .before .before .before .before .before .before .before .if1 .taken) (c .before .before .zero .ensures)
+returns c =
+    let q = c .before .before .before .before .before .before .before .before .before .before .before .before .before .before .before .before .before .before .before .before .before .before .pre in
+    let f = c .before .before .before .before .before .before .before .before .before .before .before .before .before .before .settle .ensures in
+    let p = c .before .before .before .before .before .before .before .before .before .before .pick .ensures in
+    let b = c .before .before .before .before .before .before .bare .ensures in
+    answer-listed _ _ _ _ (q .0) _ f _ _ _ p b _ _ _ (q .2) (sym (c .before .before .before .before .before .before .before .before .before .before .before .before .before .before .before .before .before .all-columns .ensures) ∙ c .before .before .before .before .before .before .before .before .before .before .before .before .before .before .before .before .if1 .taken) (c .before .before .zero .ensures)
 
 refuse-requires : tie.Need-refuse-requires
 unfolding numbered mostLive
@@ -50,6 +66,7 @@ list-picked-spec =
     tie.close
     (tie.spec
     all-columns-requires
+    settle-requires
     pick-requires
     bare-requires
     mul-end

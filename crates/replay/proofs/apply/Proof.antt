@@ -47,13 +47,13 @@ add-take-out c =
 take-out-requires : tie.Need-take-out-requires
 take-out-requires c κs =
     let s = c .before .before .before .before .before .before .before .before .before .before in
-    (s .pre .0 .table, remove-placed _ _ _ _ _ _ (s .pre .0) (s .pre .1) (s .pre .2) (said (c .before .before .before .before) _ (c .before .before .p .given .1)) .spelled)
+    (s .pre .0 .table, remove-placed _ _ _ _ _ _ (s .pre .0) (s .pre .1) (s .pre .2) (said (c .before .before .before .before) _ (c .before .before .p .given .1)) .spelled, s .pre .0 .few, s .pre .0 .room)
 
 enum-told : tie.Need-enum-told
 enum-told c = search needs
 
-sub-t26 : tie.Need-sub-t26
-sub-t26 c = search needs
+sub-t27 : tie.Need-sub-t27
+sub-t27 c = search needs
 
 enum-told-2 : tie.Need-enum-told-2
 enum-told-2 c = search needs
@@ -120,7 +120,7 @@ apply-spec =
     add-take-out
     take-out-requires
     enum-told
-    sub-t26
+    sub-t27
     enum-told-2
     enum-told-3
     enum-told-4

@@ -17,8 +17,8 @@ pack-requires c κs =
     let s = c .before .before .before in
     (omega (arith, s .pre .0 .1, s .pre .0 .2, s .pre .0 .0 .short), omega (arith, add-fits _ _ _ _ _ _ (s .pre .0 .0) (s .pre .0 .1) (s .pre .0 .2) (s .pre .1), s .pre .0 .2, s .pre .0 .0 .short))
 
-sub-t14 : tie.Need-sub-t14
-sub-t14 c = search needs
+sub-t15 : tie.Need-sub-t15
+sub-t15 c = search needs
 
 put-row-requires : tie.Need-put-row-requires
 put-row-requires c κs =
@@ -27,8 +27,8 @@ put-row-requires c κs =
     let e = c .before .before .before .pack .ensures in
     (w .table, rw (e .path) (add-placed _ _ _ _ _ _ w (s .pre .0 .1) (s .pre .0 .2) (s .pre .1) .spelled), w .few, w .room)
 
-enum-known-m : tie.Need-enum-known-m
-enum-known-m c = search needs
+enum-known-r : tie.Need-enum-known-r
+enum-known-r c = search needs
 
 enum-told : tie.Need-enum-told
 enum-told c = search needs
@@ -39,7 +39,7 @@ same-length c = search needs
 returns : tie.Need-returns
 returns c =
     let s = c .before .before .before .before .before .before .before .before .before .before .before .before .before in
-    did-add _ _ _ _ _ _ (s .pre .0 .0) (s .pre .0 .1) (s .pre .0 .2) (s .pre .1) _ (c .before .before .before .before .before .before .before .before .before .pack .ensures) _ (subst (PutIs _ _ _ _ _ _) (c .before .m .given .1) (c .before .before .before .before .before .put-row .ensures))
+    did-add _ _ _ _ _ _ (s .pre .0 .0) (s .pre .0 .1) (s .pre .0 .2) (s .pre .1) _ (c .before .before .before .before .before .before .before .before .before .pack .ensures) _ (subst (PutIs _ _ _ _ _ _ _) (c .before .r .given .1) (c .before .before .before .before .before .put-row .ensures))
 
 same-length-2 : tie.Need-same-length-2
 same-length-2 c = search needs
@@ -47,7 +47,7 @@ same-length-2 c = search needs
 returns-2 : tie.Need-returns-2
 returns-2 c =
     let s = c .before .before .before .before .before .before .before .before .before .before .before .before in
-    did-full _ _ _ _ _ _ (s .pre .0 .0) (s .pre .0 .1) (s .pre .0 .2) (s .pre .1) _ (c .before .before .before .before .before .before .before .before .pack .ensures) (subst (PutIs _ _ _ _ _ _) (c .enum-told .given .1) (c .before .before .before .before .put-row .ensures))
+    did-full _ _ _ _ _ _ (s .pre .0 .0) (s .pre .0 .1) (s .pre .0 .2) (s .pre .1) _ (c .before .before .before .before .before .before .before .before .pack .ensures) (subst (PutIs _ _ _ _ _ _ _) (c .enum-told .given .1) (c .before .before .before .before .put-row .ensures))
 
 pub apply-add-spec : {M : Type 1} → statement M
 apply-add-spec =
@@ -55,9 +55,9 @@ apply-add-spec =
     (tie.spec
     add-pack
     pack-requires
-    sub-t14
+    sub-t15
     put-row-requires
-    enum-known-m
+    enum-known-r
     enum-told
     same-length
     returns

@@ -1,4 +1,5 @@
 -- `compare` meets its contract: version 0, the checkpoint and the way, in the paper's order.
+use native.Mathlib.Omega.{arith}
 use borrow.Author.Needs.{needs}
 use mathlib.Core.Path.{subst}
 use Rattle.rules.specs.Live.{mostLive}
@@ -22,7 +23,7 @@ read-file-requires : tie.Need-read-file-requires
 unfolding mostLive
 read-file-requires c κs =
     let d = (subst (ZeroIs _ _) (c .before .before .before .z .given .1) (c .before .before .before .before .before .read-zero .ensures)) in
-    (c .before .nothing-live .ensures .1 _ _ _ (d .2 _ _ (bundle-places _ (c .before .before .before .before .before .before .before .before .before .pre .0)) (c .before .before .before .before .before .before .before .before .before .pre .4)), c .before .before .before .before .before .before .before .before .before .pre .2)
+    (c .before .nothing-live .ensures .1 _ _ _ (d .2 _ _ (bundle-places _ (c .before .before .before .before .before .before .before .before .before .pre .0)) (omega arith) (c .before .before .before .before .before .before .before .before .before .pre .4)), c .before .before .before .before .before .before .before .before .before .pre .2)
 
 enum-known-mine : tie.Need-enum-known-mine
 enum-known-mine c = search needs
@@ -31,7 +32,7 @@ compare-with-requires : tie.Need-compare-with-requires
 unfolding mostLive
 compare-with-requires c κs =
     let d = (subst (ZeroIs _ _) (c .before .before .before .before .before .before .before .before .before .before .before .z .given .1) (c .before .before .before .before .before .before .before .before .before .before .before .before .before .read-zero .ensures)) in
-    (c .before .before .before .before .before .before .before .before .before .before .before .before .before .before .before .before .before .pre .0, d .2 _ _ (bundle-places _ (c .before .before .before .before .before .before .before .before .before .before .before .before .before .before .before .before .before .pre .0)) (c .before .before .before .before .before .before .before .before .before .before .before .before .before .before .before .before .before .pre .5), c .before .before .before .before .before .before .before .before .before .before .before .before .before .before .before .before .before .pre .3, compare-carries (c .before .before .before .before .before .before .before .before .before .before .before .before .before .before .before .before .before .args .src .now) (c .before .before .before .before .before .before .before .before .before .before .before .before .before .before .before .before .before .args .zero) (c .before .before .before .before .before .before .before .before .before .before .before .before .before .before .before .before .before .args .k) (c .before .before .before .before .before .before .before .before .before .before .before .before .before .before .before .before .before .args .start) (c .before .before .before .before .before .before .before .before .before .before .before .before .before .before .before .before .before .args .c .0) (c .before .before .before .before .before .before .before .before .before .before .before .z .given .0 .0) (subst (ZeroIs _ _) (c .before .before .before .before .before .before .before .before .before .before .before .z .given .1) (c .before .before .before .before .before .before .before .before .before .before .before .before .before .read-zero .ensures)) (c .before .before .before .before .before .before .before .before .before .nothing-live .result) (c .before .before .before .before .before .before .before .before .before .nothing-live .ensures) (c .before .before .before .before .before .before .before .before .before .before .before .before .before .before .before .before .before .args .one .now) _ (c .before .before .before .before .before .before .before .before .before .before .before .before .before .before .before .before .before .args .two .now) (c .before .before .before .before .before .before .before .read-file .result) (c .before .before .before .before .before .before .before .read-file .ensures) (c .before .before .before .mine .given .0 .0) (c .before .before .before .mine .given .1))
+    (c .before .before .before .before .before .before .before .before .before .before .before .before .before .before .before .before .before .pre .0, d .2 _ _ (bundle-places _ (c .before .before .before .before .before .before .before .before .before .before .before .before .before .before .before .before .before .pre .0)) (omega arith) (c .before .before .before .before .before .before .before .before .before .before .before .before .before .before .before .before .before .pre .5), c .before .before .before .before .before .before .before .before .before .before .before .before .before .before .before .before .before .pre .3, compare-carries (c .before .before .before .before .before .before .before .before .before .before .before .before .before .before .before .before .before .args .src .now) (c .before .before .before .before .before .before .before .before .before .before .before .before .before .before .before .before .before .args .zero) (c .before .before .before .before .before .before .before .before .before .before .before .before .before .before .before .before .before .args .k) (c .before .before .before .before .before .before .before .before .before .before .before .before .before .before .before .before .before .args .start) (c .before .before .before .before .before .before .before .before .before .before .before .before .before .before .before .before .before .args .c .0) (c .before .before .before .before .before .before .before .before .before .before .before .z .given .0 .0) (subst (ZeroIs _ _) (c .before .before .before .before .before .before .before .before .before .before .before .z .given .1) (c .before .before .before .before .before .before .before .before .before .before .before .before .before .read-zero .ensures)) (c .before .before .before .before .before .before .before .before .before .nothing-live .result) (c .before .before .before .before .before .before .before .before .before .nothing-live .ensures) (c .before .before .before .before .before .before .before .before .before .before .before .before .before .before .before .before .before .args .one .now) _ (c .before .before .before .before .before .before .before .before .before .before .before .before .before .before .before .before .before .args .two .now) (c .before .before .before .before .before .before .before .read-file .result) (c .before .before .before .before .before .before .before .read-file .ensures) (c .before .before .before .mine .given .0 .0) (c .before .before .before .mine .given .1))
 
 enum-known-e : tie.Need-enum-known-e
 enum-known-e c = search needs
