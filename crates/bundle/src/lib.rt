@@ -302,6 +302,9 @@ fn too_large(s: &[u8], k: usize) -> bool
     requires { ⌜ k < length (filesIn (now s)) ⌝ }
     ensures { λ r. ⌜ r ≡ isTooLarge (nameOf (fileIn (now (s .entry)) k .name)) ⌝ }
 {
+    if names::begins_low(name_in(s, k)) {
+        return false; // as in most names
+    }
     match kind(s, k) {
         Name::VersionFile(_) => false,
         Name::Checkpoint(_) => false,
