@@ -1,5 +1,5 @@
 -- What a row written, put in or taken out at the place that a search found makes of a live table.
-use Prim.Native.Nat.{ℕ, _+_, _-_, _*_, _≤_, _<_}
+use Prim.Native.Nat.{ℕ, _+_, _-_, _*_, _≤_}
 use mathlib.Core.Path.{_≡_, refl, sym, ap, _∙_}
 use native.Mathlib.Omega.{arith}
 use mathlib.Core.List.{List, []}
@@ -19,7 +19,6 @@ use Rattle.strings.specs.Decoded.{WellSpelled}
 use Rattle.table.specs.Table.{wide, row, rows, Room, behind, Changed, Stood}
 use Rattle.table.specs.declared.Cells.{Cells}
 use Rattle.table.proofs.Standing.{stood-over, stood-none, stood-as}
-use Rattle.live.specs.declared.Standing.{Standing}
 use Rattle.live.specs.declared.Found.the-variants.{Held, Place}
 use Rattle.live.specs.Live.{pathAt, key, Table, Finds, Became}
 

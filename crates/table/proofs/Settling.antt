@@ -9,7 +9,7 @@ use lib.Seq.{take-at}
 use Rattle.facts.specs.Moves.{putAt, movedDown}
 use Rattle.facts.proofs.Parts.{part-behind}
 use Rattle.facts.proofs.Moves.{movedDown-start, movedDown-step}
-use Rattle.facts.proofs.Rows.{length-rowsOf, take-rowsOf}
+use Rattle.facts.proofs.Rows.{length-rowsOf}
 use Rattle.table.specs.declared.Cells.{Cells}
 use Rattle.table.specs.Table.{wide, row, rows, rowAt, behind, Changed}
 use Rattle.table.proofs.Changes.{changed-none, changed-as, changed-set, changed-front}

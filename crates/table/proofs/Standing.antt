@@ -3,7 +3,7 @@ use Prim.Native.Nat.{ℕ, _+_, _-_, _*_, _≤_, _<_}
 use mathlib.Core.Path.{_≡_, refl, sym, ap, ap₂, _∙_}
 use native.Mathlib.Omega.{arith}
 use mathlib.Core.List.{List, _∷_, _++_, append-assoc}
-use lib.ListN.{length, take, drop, set, take-append-drop, length-drop, length-append}
+use lib.ListN.{length, take, drop, set, take-append-drop}
 use lib.Seq.{length-take-le, drop-append-seam, drop-append-le, drop-drop}
 use Rattle.facts.specs.Rows.{insertAt, removeAt}
 use Rattle.facts.proofs.Lists.{set-here, set-past, drop-take, drop-later}

@@ -1,5 +1,5 @@
 -- `begins_low` meets its contract: it answers true only where the first two bytes are zeros.
-use mathlib.Core.Bool.{true, false}
+use mathlib.Core.Bool.{true}
 use native.Mathlib.Omega.{arith}
 use borrow.Author.Tests.{eqb-true}
 use borrow.Author.Needs.{needs}

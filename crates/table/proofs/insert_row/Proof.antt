@@ -5,7 +5,6 @@ use mathlib.Core.List.{List}
 use Prim.Native.Nat.{ℕ, _+_, _-_, _≤_}
 use Rattle.table.specs.Table.{Room}
 use Rattle.table.proofs.Moving.{Opening, opening-start, opening-turn, opening-end}
-use borrow.Author.Needs.{needs}
 use native.Mathlib.Omega.{arith}
 use Rattle.table.proofs.insert_row.Statement.{statement}
 use Rattle.table.proofs.insert_row.Tie as tie

@@ -1,6 +1,5 @@
 -- `take_away` meets its contract: on the right a row taken out, on the left one put in before those that stay.
 use Rattle.table.proofs.Standing.{stood-out-left, stood-out-right}
-use native.Mathlib.Omega.{arith}
 use borrow.Author.Needs.{needs}
 use Rattle.table.proofs.windows.take_away.Statement.{statement}
 use Rattle.table.proofs.windows.take_away.Tie as tie
