@@ -23,3 +23,8 @@ pub record Stands (o : Option (Pair × Text)) (s : Text) (at : ℕ) (n : Spell) 
 abbrev pub MetIs : Option (Pair × Text) → Text → (at : ℕ) → Met → Type 0
 MetIs o s at (Member n v e) = Stands o s at n v e
 MetIs o s at NoMember = o ≡ none
+
+-- the same where a member was found; nothing is said where none was
+abbrev pub FoundIs : Option (Pair × Text) → Text → (at : ℕ) → Met → Type 0
+FoundIs o s at (Member n v e) = Stands o s at n v e
+FoundIs o s at NoMember = Unit {0}

@@ -6,21 +6,24 @@ use crate::notes::no_fields;
 use crate::notes::noted;
 use json::Tail;
 use keys::Name;
+use keys::QUOTE;
 use keys::Spell;
 use kinds::Kind;
 use kinds::Known;
 use text::Next;
 ghost use mathlib.Core.Path.{_≡_};
 ghost use mathlib.Core.List.{List};
-ghost use Prim.Native.Nat.{_≤_};
+ghost use Prim.Native.Nat.{ℕ, _≤_};
 ghost use lib.ListN.{length, drop};
 ghost use Rattle.rules.specs.Bytes.{Bytes, same, holds, distinct};
 ghost use Rattle.rules.specs.Json.Values.{member, contents, value as rValue};
 ghost use Rattle.kinds.specs.Kinds.{namesOf};
 ghost use Rattle.keys.specs.Spelled.{nameIn, Named};
-ghost use Rattle.fields.specs.Standing.{MetIs};
+ghost use Rattle.fields.specs.Standing.{MetIs, FoundIs};
 ghost use Rattle.fields.specs.Slots.{Scanned};
 ghost use Rattle.fields.specs.Namings.{Object, IsObject, Members};
+
+const COLON: u8 = 0x3A;
 
 // A member: its name, and from where to where its value stands; or none.
 pub enum Met {
@@ -28,8 +31,44 @@ pub enum Met {
     NoMember,
 }
 
-// The member at `at`, whose value nests at most `depth` deep.
-pub fn read_member(s: &[u8], at: usize, depth: usize) -> Met
+// The member at `at` where it is two strings of plain bytes and a colon, as most are; none is also answered where it is another.
+fn plain_member(s: &[u8], at: usize) -> Met
+    requires { ⌜ at ≤ length (now s) ⌝ }
+    ensures { λ r. ⌜ ((depth : ℕ) → FoundIs (member (rValue depth) (drop at (now (s .entry)))) (now (s .entry)) at r) ⌝ }
+{
+    let Next::At(i) = text::skip_byte(s, at, QUOTE) else {
+        return Met::NoMember;
+    };
+    let n = spellings::plain_end(s, i);
+    if n == 0 {
+        return Met::NoMember;
+    }
+    if s.len() - n < 2 {
+        return Met::NoMember;
+    }
+    if s[n] != COLON {
+        return Met::NoMember;
+    }
+    if s[n + 1] != QUOTE {
+        return Met::NoMember;
+    }
+    let e = spellings::plain_end(s, n + 2);
+    if e == 0 {
+        return Met::NoMember;
+    }
+    Met::Member(
+        Spell {
+            at: i,
+            end: n,
+            plain: true,
+        },
+        n + 1,
+        e,
+    )
+}
+
+// The member at `at`, whatever it is: its name, the colon, its value.
+fn any_member(s: &[u8], at: usize, depth: usize) -> Met
     requires { ⌜ at ≤ length (now s) ⌝ }
     ensures { λ r. ⌜ MetIs (member (rValue depth) (drop at (now (s .entry)))) (now (s .entry)) at r ⌝ }
 {
@@ -44,6 +83,17 @@ pub fn read_member(s: &[u8], at: usize, depth: usize) -> Met
         return Met::NoMember;
     };
     Met::Member(n, v, e)
+}
+
+// The member at `at`, whose value nests at most `depth` deep.
+pub fn read_member(s: &[u8], at: usize, depth: usize) -> Met
+    requires { ⌜ at ≤ length (now s) ⌝ }
+    ensures { λ r. ⌜ MetIs (member (rValue depth) (drop at (now (s .entry)))) (now (s .entry)) at r ⌝ }
+{
+    let Met::Member(name, from, to) = plain_member(s, at) else {
+        return any_member(s, at, depth);
+    };
+    Met::Member(name, from, to)
 }
 
 // The object behind whose brace `at` is: checked whole, in one pass, with the places of the members that its kind names.

@@ -124,7 +124,7 @@ pub fn skip_scalar(s: &[u8], at: usize) -> Next
     }
 }
 
-// An item of an object or an array: a value in which objects and arrays nest at most `depth` deep.
+// A value inside of a container: objects and arrays nest in it at most `depth` deep.
 fn value_within(s: &[u8], at: usize, depth: usize) -> Next
     requires { ⌜ at ≤ length (now s) ⌝ }
     ensures { λ r. ⌜ Answer (rValue depth (drop at (now (s .entry)))) (now (s .entry)) (at + 1) r ⌝ }
@@ -151,6 +151,20 @@ fn value_within(s: &[u8], at: usize, depth: usize) -> Next
     Next::At(end)
 }
 
+// The value of a member, as `value_within`; a string, which most are, is read at once.
+fn member_value(s: &[u8], at: usize, depth: usize) -> Next
+    requires { ⌜ at ≤ length (now s) ⌝ }
+    ensures { λ r. ⌜ Answer (rValue depth (drop at (now (s .entry)))) (now (s .entry)) (at + 1) r ⌝ }
+{
+    if s.len() <= at {
+        return Next::Bad;
+    }
+    if s[at] == QUOTE {
+        return skip_string(s, at + 1);
+    }
+    value_within(s, at, depth)
+}
+
 // Behind the opening brace: the members of an object, whose values nest at most `depth` deep, and its closing brace.
 pub fn object(s: &[u8], at: usize, depth: usize) -> Next
     requires { ⌜ at ≤ length (now s) ⌝ }
@@ -165,7 +179,7 @@ pub fn object(s: &[u8], at: usize, depth: usize) -> Next
                 let Next::At(v) = skip_name(&s[0..], i) else { // handed on anew: it stays in registers here
                     return Next::Bad;
                 };
-                let Next::At(j) = value_within(s, v, depth) else {
+                let Next::At(j) = member_value(&s[0..], v, depth) else {
                     return Next::Bad;
                 };
                 match closing(s, j, CLOSE_BRACE) {

@@ -1,4 +1,4 @@
--- What falls with each call in the cycle: twice the depth that is left, and one more in a container.
+-- What falls with each call in the cycle: three times the depth that is left, one more in an array or at the value of a member, two more in an object.
 use Prim.Native.Nat.{ℕ, _<_, _+_, _*_}
 use borrow.Fn.Kinds.{In}
 use borrow.Fn.PlainCycle.{Measures, is, falls, and}
@@ -6,23 +6,34 @@ use Rattle.json.proofs.array.Reads as array
 use Rattle.json.proofs.array.Kinds as array-kinds
 use Rattle.json.proofs.object.Reads as object
 use Rattle.json.proofs.object.Kinds as object-kinds
+use Rattle.json.proofs.member_value.Reads as member
+use Rattle.json.proofs.member_value.Kinds as member-kinds
 use Rattle.json.proofs.value_within.Reads as value
 use Rattle.json.proofs.value_within.Kinds as value-kinds
 
 abbrev pub μ-array : Measures 1 array-kinds.ps ℕ
-μ-array κs a = 2 * a .1 .1 .0 + 1
+μ-array κs a = 3 * a .1 .1 .0 + 1
+
+abbrev pub μ-member : Measures 1 member-kinds.ps ℕ
+μ-member κs a = 3 * a .1 .1 .0 + 1
 
 abbrev pub μ-object : Measures 1 object-kinds.ps ℕ
-μ-object κs a = 2 * a .1 .1 .0 + 1
+μ-object κs a = 3 * a .1 .1 .0 + 2
 
 abbrev pub μ-value : Measures 1 value-kinds.ps ℕ
-μ-value κs a = 2 * a .1 .1 .0
+μ-value κs a = 3 * a .1 .1 .0
 
 abbrev pub array-at : ℕ → In 1 array-kinds.ps
 array-at t = and 1 array-kinds.ps (is 1 array-kinds.ps μ-array t) array.Pre
 
 abbrev pub array-below : ℕ → In 1 array-kinds.ps
 array-below t = and 1 array-kinds.ps (falls 1 array-kinds.ps _<_ μ-array t) array.Pre
+
+abbrev pub member-at : ℕ → In 1 member-kinds.ps
+member-at t = and 1 member-kinds.ps (is 1 member-kinds.ps μ-member t) member.Pre
+
+abbrev pub member-below : ℕ → In 1 member-kinds.ps
+member-below t = and 1 member-kinds.ps (falls 1 member-kinds.ps _<_ μ-member t) member.Pre
 
 abbrev pub object-at : ℕ → In 1 object-kinds.ps
 object-at t = and 1 object-kinds.ps (is 1 object-kinds.ps μ-object t) object.Pre

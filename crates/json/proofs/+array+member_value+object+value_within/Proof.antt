@@ -1,25 +1,30 @@
--- `value_within`, `object` and `array` call each other: what each of them leaves is answered in a file of its own, and the depth that is left falls.
+-- `value_within`, `object`, `member_value` and `array` call each other: what each of them leaves is answered in a file of its own, and the depth that is left falls.
 mod Falling
 mod Elements
+mod Strings
 mod Members
 mod Values
 use Rattle.json.proofs.array.Reads as array
-use Rattle.json.proofs.+array+object+value_within.Lts-array as array-lts
+use Rattle.json.proofs.+array+member_value+object+value_within.Lts-array as array-lts
+use Rattle.json.proofs.member_value.Reads as member
+use Rattle.json.proofs.+array+member_value+object+value_within.Lts-member_value as member-lts
 use Rattle.json.proofs.object.Reads as object
-use Rattle.json.proofs.+array+object+value_within.Lts-object as object-lts
+use Rattle.json.proofs.+array+member_value+object+value_within.Lts-object as object-lts
 use Rattle.json.proofs.value_within.Reads as value
-use Rattle.json.proofs.+array+object+value_within.Lts-value_within as value-lts
-use Rattle.json.proofs.+array+object+value_within.{statement}
-use Rattle.json.proofs.+array+object+value_within.Tie.{close}
-use Rattle.json.proofs.+array+object+value_within.Proof.Falling.{μ-array, μ-object, μ-value, array-at, object-at, value-at}
-use Rattle.json.proofs.+array+object+value_within.Proof.Elements as elements
-use Rattle.json.proofs.+array+object+value_within.Proof.Members as members
-use Rattle.json.proofs.+array+object+value_within.Proof.Values as values
+use Rattle.json.proofs.+array+member_value+object+value_within.Lts-value_within as value-lts
+use Rattle.json.proofs.+array+member_value+object+value_within.{statement}
+use Rattle.json.proofs.+array+member_value+object+value_within.Tie.{close}
+use Rattle.json.proofs.+array+member_value+object+value_within.Proof.Falling.{μ-array, μ-member, μ-object, μ-value, array-at, member-at, object-at, value-at}
+use Rattle.json.proofs.+array+member_value+object+value_within.Proof.Elements as elements
+use Rattle.json.proofs.+array+member_value+object+value_within.Proof.Strings as strings
+use Rattle.json.proofs.+array+member_value+object+value_within.Proof.Members as members
+use Rattle.json.proofs.+array+member_value+object+value_within.Proof.Values as values
 
-pub +array+object+value-within-spec : {M : Type 1} → statement M
-+array+object+value-within-spec =
+pub +array+member-value+object+value-within-spec : {M : Type 1} → statement M
++array+member-value+object+value-within-spec =
     close
     μ-array
+    μ-member
     μ-object
     μ-value
     (λ t. array-lts.spec (elements.claims t) (array-at t) array.Post elements.Inv-loop elements.μ-loop
@@ -42,6 +47,14 @@ pub +array+object+value-within-spec : {M : Type 1} → statement M
     (elements.loop-again t)
     (elements.returns-4 t)
     (elements.returns-5 t))
+    (λ t. member-lts.spec (strings.claims t) (member-at t) member.Post
+    (strings.returns t)
+    (strings.shared-slice-read-if2 t)
+    (strings.add-skip-string t)
+    (strings.skip-string-requires t)
+    (strings.returns-2 t)
+    (strings.value-within-requires t)
+    (strings.returns-3 t))
     (λ t. object-lts.spec (members.claims t) (object-at t) object.Post members.Inv-loop members.μ-loop
     (members.opening-requires t)
     (members.enum-told t)
@@ -55,7 +68,10 @@ pub +array+object+value-within-spec : {M : Type 1} → statement M
     (members.enum-known-v t)
     (members.enum-told-2 t)
     (members.returns t)
-    (members.value-within-requires t)
+    (members.sub-member-value t)
+    (members.part-member-value-start t)
+    (members.part-member-value-end t)
+    (members.member-value-requires t)
     (members.enum-known-j t)
     (members.enum-told-3 t)
     (members.returns-2 t)
