@@ -67,6 +67,11 @@ abbrev pub KeyedIs : Text → Keyed → Type 0
 KeyedIs s (Value k v) = Begun s k v
 KeyedIs s NoKey = lineMember s ≡ none
 
+-- the same where a key was found; nothing is said where none was
+abbrev pub FoundIs : Text → Keyed → Type 0
+FoundIs s (Value k v) = Begun s k v
+FoundIs s NoKey = Unit {0}
+
 -- its value is an object, whose members are in the slots of f
 pub record Lined (s : Text) (k : ℕ) (f : Fields) : Type 0 where
   pub name : Bytes

@@ -13,7 +13,7 @@ ghost use mathlib.Core.Path.{_≡_};
 ghost use Prim.Native.Nat.{_≤_, _<_};
 ghost use lib.ListN.{length, drop};
 ghost use Rattle.rules.specs.Actions.{action};
-ghost use Rattle.actions.specs.Begun.{ends, kindAt, Braced, Begun, KeyedIs, Lined};
+ghost use Rattle.actions.specs.Begun.{ends, kindAt, Braced, Begun, KeyedIs, FoundIs, Lined};
 ghost use Rattle.actions.specs.Line.{ActionIs};
 ghost use Rattle.slots.specs.Texts.{isSome};
 
@@ -93,8 +93,24 @@ fn key_at(line: &[u8], j: usize) -> Keyed
     Keyed::Value(k, v)
 }
 
-// The line up to the value of its first member.
-fn head(line: &[u8]) -> Keyed
+// The line up to the value of its first member, where it begins as most lines do, with no white space; none is also answered where it begins
+// otherwise.
+fn usual_head(line: &[u8]) -> Keyed
+    ensures { λ r. ⌜ FoundIs (now (line .entry)) r ⌝ }
+{
+    match text::skip_word(line, 0, b"{\"add\":{") {
+        Next::At(_) => return Keyed::Value(ADD, 7),
+        Next::Bad => {}
+    }
+    match text::skip_word(line, 0, b"{\"remove\":{") {
+        Next::At(_) => return Keyed::Value(REMOVE, 10),
+        Next::Bad => {}
+    }
+    Keyed::NoKey
+}
+
+// The line up to the value of its first member, however it begins.
+fn any_head(line: &[u8]) -> Keyed
     ensures { λ r. ⌜ KeyedIs (now (line .entry)) r ⌝ }
 {
     let first = text::skip_ws(line, 0);
@@ -106,6 +122,16 @@ fn head(line: &[u8]) -> Keyed
         Tail::Closed(_) => Keyed::NoKey,
         Tail::More(j) => key_at(line, j),
     }
+}
+
+// The line up to the value of its first member.
+fn head(line: &[u8]) -> Keyed
+    ensures { λ r. ⌜ KeyedIs (now (line .entry)) r ⌝ }
+{
+    let Keyed::Value(k, v) = usual_head(line) else {
+        return any_head(line);
+    };
+    Keyed::Value(k, v)
 }
 
 // Whether the line ends behind the value that ends at `at`.
