@@ -3,7 +3,7 @@ use mathlib.Core.Path.{_≡_, refl, sym, ap, _∙_}
 use mathlib.Core.Bool.{true, false, false≢true}
 use mathlib.Core.Option.{Option, none, some}
 use mathlib.Core.List.{_∷_, _++_}
-use Prim.Native.Nat.{ℕ, zero, suc, _+_, _≤_, _<_}
+use Prim.Native.Nat.{ℕ, zero, suc, _+_, _-_, _≤_, _<_}
 use native.Mathlib.Omega.{arith}
 use lib.ListN.{length, drop, getD, length-drop}
 use borrow.Author.Tests.{ne-eqb}
@@ -11,8 +11,10 @@ use Rattle.rules.specs.Bytes.{Bytes, _>>=_, among, first}
 use Rattle.rules.specs.Json.Text.{Text, Reader, behind, spelled}
 use Rattle.rules.specs.Json.Strings.{isPlain, unescaped, char, chars, string}
 use Rattle.rules.proofs.Json.StringReads.{string-bound}
+use Rattle.text.specs.Answers.{Answer}
+use Rattle.text.specs.declared.Next.the-variants.{At}
 use Rattle.text.proofs.Places.{here, here-is, ended}
-use Rattle.characters.specs.Runs.{Plains}
+use Rattle.characters.specs.Runs.{Plains, Closes}
 use Rattle.characters.proofs.Runs.{plains-keep}
 
 pub spelled-behind : (read : Reader) (t : Text) → behind (spelled read t) ≡ read t
@@ -116,3 +118,14 @@ inside-run {s} {at} {i} {j} t p = plains-keep (Inside s at) s (λ k u h e. insid
 -- the string goes on at i as one of its own
 pub inside-rest : {s : Text} {at i : ℕ} → Inside s at i → behind (string (drop i s)) ≡ behind (string (drop at s))
 inside-rest {s} {at} {i} t = ap behind (string-bound (t .n) (drop i s) (omega (arith, length-drop i s, t .enough, t .within))) ∙ t .same
+
+-- a string of plain bytes alone
+pub closes-answer : (s : Text) (at r : ℕ) → at ≤ length s → Closes s at r → 0 < r → Answer (behind (string (drop at s))) s (at + 1) (At r)
+closes-answer s at r h c l =
+    let i : ℕ = r - 1 in
+    let same : r ≡ i + 1 = omega arith in
+    let x : (at ≤ i) × (i < length s) × Plains s at i × (getD s i 0 ≡ 0x22) = c i same in
+    let low : at ≤ i = x .0 in
+    let high : i < length s = x .1 in
+    let inside : Inside s at i = inside-run (inside-start h) (low, omega arith, x .2) in
+    (inside-quote inside high (x .3) ∙ ap (λ (k : ℕ). some (drop k s)) (sym same), omega arith, omega arith)

@@ -3,6 +3,7 @@ mod plain;
 mod strings;
 mod utf8;
 
+pub use plain::plain_end;
 pub use plain::skip_plain;
 pub use strings::skip_char;
 pub use strings::skip_chars;

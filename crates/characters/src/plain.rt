@@ -1,8 +1,9 @@
 // Runs of bytes that are characters by themselves: eight at a time, and then one by one.
+use crate::utf8::QUOTE;
 use crate::utf8::is_plain;
 ghost use Prim.Native.Nat.{_≤_};
 ghost use lib.ListN.{length};
-ghost use Rattle.characters.specs.Runs.{Plains};
+ghost use Rattle.characters.specs.Runs.{Plains, Closes};
 
 // One by one.
 fn skip_few(s: &[u8], at: usize) -> usize
@@ -34,4 +35,16 @@ pub fn skip_plain(s: &[u8], at: usize) -> usize
         i += 8;
     }
     skip_few(s, i)
+}
+
+// Where the string behind the opening quote ends, behind its closing quote, if nothing but plain bytes are in it; else 0.
+pub fn plain_end(s: &[u8], at: usize) -> usize
+    requires { ⌜ at ≤ length (now s) ⌝ }
+    ensures { λ r. ⌜ Closes (now (s .entry)) at r ⌝ }
+{
+    let i = skip_plain(s, at);
+    if s.len() <= i {
+        return 0;
+    }
+    if s[i] == QUOTE { i + 1 } else { 0 }
 }

@@ -1,19 +1,16 @@
 -- A member at positions of a text, by its parts.
-use mathlib.Core.Path.{_≡_, refl, sym, ap, _∙_}
+use mathlib.Core.Path.{_≡_, refl, ap, _∙_}
 use mathlib.Core.Bool.{true}
 use mathlib.Core.Option.{Option, none, some}
-use mathlib.Core.List.{_∷_}
 use Prim.Native.Nat.{ℕ, _+_, _≤_}
 use native.Mathlib.Omega.{arith}
 use lib.ListN.{length, drop, getD}
-use Rattle.facts.proofs.Lists.{drop-is}
 use Rattle.rules.specs.Bytes.{Bytes, _>>=_}
 use Rattle.rules.specs.Json.Text.{Text, Reader, behind, spelled, byte}
 use Rattle.rules.specs.Json.Strings.{string}
 use Rattle.rules.specs.Json.Values.{colon, member, value}
-use Rattle.rules.proofs.Opened.{rules}
 use Rattle.rules.proofs.Json.Places.{member-place}
-use Rattle.rules.proofs.Json.Steps.{value-scalar, scalar-string}
+use Rattle.json.proofs.Names.{colon-bare, value-bare}
 use Rattle.spellings.specs.Scanned.{Scanned}
 use Rattle.spellings.specs.declared.Spelling.the-variants.{Plain}
 use Rattle.keys.proofs.Quoting.{named-plain, named-string}
@@ -58,19 +55,12 @@ member-stands read s i n v e q h k w c d =
 
 -- ---- two plain strings, and a colon with nothing around it
 
-colon-bare : (t : Text) → colon (0x3A ∷ 0x22 ∷ t) ≡ some (0x22 ∷ t)
-unfolding rules
-colon-bare t = refl
-
 pub plain-stands : (d : ℕ) (s : Text) (at i n e : ℕ) → byte 0x22 (drop at s) ≡ some (drop i s) → at + 1 ≤ i → Scanned s i (Plain n) → n + 2 ≤ length s
     → getD s n 0 ≡ 0x3A → getD s (n + 1) 0 ≡ 0x22 → Scanned s (n + 2) (Plain e)
     → Stands (member (value d) (drop at s)) s at (record { at = i; end = n; plain = true }) (n + 1) e
 plain-stands d s at i n e q low x fits c o y =
-    let next : n + 1 + 1 ≡ n + 2 = omega arith in
-    let quote : drop (n + 1) s ≡ 0x22 ∷ drop (n + 2) s = drop-is s (n + 1) 0 0x22 (omega arith) o ∙ ap (λ (k : ℕ). 0x22 ∷ drop k s) next in
-    let both : drop n s ≡ 0x3A ∷ 0x22 ∷ drop (n + 2) s = drop-is s n 0 0x3A (omega arith) c ∙ ap (λ (t : Text). 0x3A ∷ t) quote in
     let further : n + 2 + 1 ≤ e = y .1 in
     member-stands (value d) s at (record { at = i; end = n; plain = true }) (n + 1) e
     (record { quote = q; from = low; named = named-plain s i n (x .0) (x .1) (x .2) }) (omega arith) (omega arith) (y .2)
-    (ap colon both ∙ colon-bare (drop (n + 2) s) ∙ ap some (sym quote))
-    (ap (value d) quote ∙ value-scalar d 0x22 (drop (n + 2) s) (λ f. omega arith) (λ f. omega arith) ∙ scalar-string (drop (n + 2) s) ∙ ap behind (y .0))
+    (colon-bare s n fits o c)
+    (value-bare s n fits o d ∙ ap behind (y .0))

@@ -39,7 +39,7 @@ fn plain_member(s: &[u8], at: usize) -> Met
     let Next::At(i) = text::skip_byte(s, at, QUOTE) else {
         return Met::NoMember;
     };
-    let n = spellings::plain_end(s, i);
+    let n = characters::plain_end(s, i);
     if n == 0 {
         return Met::NoMember;
     }
@@ -52,7 +52,7 @@ fn plain_member(s: &[u8], at: usize) -> Met
     if s[n + 1] != QUOTE {
         return Met::NoMember;
     }
-    let e = spellings::plain_end(s, n + 2);
+    let e = characters::plain_end(s, n + 2);
     if e == 0 {
         return Met::NoMember;
     }

@@ -1,4 +1,5 @@
 // The grammar of JSON (RFC 8259) over a lent text: values, objects and arrays, read at a position; each answers the position behind what it read.
+use characters::plain_end;
 use characters::skip_string;
 use numbers::skip_number;
 use text::Next;
@@ -6,11 +7,12 @@ use text::skip_byte;
 use text::skip_word;
 use text::skip_ws;
 ghost use mathlib.Core.Path.{_≡_};
-ghost use Prim.Native.Nat.{_≤_, _<_, _+_};
+ghost use Prim.Native.Nat.{ℕ, _≤_, _<_, _+_};
 ghost use lib.ListN.{length, drop, getD};
 ghost use Rattle.rules.specs.Json.Text.{behind};
-ghost use Rattle.rules.specs.Json.Values.{opening as rOpening, closing as rClosing, colon, contents, elements, scalar, value as rValue};
+ghost use Rattle.rules.specs.Json.Values.{opening as rOpening, closing as rClosing, colon, member, contents, elements, scalar, value as rValue};
 ghost use Rattle.text.specs.Answers.{Answer};
+ghost use Rattle.text.specs.declared.Next.the-variants.{At};
 ghost use Rattle.json.specs.Follows.{Follows};
 ghost use Rattle.json.specs.Whole.{name, isJson};
 
@@ -87,13 +89,37 @@ pub fn skip_name(s: &[u8], at: usize) -> Next
     requires { ⌜ at ≤ length (now s) ⌝ }
     ensures { λ r. ⌜ Answer (name (drop at (now (s .entry)))) (now (s .entry)) (at + 1) r ⌝ }
 {
-    let Next::At(i) = skip_byte(s, at, QUOTE) else {
+    let Next::At(i) = skip_byte(s, at, QUOTE) else { // no name
         return Next::Bad;
     };
     let Next::At(j) = skip_string(s, i) else {
         return Next::Bad;
     };
     skip_colon(s, j)
+}
+
+// Where the member at `at` ends, where it is two strings of plain bytes and a colon, as most are; else 0.
+fn plain_member(s: &[u8], at: usize) -> usize
+    requires { ⌜ at ≤ length (now s) ⌝ }
+    ensures { λ r. ⌜ (0 < r → (depth : ℕ) → Answer (behind (member (rValue depth) (drop at (now (s .entry))))) (now (s .entry)) (at + 1) (At r)) ⌝ }
+{
+    let Next::At(i) = skip_byte(s, at, QUOTE) else {
+        return 0;
+    };
+    let n = plain_end(s, i);
+    if n == 0 {
+        return 0;
+    }
+    if s.len() - n < 2 {
+        return 0;
+    }
+    if s[n] != COLON {
+        return 0;
+    }
+    if s[n + 1] != QUOTE {
+        return 0;
+    }
+    plain_end(s, n + 2)
 }
 
 // A value that is no string and holds no others: a number or one of the three words.
@@ -151,18 +177,22 @@ fn value_within(s: &[u8], at: usize, depth: usize) -> Next
     Next::At(end)
 }
 
-// The value of a member, as `value_within`; a string, which most are, is read at once.
-fn member_value(s: &[u8], at: usize, depth: usize) -> Next
+// A member: its name, the colon and its value, in which objects and arrays nest at most `depth` deep.
+fn skip_member(s: &[u8], at: usize, depth: usize) -> Next
     requires { ⌜ at ≤ length (now s) ⌝ }
-    ensures { λ r. ⌜ Answer (rValue depth (drop at (now (s .entry)))) (now (s .entry)) (at + 1) r ⌝ }
+    ensures { λ r. ⌜ Answer (behind (member (rValue depth) (drop at (now (s .entry))))) (now (s .entry)) (at + 1) r ⌝ }
 {
-    if s.len() <= at {
+    let end = plain_member(s, at);
+    if 0 < end {
+        return Next::At(end);
+    }
+    let Next::At(v) = skip_name(s, at) else {
         return Next::Bad;
-    }
-    if s[at] == QUOTE {
-        return skip_string(s, at + 1);
-    }
-    value_within(s, at, depth)
+    };
+    let Next::At(j) = value_within(s, v, depth) else {
+        return Next::Bad;
+    };
+    Next::At(j)
 }
 
 // Behind the opening brace: the members of an object, whose values nest at most `depth` deep, and its closing brace.
@@ -176,10 +206,7 @@ pub fn object(s: &[u8], at: usize, depth: usize) -> Next
         Tail::More(first) => {
             let mut i = first;
             loop {
-                let Next::At(v) = skip_name(&s[0..], i) else { // handed on anew: it stays in registers here
-                    return Next::Bad;
-                };
-                let Next::At(j) = member_value(&s[0..], v, depth) else {
+                let Next::At(j) = skip_member(&s[0..], i, depth) else { // handed on anew: it stays in registers here
                     return Next::Bad;
                 };
                 match closing(s, j, CLOSE_BRACE) {

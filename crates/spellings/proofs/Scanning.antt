@@ -1,5 +1,5 @@
 -- A string up to its first escape: what a turn of the loop over its characters keeps.
-use mathlib.Core.Path.{_≡_, refl, sym, ap, _∙_}
+use mathlib.Core.Path.{_≡_, refl, sym, ap, subst, _∙_}
 use mathlib.Core.Bool.{true}
 use mathlib.Core.Option.{Option, none, some}
 use mathlib.Core.List.{[], _∷_, _++_, append-assoc, append-nil}
@@ -20,7 +20,7 @@ use Rattle.rules.proofs.Json.TextReads.{spelled-none}
 use Rattle.rules.proofs.Json.Steps.{char-plain, string-end, string-quote, string-none, string-char}
 use Rattle.text.specs.Answers.{Answer}
 use Rattle.text.specs.declared.Next.the-variants.{At}
-use Rattle.characters.specs.Runs.{Plains}
+use Rattle.characters.specs.Runs.{Plains, Closes}
 use Rattle.characters.proofs.Runs.{plains-keep}
 use Rattle.strings.specs.Decoded.{decoded}
 use Rattle.spellings.specs.Scanned.{Scanned}
@@ -136,3 +136,12 @@ module _ {s : Text} {at i : ℕ} (c : Scanning s at i) where
 
 pub scanning-run : {s : Text} {at i j : ℕ} → Scanning s at i → (i ≤ j) × (j ≤ length s) × Plains s i j → Scanning s at j
 scanning-run {s} {at} {i} {j} c p = plains-keep (Scanning s at) s (λ k u h e. scanning-plain u h e) i j (p .0) (p .1) (p .2) c
+
+-- a string of plain bytes alone
+pub closes-scanned : (s : Text) (at r : ℕ) → at ≤ length s → Closes s at r → 0 < r → Scanned s at (Plain r)
+closes-scanned s at r h c l =
+    let i : ℕ = r - 1 in
+    let same : i + 1 ≡ r = omega arith in
+    let x : (at ≤ i) × (i < length s) × Plains s at i × (getD s i 0 ≡ 0x22) = c i (sym same) in
+    let high : i < length s = x .1 in
+    subst (λ (k : ℕ). Scanned s at (Plain k)) same (scanning-quote (scanning-run (scanning-start h) (x .0, omega arith, x .2)) high (x .3))

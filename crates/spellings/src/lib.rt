@@ -4,10 +4,9 @@ use strings::BACKSLASH;
 use strings::QUOTE;
 use text::Next;
 ghost use mathlib.Core.Path.{_≡_};
-ghost use Prim.Native.Nat.{_≤_, _<_};
+ghost use Prim.Native.Nat.{_≤_};
 ghost use lib.ListN.{length};
 ghost use Rattle.spellings.specs.Scanned.{Scanned};
-ghost use Rattle.spellings.specs.declared.Spelling.the-variants.{Plain};
 
 // What stands behind an opening quote: a string that is spelled as the bytes that it stands for, or one with escapes,
 // each with the position behind it; or no string.
@@ -15,18 +14,6 @@ pub enum Spelling {
     Plain(usize),
     Escaped(usize),
     Bad,
-}
-
-// Where the string behind the opening quote ends, behind its closing quote, if nothing but plain bytes are in it; else 0.
-pub fn plain_end(s: &[u8], at: usize) -> usize
-    requires { ⌜ at ≤ length (now s) ⌝ }
-    ensures { λ r. ⌜ (0 < r → Scanned (now (s .entry)) at (Plain r)) ⌝ }
-{
-    let i = skip_plain(s, at);
-    if s.len() <= i {
-        return 0;
-    }
-    if s[i] == QUOTE { i + 1 } else { 0 }
 }
 
 // The string behind the opening quote, in one pass.

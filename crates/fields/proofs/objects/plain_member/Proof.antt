@@ -1,8 +1,9 @@
--- `plain_member` meets its contract. Each string is told by `spellings::plain_end`, and the two bytes between them are there.
+-- `plain_member` meets its contract. Each string is told by `characters::plain_end`, and the two bytes between them are there.
 use mathlib.Core.Path.{subst}
 use native.Mathlib.Omega.{arith}
 use borrow.Author.Needs.{needs}
 use Rattle.text.specs.Answers.{Answer}
+use Rattle.spellings.proofs.Scanning.{closes-scanned}
 use Rattle.fields.proofs.Members.{plain-stands}
 use Rattle.fields.proofs.objects.plain_member.Statement.{statement}
 use Rattle.fields.proofs.objects.plain_member.Tie as tie
@@ -26,7 +27,10 @@ returns-2 : tie.Need-returns-2
 returns-2 c = search needs
 
 sub-if2 : tie.Need-sub-if2
-sub-if2 c = let x = c .before .plain-end .ensures (omega arith) in x .2
+sub-if2 c =
+    let q = subst (Answer _ _ _) (c .before .before .before .i .given .1) (c .before .before .before .before .before .skip-byte .ensures) in
+    let x = closes-scanned (c .before .before .before .before .before .before .before .args .s .now) _ _ (q .2) (c .before .plain-end .ensures) (omega arith) in
+    x .2
 
 returns-3 : tie.Need-returns-3
 returns-3 c = search needs
@@ -61,7 +65,10 @@ add-t9 c = search needs
 returns-7 : tie.Need-returns-7
 returns-7 c d =
     let q = subst (Answer _ _ _) (c .before .before .before .before .before .before .before .before .before .before .i .given .1) (c .before .before .before .before .before .before .before .before .before .before .before .before .skip-byte .ensures) in
-    plain-stands d _ _ _ _ _ (q .0) (q .1) (c .before .before .before .before .before .before .before .before .plain-end .ensures (omega arith)) (omega arith) (c .before .before .before .before .if3 .left) (c .before .before .if4 .left) (c .before .plain-end2 .ensures (omega arith))
+    let s = c .before .before .before .before .before .before .before .before .before .before .before .before .before .before .args .s .now in
+    let n = c .before .before .before .before .before .before .before .before .plain-end in
+    let v = c .before .plain-end2 in
+    plain-stands d s _ _ _ _ (q .0) (q .1) (closes-scanned s _ _ (q .2) (n .ensures) (omega arith)) (omega arith) (c .before .before .before .before .if3 .left) (c .before .before .if4 .left) (closes-scanned s _ _ (omega arith) (v .ensures) (omega arith))
 
 pub plain-member-spec : {M : Type 1} → statement M
 plain-member-spec =

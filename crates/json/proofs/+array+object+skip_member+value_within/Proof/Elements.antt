@@ -16,8 +16,8 @@ use Rattle.json.proofs.array.Reads as array
 use Rattle.json.proofs.value_within.Reads as value
 use Rattle.json.proofs.opening.Reads as opening
 use Rattle.json.proofs.closing.Reads as closing
-use Rattle.json.proofs.+array+member_value+object+value_within.Proof.Falling.{array-at, value-below}
-use Rattle.json.proofs.+array+member_value+object+value_within.Lts-array as lts
+use Rattle.json.proofs.+array+object+skip_member+value_within.Proof.Falling.{array-at, value-below}
+use Rattle.json.proofs.+array+object+skip_member+value_within.Lts-array as lts
 
 abbrev pub claims : ℕ → lts.Claims
 claims t = (opening.Asked, opening.Learnt, value-below t, value.Post, closing.Asked, closing.Learnt)

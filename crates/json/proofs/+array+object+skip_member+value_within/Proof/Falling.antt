@@ -1,4 +1,4 @@
--- What falls with each call in the cycle: three times the depth that is left, one more in an array or at the value of a member, two more in an object.
+-- What falls with each call in the cycle: three times the depth that is left, one more in an array or at a member, two more in an object.
 use Prim.Native.Nat.{ℕ, _<_, _+_, _*_}
 use borrow.Fn.Kinds.{In}
 use borrow.Fn.PlainCycle.{Measures, is, falls, and}
@@ -6,8 +6,8 @@ use Rattle.json.proofs.array.Reads as array
 use Rattle.json.proofs.array.Kinds as array-kinds
 use Rattle.json.proofs.object.Reads as object
 use Rattle.json.proofs.object.Kinds as object-kinds
-use Rattle.json.proofs.member_value.Reads as member
-use Rattle.json.proofs.member_value.Kinds as member-kinds
+use Rattle.json.proofs.skip_member.Reads as member
+use Rattle.json.proofs.skip_member.Kinds as member-kinds
 use Rattle.json.proofs.value_within.Reads as value
 use Rattle.json.proofs.value_within.Kinds as value-kinds
 

@@ -12,8 +12,8 @@ use Rattle.json.proofs.array.Reads as array
 use Rattle.json.proofs.object.Reads as object
 use Rattle.json.proofs.value_within.Reads as value
 use Rattle.json.proofs.skip_scalar.Reads as skip-scalar
-use Rattle.json.proofs.+array+member_value+object+value_within.Proof.Falling.{array-below, object-below, value-at}
-use Rattle.json.proofs.+array+member_value+object+value_within.Lts-value_within as lts
+use Rattle.json.proofs.+array+object+skip_member+value_within.Proof.Falling.{array-below, object-below, value-at}
+use Rattle.json.proofs.+array+object+skip_member+value_within.Lts-value_within as lts
 
 abbrev pub claims : ℕ → lts.Claims
 claims t = (object-below t, object.Post, array-below t, array.Post, skip-scalar.Asked, skip-scalar.Learnt)
