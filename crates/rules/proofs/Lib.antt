@@ -23,3 +23,5 @@ pub mod SoleNames
 pub mod Bundles
 pub mod Readings
 pub mod TextParts
+pub mod MemberPlaces
+pub mod PathPlaces
