@@ -8,7 +8,7 @@ use native.Mathlib.Omega.{arith}
 use borrow.Author.Tests.{eqb-true, eqb-false}
 use lib.Dec.{eqb}
 use lib.ListN.{length, take, drop, length-append, take-append-drop}
-use lib.Seq.{take-at, drop-append-seam}
+use lib.Seq.{take-at}
 use Rattle.rules.specs.Bytes.{Bytes, ascii, first}
 use Rattle.rules.specs.Json.Text.{Text, spelled, isWs, ws, byte}
 use Rattle.rules.specs.Json.Values.{Member, contents, value, objectOf, membersLeft}
@@ -23,7 +23,7 @@ use Rattle.rules.proofs.Json.Suffix.{some-same, bound, answered-none}
 use Rattle.rules.proofs.Json.TextReads.{spelled-left}
 use Rattle.rules.proofs.Json.Steps.{value-end}
 use Rattle.rules.proofs.Json.InPlace.{value-text, object-text, objectOf-other, stringOf-other}
-use Rattle.rules.proofs.TextParts.{Suffix, suffix-trans}
+use Rattle.rules.proofs.TextParts.{Suffix, suffix-trans, suffix-drop}
 use Rattle.rules.proofs.MemberPlaces.{Stands, contents-left, membersLeft-list, objectOf-left, onlyOne-left, under-left, sole-left}
 
 -- ---- the object and the string at a place
@@ -130,12 +130,6 @@ add-written line f e =
     }))
 
 -- ---- its place
-
-suffix-drop : (r t : Text) → Suffix r t → drop (length t - length r) t ≡ r
-suffix-drop r t (p, e) =
-    let n : length t ≡ length p + length r = ap length e ∙ length-append p r in
-    let m : length t - length r ≡ length p = omega arith in
-    ap (λ (k : ℕ). drop k t) m ∙ ap (drop (length p)) e ∙ drop-append-seam p r
 
 -- an add, or nothing
 data Kind (line : Text) : Type 0 where

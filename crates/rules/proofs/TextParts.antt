@@ -3,8 +3,10 @@ use mathlib.Core.Path.{_≡_, refl, sym, _∙_, ap, subst}
 use mathlib.Core.Bool.{Bool, true, false}
 use mathlib.Core.Option.{Option, none, some}
 use mathlib.Core.List.{List, [], _∷_, _++_, append-assoc}
-use Prim.Native.Nat.{ℕ, zero, suc, _-_}
-use lib.ListN.{length, take, drop, take-append-drop}
+use Prim.Native.Nat.{ℕ, zero, suc, _+_, _-_}
+use native.Mathlib.Omega.{arith}
+use lib.ListN.{length, take, drop, length-append, take-append-drop}
+use lib.Seq.{drop-append-seam}
 use Rattle.facts.specs.Lists.{All}
 use Rattle.facts.proofs.Lists.{All-weaken}
 use Rattle.rules.specs.Bytes.{Bytes, ascii, same, isEmpty}
@@ -29,6 +31,13 @@ PartOf x t = (p q : Text) × (t ≡ p ++ (x ++ q))
 
 pub suffix-trans : (r u t : Text) → Suffix r u → Suffix u t → Suffix r t
 suffix-trans r u t (p, e) (q, f) = (q ++ p, f ∙ ap (λ (x : Text). q ++ x) e ∙ sym (append-assoc q p r))
+
+-- by its place
+pub suffix-drop : (r t : Text) → Suffix r t → drop (length t - length r) t ≡ r
+suffix-drop r t (p, e) =
+    let n : length t ≡ length p + length r = ap length e ∙ length-append p r in
+    let m : length t - length r ≡ length p = omega arith in
+    ap (λ (k : ℕ). drop k t) m ∙ ap (drop (length p)) e ∙ drop-append-seam p r
 
 pub part-suffix : (x u t : Text) → Suffix u t → PartOf x u → PartOf x t
 part-suffix x u t (p, e) (q, s, f) = (p ++ q, s, e ∙ ap (λ (y : Text). p ++ y) f ∙ sym (append-assoc p q (x ++ s)))
