@@ -50,15 +50,15 @@ module _ (d : ℕ) (s : Text) where
       list-left (value d) (λ t xs fs. Suffix t s → Placing s (placesFrom s t xs) fs)
       (λ t m v q b suffix. placing-step t m v q [] [] b suffix no-more)
       (λ t m v q u xs fs b c h suffix.
-          let k = closing-onward 0x7D q u c in
-          let more : Suffix u s = suffix-trans u q s (k .passed, k .split) (suffix-trans q t s (rest-suffix (value-reads d) t m v q b) suffix) in
-          placing-step t m v q xs fs b suffix (subst (λ (x : Behind). Placing s (placesFrom s (nextIn x) xs) fs) (sym c) (h more)))
+      let k = closing-onward 0x7D q u c in
+      let more : Suffix u s = suffix-trans u q s (k .passed, k .split) (suffix-trans q t s (rest-suffix (value-reads d) t m v q b) suffix) in
+      placing-step t m v q xs fs b suffix (subst (λ (x : Behind). Placing s (placesFrom s (nextIn x) xs) fs) (sym c) (h more)))
       (drop at s) ms r (λ xs fs. Placing s (placesFrom s (nextIn (opening 0x7D (drop at s))) xs) fs)
       (λ u h. no-more)
       (λ u xs fs h k.
-          let w = ws-reads (drop at s) in
-          let begin : Suffix u s = suffix-trans u (drop at s) s (w .passed, w .split ∙ ap (λ (x : Text). w .passed ++ x) (sym (opening-onward 0x7D (drop at s) u h))) (take at s, sym (take-append-drop at s)) in
-          subst (λ (x : Behind). Placing s (placesFrom s (nextIn x) xs) fs) (sym h) (k begin))
+      let w = ws-reads (drop at s) in
+      let begin : Suffix u s = suffix-trans u (drop at s) s (w .passed, w .split ∙ ap (λ (x : Text). w .passed ++ x) (sym (opening-onward 0x7D (drop at s) u h))) (take at s, sym (take-append-drop at s)) in
+      subst (λ (x : Behind). Placing s (placesFrom s (nextIn x) xs) fs) (sym h) (k begin))
       (sym (contents-list (value d) (drop at s)) ∙ e)
 
 -- ---- a slot
@@ -113,8 +113,11 @@ module _ (s : Text) (name : Bytes) where
 pub filled-left : (d : ℕ) (s : Text) (at : ℕ) (names : List Bytes) (end : ℕ) (slots : List Slot) → Filled (contents (value d) (drop at s)) s at names end slots → length names ≤ 8
     → (fs : List Member) × (list (memberLeft (value d)) 0x7D (drop at s) ≡ some (fs, drop end s)) × EachLeft s names fs slots
 filled-left d s at names end slots r few =
-    let (fs, l, p) = places-left d s at (r .ms) (drop end s) (r .all) in
-    (fs, l, λ k h o.
-        let here : getD slots k missing ≡ slotOf (getD names k []) (placesIn s at (r .ms)) missing
-            = ap (λ (xs : List Slot). getD xs k missing) (r .exact) ∙ slots-named 8 names (placesIn s at (r .ms)) k h (omega arith) in
-        slot-left s (getD names k []) p missing refl (ap (λ (x : Slot). x .seen) (sym here) ∙ o) ∙ ap (λ (x : Slot). some (drop (x .start) s)) (sym here))
+    let (fs, l, p) = places-left d s at (r .ms) (drop end s) (r .all) in (
+      fs,
+      l,
+      λ k h o.
+          let here : getD slots k missing ≡ slotOf (getD names k []) (placesIn s at (r .ms)) missing
+          = ap (λ (xs : List Slot). getD xs k missing) (r .exact) ∙ slots-named 8 names (placesIn s at (r .ms)) k h (omega arith) in
+          slot-left s (getD names k []) p missing refl (ap (λ (x : Slot). x .seen) (sym here) ∙ o) ∙ ap (λ (x : Slot). some (drop (x .start) s)) (sym here),
+    )

@@ -32,15 +32,15 @@ enum-told-2 c = search needs
 returns-2 : tie.Need-returns-2
 returns-2 c = λ ps w.
     let f = subst (FoundIs _ _) (c .before .before .before .before .v .given .1) (c .before .before .before .before .before .before .find-name .ensures (standing w)) in
-    sym (meets-null (conditionOf (c .before .before .before .before .before .before .before .before .before .args .q .now) (c .before .before .before .before .before .before .before .before .before .args .c)) (w .ms) (w .each) _ (f .0) (subst (StringIs _ _) (c .enum-told2 .given .1) (c .before .before .string-at .ensures)))
+    sym (meets-null (conditionOf (c .before .before .before .before .before .before .before .before .before .args .q .now) (c .before .before .before .before .before .before .before .before .before .args .c)) (w .ms) (w .each) _ (f .0) (subst (StringIs _ _ _) (c .enum-told2 .given .1) (c .before .before .string-at .ensures)))
 
 meets-at-requires : tie.Need-meets-at-requires
-meets-at-requires c κs = (c .before .before .before .before .before .before .before .before .before .before .pre .1, (subst (StringIs _ _) (c .before .p .given .1) (c .before .before .before .string-at .ensures)) .0 .spelled)
+meets-at-requires c κs = (c .before .before .before .before .before .before .before .before .before .before .pre .1, (subst (StringIs _ _ _) (c .before .p .given .1) (c .before .before .before .string-at .ensures)) .0 .spelled)
 
 returns-3 : tie.Need-returns-3
 returns-3 c = λ ps w.
     let f = subst (FoundIs _ _) (c .before .before .before .before .before .before .v .given .1) (c .before .before .before .before .before .before .before .before .find-name .ensures (standing w)) in
-    c .meets-at .ensures ∙ sym (meets-string (conditionOf (c .before .before .before .before .before .before .before .before .before .before .before .args .q .now) (c .before .before .before .before .before .before .before .before .before .before .before .args .c)) (w .ms) (w .each) _ (f .0) ((subst (StringIs _ _) (c .before .before .p .given .1) (c .before .before .before .before .string-at .ensures)) .0 .says))
+    c .meets-at .ensures ∙ sym (meets-string (conditionOf (c .before .before .before .before .before .before .before .before .before .before .before .args .q .now) (c .before .before .before .before .before .before .before .before .before .before .before .args .c)) (w .ms) (w .each) _ (f .0) ((subst (StringIs _ _ _) (c .before .before .p .given .1) (c .before .before .before .before .string-at .ensures)) .0 .says))
 
 pub meets-one-spec : {M : Type 1} → statement M
 meets-one-spec =
