@@ -24,10 +24,10 @@ enum-told : tie.Need-enum-told
 enum-told c = search needs
 
 returns : tie.Need-returns
-returns c = remove-no-path (c .before .before .before .before .before .args .s .now) (c .before .before .before .before .before .args .t2) (c .before .before .before .before .before .pre) (subst (PathIs _ _) (c .enum-told .given .1) (c .before .before .path-in .ensures))
+returns c = remove-no-path (c .before .before .before .before .before .args .s .now) (c .before .before .before .before .before .args .t2) (c .before .before .before .before .before .pre) (subst (PathIs _ _ _) (c .enum-told .given .1) (c .before .before .path-in .ensures))
 
 returns-2 : tie.Need-returns-2
-returns-2 c = remove-there (c .before .before .before .before .before .before .args .s .now) (c .before .before .before .before .before .before .args .t2) (c .before .before .before .before .before .before .pre) (c .before .p .given .0 .0) (subst (PathIs _ _) (c .before .p .given .1) (c .before .before .before .path-in .ensures))
+returns-2 c = remove-there (c .before .before .before .before .before .before .args .s .now) (c .before .before .before .before .before .before .args .t2) (c .before .before .before .before .before .before .pre) (c .before .p .given .0 .0) (subst (PathIs _ _ _) (c .before .p .given .1) (c .before .before .before .path-in .ensures))
 
 pub remove-in-spec : {M : Type 1} → statement M
 remove-in-spec =
