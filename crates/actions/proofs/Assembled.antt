@@ -10,7 +10,8 @@ use lib.ListN.{length, take, drop, getD, length-drop}
 use lib.Seq.{drop-drop}
 use Rattle.facts.specs.Parts.{part}
 use Rattle.facts.proofs.Parts.{part-rest}
-use Rattle.rules.specs.Actions.{inAction, inField, Pairs, Facts, Action, add, remove, protocol, metaData, mostColumns, addOf, pathAt, partitionValuesAt, protocolOf, metaDataOf, actionBy, action}
+use Rattle.rules.specs.Actions.{inAction, inField, Pairs, Facts, Action, add, remove, protocol, metaData}
+use Rattle.rules.specs.Actions.{mostColumns, addOf, pathAt, partitionValuesAt, protocolOf, metaDataOf, actionBy, action}
 use Rattle.rules.specs.Actions.{onlyOne, pathWritten, pathLeft}
 use Rattle.rules.specs.Bytes.{Bytes, _>>=_, guard, among, distinct}
 use Rattle.rules.specs.Json.Text.{Text, behind, byte}

@@ -15,6 +15,7 @@ use Rattle.demands.proofs.CleaningExactly.{cleaning-exactly}
 use Rattle.demands.proofs.Replayed.{replays-exactly}
 use Rattle.demands.proofs.Places.{rows-stand-in-the-bundle}
 use Rattle.demands.proofs.Choosing.{picks-exactly, keeps-exactly, writable-exactly}
+use Rattle.demands.proofs.Skipping.{skipped-held-nothing}
 use Rattle.demands.proofs.Showing.{path-is-shown, records-are-shown, directory-is-shown}
 use Rattle.demands.proofs.WrongPrograms.{none-keeps-the-promise}
 
@@ -41,6 +42,7 @@ demand-2 = record {
   verdict = writable-exactly;
   picked = picks-exactly;
   kept = keeps-exactly;
+  skipped = skipped-held-nothing;
   named = named-exactly;
   reading = reading-exactly;
   keeping = keeping-exactly;

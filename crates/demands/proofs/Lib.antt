@@ -18,6 +18,7 @@ pub mod CleaningExactly
 pub mod Replayed
 pub mod Places
 pub mod Choosing
+pub mod Skipping
 pub mod Showing
 pub mod WrongPrograms
 pub mod Demands

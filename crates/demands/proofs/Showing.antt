@@ -13,11 +13,14 @@ use Rattle.rules.specs.Json.Text.{Text}
 use Rattle.rules.specs.Json.Values.{Member, objectOf}
 use Rattle.rules.specs.Json.Numbers.{whole}
 use Rattle.rules.specs.Json.Fields.{once, optional, ifThere, stringOf, unquoted, boolOf, stringAt, wholeAt}
-use Rattle.rules.specs.Actions.{inAction, Facts, pathAt, partitionValuesAt, addOf, protocolOf, metaDataOf, Key, keyAdd, keyRemove, keyProtocol, keyMetaData, keyMergeskip, keyOther, keyOf, Action, add, remove, protocol, metaData, mergeskip, other, actionBy, lineMember, action, isLine, orNothing, pathWritten, pathIn, pathShown, noAdd, recordsIn, recordsShown}
+use Rattle.rules.specs.Actions.{inAction, Facts, pathAt, partitionValuesAt, addOf, protocolOf, metaDataOf}
+use Rattle.rules.specs.Actions.{Key, keyAdd, keyRemove, keyProtocol, keyMetaData, keyMergeskip, keyOther, keyOf, Action, add, remove, protocol, metaData, mergeskip, other, actionBy, lineMember, action}
+use Rattle.rules.specs.Actions.{isLine, orNothing, pathWritten, pathIn, pathShown, pathPlace, noAdd, recordsIn, recordsShown}
 use Rattle.rules.specs.Manifests.{slash, hasSlash, beforeLastSlash, standsAsIs, directory}
 use Rattle.rules.proofs.Tests.{apart, true-not-false, or-cases, and-right}
 use Rattle.rules.proofs.Json.Suffix.{some-same, bound}
 use Rattle.rules.proofs.TextParts.{pathShown-part}
+use Rattle.rules.proofs.PathPlaces.{place-shown, place-within, place-nothing}
 use Rattle.demands.specs.Showing.{IsAdd, PathIsShown, RecordsAreShown, DirectoryIsShown}
 
 -- ---- a well-formed add
@@ -119,11 +122,19 @@ kind line = go (isLine line) refl (action line) refl
 pub path-is-shown : PathIsShown
 path-is-shown line =
     let p = pathShown-part line in
-    record { before = p .0; behind = p .1; part = p .2; of-add = shown-add line; of-others = others (kind line) }
+    record {
+      before = p .0;
+      behind = p .1;
+      part = p .2;
+      within = place-within line;
+      place = place-shown line;
+      of-add = shown-add line;
+      of-others = others (kind line);
+    }
   where
-    others : Kind line → ((f : Facts) → IsAdd line f → ⊥) → pathShown line ≡ []
+    others : Kind line → ((f : Facts) → IsAdd line f → ⊥) → (pathShown line ≡ []) × (pathPlace line ≡ (0, 0))
     others (an-add f h) n = absurd (n f h)
-    others (no-add m p r) n = p
+    others (no-add m p r) n = (p, place-nothing line r)
 
 pub records-are-shown : RecordsAreShown
 unfolding recordsIn

@@ -13,6 +13,7 @@ use Rattle.demands.specs.CleaningExactly.{CleaningRefusesExactly, NamedE
 use Rattle.demands.specs.Replayed.{ReplaysExactly}
 use Rattle.demands.specs.Places.{RowsStandInTheBundle}
 use Rattle.demands.specs.Choosing.{PicksExactly, KeepsExactly, WritableExactly}
+use Rattle.demands.specs.Skipping.{SkippedHeldNothing}
 use Rattle.demands.specs.Showing.{PathIsShown, RecordsAreShown, DirectoryIsShown}
 use Rattle.demands.specs.WrongPrograms.{NoneKeepsThePromise}
 
@@ -39,6 +40,7 @@ pub record Demand2 : Type 0 where
   pub verdict : WritableExactly
   pub picked : PicksExactly
   pub kept : KeepsExactly
+  pub skipped : SkippedHeldNothing
   pub named : NamedExactly
   pub reading : ReadingRefusesExactly
   pub keeping : KeepingRefusesExactly

@@ -39,7 +39,7 @@ module _ (d : ℕ) (s : Text) where
       let rest : drop (length (m .1)) v ≡ r = ap (λ (x : Text). drop (length x) v) passed ∙ sym (reads-left reads) in
       let found : valueIn t ≡ some v = rw (valueIn, b .quote, b .name) (b .parted) in
       subst (λ (o : Option Text). Placing s (placed s m o ∷ placesFrom s (following m o) ms) ((m .0, v) ∷ fs)) (sym found)
-      (subst (λ (u : Text). Placing s ((m .0, length s - length v, length s - length v + length (m .1)) ∷ placesFrom s (nextIn (closing 0x7D (drop (length (m .1)) v))) ms) ((m .0, u) ∷ fs))
+      (subst (λ (u : Text). Placing s (placed s m (some v) ∷ placesFrom s (following m (some v)) ms) ((m .0, u) ∷ fs))
       (suffix-drop v s whole)
       (placing (subst (λ (u : Text). Placing s (placesFrom s (nextIn (closing 0x7D u)) ms) fs) (sym rest) h)))
 
@@ -57,7 +57,8 @@ module _ (d : ℕ) (s : Text) where
       (λ u h. no-more)
       (λ u xs fs h k.
       let w = ws-reads (drop at s) in
-      let begin : Suffix u s = suffix-trans u (drop at s) s (w .passed, w .split ∙ ap (λ (x : Text). w .passed ++ x) (sym (opening-onward 0x7D (drop at s) u h))) (take at s, sym (take-append-drop at s)) in
+      let here : drop at s ≡ w .passed ++ u = w .split ∙ ap (λ (x : Text). w .passed ++ x) (sym (opening-onward 0x7D (drop at s) u h)) in
+      let begin : Suffix u s = suffix-trans u (drop at s) s (w .passed, here) (take at s, sym (take-append-drop at s)) in
       subst (λ (x : Behind). Placing s (placesFrom s (nextIn x) xs) fs) (sym h) (k begin))
       (sym (contents-list (value d) (drop at s)) ∙ e)
 
@@ -88,7 +89,8 @@ module _ (s : Text) (name : Bytes) where
   slot-kept (placing {name = n} {v} {e} {ps} {fs} h) x o k = go (λ p i. slot-kept h x p i) (same n name) k
     where
       go : Kept ps fs x → (b : Bool) → slotOf name ps (slotBy b (oneMore (x .seen) v e) x) .seen ≡ 1
-          → (_≡_ {A = List Text} (elim b [ true ↦ drop v s ∷ under name fs | false ↦ under name fs ]) []) × (slotOf name ps (slotBy b (oneMore (x .seen) v e) x) ≡ x)
+          → (_≡_ {A = List Text} (elim b [ true ↦ drop v s ∷ under name fs | false ↦ under name fs ]) [])
+          × (slotOf name ps (slotBy b (oneMore (x .seen) v e) x) ≡ x)
       go ih true i = let z = again-two (x .seen) v e (omega arith) in absurd (slot-twice h (oneMore (x .seen) v e) (omega arith) i)
       go ih false i = ih o i
 
@@ -104,13 +106,15 @@ module _ (s : Text) (name : Bytes) where
       first = ap (λ (n : ℕ). oneMore n v e) o
 
       go : Found ps fs x → (b : Bool) → slotOf name ps (slotBy b (oneMore (x .seen) v e) x) .seen ≡ 1
-          → sole (elim b [ true ↦ drop v s ∷ under name fs | false ↦ under name fs ]) ≡ some (drop (slotOf name ps (slotBy b (oneMore (x .seen) v e) x) .start) s)
+          → sole (elim b [ true ↦ drop v s ∷ under name fs | false ↦ under name fs ])
+          ≡ some (drop (slotOf name ps (slotBy b (oneMore (x .seen) v e) x) .start) s)
       go ih true i =
           let (none-more, same-slot) = slot-kept h (oneMore (x .seen) v e) (ap (λ (y : Slot). y .seen) first) i in
           ap (λ (vs : List Text). sole (drop v s ∷ vs)) none-more ∙ ap (λ (y : Slot). some (drop (y .start) s)) (sym (same-slot ∙ first))
       go ih false i = ih o i
 
-pub filled-left : (d : ℕ) (s : Text) (at : ℕ) (names : List Bytes) (end : ℕ) (slots : List Slot) → Filled (contents (value d) (drop at s)) s at names end slots → length names ≤ 8
+pub filled-left : (d : ℕ) (s : Text) (at : ℕ) (names : List Bytes) (end : ℕ) (slots : List Slot)
+    → Filled (contents (value d) (drop at s)) s at names end slots → length names ≤ 8
     → (fs : List Member) × (list (memberLeft (value d)) 0x7D (drop at s) ≡ some (fs, drop end s)) × EachLeft s names fs slots
 filled-left d s at names end slots r few =
     let (fs, l, p) = places-left d s at (r .ms) (drop end s) (r .all) in (

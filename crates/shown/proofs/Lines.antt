@@ -118,7 +118,8 @@ pub writes-standing : (s : Text) {from to : ℕ} {r : Stated} → Told s (Writes
 unfolding addingIs part
 writes-standing s {from} {to} {r} e = go (recordsShown s) (pathPlace s) e (place-within s) (place-shown s) refl
   where
-    standing : (p : ℕ × ℕ) → from ≡ p .0 → to ≡ p .0 + p .1 → p .0 + p .1 ≤ length s → take (p .1) (drop (p .0) s) ≡ pathShown s → p ≡ pathPlace s → Standing s from to
+    standing : (p : ℕ × ℕ) → from ≡ p .0 → to ≡ p .0 + p .1 → p .0 + p .1 ≤ length s → take (p .1) (drop (p .0) s) ≡ pathShown s
+        → p ≡ pathPlace s → Standing s from to
     standing p f t w h q =
         let size : to - from ≡ p .1 = omega arith in
         record {
@@ -129,7 +130,8 @@ writes-standing s {from} {to} {r} e = go (recordsShown s) (pathPlace s) e (place
           path = ap (λ (n : ℕ). take n (drop from s)) size ∙ ap (λ (n : ℕ). take (p .1) (drop n s)) f ∙ h;
         }
 
-    go : (o : Records) (p : ℕ × ℕ) → Writes from to r ≡ addingIs o p → p .0 + p .1 ≤ length s → take (p .1) (drop (p .0) s) ≡ pathShown s → p ≡ pathPlace s → Standing s from to
+    go : (o : Records) (p : ℕ × ℕ) → Writes from to r ≡ addingIs o p → p .0 + p .1 ≤ length s → take (p .1) (drop (p .0) s) ≡ pathShown s
+        → p ≡ pathPlace s → Standing s from to
     go (records n) p q w h k = standing p (cc) (cc) w h k
     go missing p q w h k = standing p (cc) (cc) w h k
     go noAdd p q w h k = apart (cc)

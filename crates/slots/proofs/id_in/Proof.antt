@@ -21,7 +21,11 @@ enum-told : tie.Need-enum-told
 enum-told c = search needs
 
 returns-2 : tie.Need-returns-2
-returns-2 c = ap idOf (sym (text-single (c .before .before .before .before .before .before .args .s .now) (c .before .before .before .before .before .before .args .slot) stringOf (c .before .before .before .if1 .left)) ∙ subst (StringIs _ _ _) (c .enum-told .given .1) (c .before .before .string-at .ensures))
+returns-2 c =
+    let p = c .before .before .before in
+    let o = p .before .before .before in
+    ap idOf (sym (text-single (o .args .s .now) (o .args .slot) stringOf (p .if1 .left))
+    ∙ subst (StringIs _ _ _) (c .enum-told .given .1) (c .before .before .string-at .ensures))
 
 returns-3 : tie.Need-returns-3
 returns-3 c =

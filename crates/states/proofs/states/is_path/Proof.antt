@@ -22,7 +22,11 @@ enum-told : tie.Need-enum-told
 enum-told c = search needs
 
 returns-2 : tie.Need-returns-2
-returns-2 c = sym (ap isPath (subst (StringIs _ _ _) (c .enum-told .given .1) (c .before .before .string-at .ensures))) ∙ ap isPath (text-single (c .before .before .before .before .before .before .args .t .now) (c .before .before .before .before .before .before .args .slot) stringOf (c .before .before .before .if1 .left))
+returns-2 c =
+    let p = c .before .before .before in
+    let o = p .before .before .before in
+    sym (ap isPath (subst (StringIs _ _ _) (c .enum-told .given .1) (c .before .before .string-at .ensures)))
+    ∙ ap isPath (text-single (o .args .t .now) (o .args .slot) stringOf (p .if1 .left))
 
 returns-3 : tie.Need-returns-3
 returns-3 c =
