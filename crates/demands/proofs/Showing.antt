@@ -14,7 +14,8 @@ use Rattle.rules.specs.Json.Values.{Member, objectOf}
 use Rattle.rules.specs.Json.Numbers.{whole}
 use Rattle.rules.specs.Json.Fields.{once, optional, ifThere, stringOf, unquoted, boolOf, stringAt, wholeAt}
 use Rattle.rules.specs.Actions.{inAction, Facts, pathAt, partitionValuesAt, addOf, protocolOf, metaDataOf}
-use Rattle.rules.specs.Actions.{Key, keyAdd, keyRemove, keyProtocol, keyMetaData, keyMergeskip, keyOther, keyOf, Action, add, remove, protocol, metaData, mergeskip, other, actionBy, lineMember, action}
+use Rattle.rules.specs.Actions.{Key, keyAdd, keyRemove, keyProtocol, keyMetaData, keyMergeskip, keyOther, keyOf}
+use Rattle.rules.specs.Actions.{Action, add, remove, protocol, metaData, mergeskip, other, actionBy, lineMember, action}
 use Rattle.rules.specs.Actions.{isLine, orNothing, pathWritten, pathIn, pathShown, pathPlace, noAdd, recordsIn, recordsShown}
 use Rattle.rules.specs.Manifests.{slash, hasSlash, beforeLastSlash, standsAsIs, directory}
 use Rattle.rules.proofs.Tests.{apart, true-not-false, or-cases, and-right}
