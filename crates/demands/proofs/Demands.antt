@@ -2,6 +2,7 @@
 use Rattle.demands.specs.Demands.{Demand1, Demand2, Demand3}
 use Rattle.demands.proofs.Starts.{read-from-the-highest, latest-stops}
 use Rattle.demands.proofs.Ordered.{removal-keeps-order}
+use Rattle.demands.proofs.Bundled.{removal-keeps-a-bundle}
 use Rattle.demands.proofs.Readable.{true-is-readable}
 use Rattle.demands.proofs.FirstSentence.{first-sentence, full-log-is-history}
 use Rattle.demands.proofs.LastSentence.{last-sentence, stopped-halfway}
@@ -56,6 +57,7 @@ demand-3 = record {
   example = answers-hold;
   readable = true-is-readable;
   removal = removal-keeps-order;
+  bundled = removal-keeps-a-bundle;
   whole = full-log-is-history;
   first = first-sentence;
   last = last-sentence;

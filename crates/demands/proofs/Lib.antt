@@ -1,6 +1,9 @@
 pub mod Starts
 pub mod Removal
 pub mod Ordered
+pub mod LittleEndian
+pub mod KeptFiles
+pub mod Bundled
 pub mod Readable
 pub mod FirstSentence
 pub mod Upward

@@ -6,8 +6,7 @@ use mathlib.Core.List.{List, [], _∷_}
 use Rattle.facts.specs.Lists.{All}
 use Rattle.rules.specs.Bytes.{Bytes, keepIf}
 use Rattle.rules.specs.Actions.{Facts}
-use Rattle.rules.specs.Live.{Row}
-use Rattle.rules.specs.Query.{number, numberOf, As, asText, asNumber, Op, Condition}
+use Rattle.rules.specs.Query.{number, As, asText, asNumber, Op, Condition}
 use Rattle.rules.specs.Picking.{meets, orderOfNumbers, meetsAll, picked}
 use Rattle.rules.specs.Manifests.{Manifest}
 use Rattle.rules.proofs.Tests.{true-not-false, false-of}
@@ -39,5 +38,6 @@ pub skipped-held-nothing : SkippedHeldNothing
 unfolding picked keepIf All
 skipped-held-nothing cs m [] d h = refl
 skipped-held-nothing cs m (r ∷ rs) d h =
-    let unmet : meetsAll cs (r .facts) ≡ false = false-of (meetsAll cs (r .facts)) (λ e. dropped-none cs m (r .facts) (dropped-true cs m d) (h .0) (meetsAll-true cs (r .facts) e)) in
+    let never : meetsAll cs (r .facts) ≡ true → ⊥ = λ e. dropped-none cs m (r .facts) (dropped-true cs m d) (h .0) (meetsAll-true cs (r .facts) e) in
+    let unmet : meetsAll cs (r .facts) ≡ false = false-of (meetsAll cs (r .facts)) never in
     ap (λ (b : Bool). keepIf b r (picked cs rs)) unmet ∙ skipped-held-nothing cs m rs d (h .1)

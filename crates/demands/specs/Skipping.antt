@@ -34,4 +34,5 @@ abbrev pub HeldBy : List Condition → Manifest → Facts → Type 0
 HeldBy cs m f = All (HeldUnder m f) cs
 
 abbrev pub SkippedHeldNothing : Type 0
-SkippedHeldNothing = (cs : List Condition) (m : Manifest) (files : List Row) → dropped cs m ≡ true → All (λ (r : Row). HeldBy cs m (r .facts)) files → picked cs files ≡ []
+SkippedHeldNothing =
+    (cs : List Condition) (m : Manifest) (files : List Row) → dropped cs m ≡ true → All (λ (r : Row). HeldBy cs m (r .facts)) files → picked cs files ≡ []
