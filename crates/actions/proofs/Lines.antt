@@ -9,7 +9,7 @@ use borrow.Author.Tests.{eq-eqb}
 use lib.ListN.{length, take, drop, length-drop}
 use Rattle.rules.specs.Actions.{inLine, inAction, Key, keyOf, add, remove, protocol, metaData, mergeskip, other, addOf, pathAt, protocolOf, metaDataOf, actionBy, onlyOne, lineMember, action}
 use Rattle.rules.specs.Bytes.{Bytes, ascii, _>>=_, guard, first, same, isEmpty}
-use Rattle.rules.specs.Json.Text.{Text, Taker, behind as left, spelled, isWs, ws, byte}
+use Rattle.rules.specs.Json.Text.{Text, Taker, behind as left, spelled, ws, byte}
 use Rattle.rules.specs.Json.Strings.{string}
 use Rattle.rules.specs.Json.Values.{Member, Behind, closed, onward, neither, opening, closing, andThen, afterItem, items, list, colon}
 use Rattle.rules.specs.Json.Values.{member, memberLeft, contents, value, alone, objectOf, membersLeft}
@@ -21,6 +21,7 @@ use Rattle.rules.proofs.Json.Steps.{value-object, value-end, objectOf-contents,
 use Rattle.rules.proofs.Json.InPlace.{objectOf-other}
 use Rattle.rules.proofs.Json.Places.{spelled-place, objectOf-place}
 use Rattle.rules.proofs.MemberPlaces.{membersLeft-list}
+use Rattle.rules.proofs.PathPlaces.{brace-here}
 use Rattle.kinds.specs.Kinds.{namesOf, seek}
 use Rattle.text.specs.Answers.{Skips}
 use Rattle.fields.specs.Slots.{Filled, ScannedBy, Scanned}
@@ -301,10 +302,6 @@ module _ (s : Text) (k v : ℕ) (g : Begun s k v) where
     unfolding inLine inAction
     begun-contents f = ap (value inLine) (byte-text 0x7B (drop v s) b) ∙ value-object inLine inAction (drop i s) refl ∙ ap left f
 
-    braced : byte 0x7B (ws (drop v s)) ≡ some (drop i s)
-    unfolding byte ws isWs first
-    braced = ap (λ (x : Text). byte 0x7B (ws x)) (byte-text 0x7B (drop v s) b)
-
     pub begun-lined : (f : Fields) (r : Filled (contents (value inAction) (drop i s)) s i (namesOf (kindAt k)) (f .end) (f .slots)) → ends (drop (f .end) s) ≡ true → Lined s k f
     begun-lined f r t =
         let next : i ≡ v + 1 = byte-next s v i 0x7B (g .within) l b in
@@ -323,7 +320,7 @@ module _ (s : Text) (k v : ℕ) (g : Begun s k v) where
           left = drop v s;
           lefts = fs;
           line-left = g .left (drop (f .end) s) (begun-contents (r .all)) t;
-          object-left = membersLeft-list inAction (drop v s) braced places;
+          object-left = membersLeft-list inAction (drop v s) (brace-here (drop v s) (drop i s) (byte-text 0x7B (drop v s) b)) places;
           starts = starts;
         }
 

@@ -54,7 +54,8 @@ module _ (p a c d r : Bytes) (wp : length p ≡ 96) (wa : length a ≡ 4) (wc : 
   fields-read =
       let one : take 96 whole ≡ p = take-at p (a ++ (c ++ (d ++ r))) 96 wp in
       let two : take 4 (drop 96 whole) ≡ a = ap (take 4) (drop-at p (a ++ (c ++ (d ++ r))) 96 wp) ∙ take-at a (c ++ (d ++ r)) 4 wa in
-      let three : take 4 (drop 100 whole) ≡ c = ap (take 4) (drop-past p (a ++ (c ++ (d ++ r))) 96 4 wp ∙ drop-at a (c ++ (d ++ r)) 4 wa) ∙ take-at c (d ++ r) 4 wc in
+      let third : drop 100 whole ≡ c ++ (d ++ r) = drop-past p (a ++ (c ++ (d ++ r))) 96 4 wp ∙ drop-at a (c ++ (d ++ r)) 4 wa in
+      let three : take 4 (drop 100 whole) ≡ c = ap (take 4) third ∙ take-at c (d ++ r) 4 wc in
       let four : take 8 (drop 104 whole) ≡ d =
       ap (take 8) (drop-past p (a ++ (c ++ (d ++ r))) 96 8 wp ∙ drop-past a (c ++ (d ++ r)) 4 4 wa ∙ drop-at c (d ++ r) 4 wc) ∙ take-at d r 8 wd in
       rw (one, two, three, four)
@@ -63,7 +64,8 @@ module _ (p a c d r : Bytes) (wp : length p ≡ 96) (wa : length a ≡ 4) (wc : 
   unfolding whole
   fields-rest = drop-past p (a ++ (c ++ (d ++ r))) 96 16 wp ∙ drop-past a (c ++ (d ++ r)) 4 12 wa ∙ drop-past c (d ++ r) 4 8 wc ∙ drop-at d r 8 wd
 
-entries-written : (at : ℕ) (xs : List Kept) (r : Bytes) → All Fit xs → at + length (bodies xs) ≤ 1_048_576 → entries (length xs) (contents at xs ++ r) ≡ entriesFrom at xs
+entries-written : (at : ℕ) (xs : List Kept) (r : Bytes) → All Fit xs → at + length (bodies xs) ≤ 1_048_576
+    → entries (length xs) (contents at xs ++ r) ≡ entriesFrom at xs
 unfolding entries entryBytes contents entriesFrom entry bodies whole All
 entries-written at [] r h l = refl
 entries-written at (x ∷ xs) r h l =
@@ -131,7 +133,8 @@ contents-bytes at (x ∷ xs) h =
 first : List Kept → ℕ
 first xs = 4 + 112 * length xs
 
-module _ (xs : List Kept) (h : All Fit xs) (up : Ascends keptPadded xs) (few : length xs ≤ 1_024) (short : 4 + 112 * length xs + length (bodies xs) ≤ 1_048_576) where
+module _ (xs : List Kept) (h : All Fit xs) (up : Ascends keptPadded xs) (few : length xs ≤ 1_024)
+    (short : 4 + 112 * length xs + length (bodies xs) ≤ 1_048_576) where
   length-written : length (written xs) ≡ first xs + length (bodies xs)
   unfolding first written
   length-written =
@@ -159,8 +162,12 @@ module _ (xs : List Kept) (h : All Fit xs) (up : Ascends keptPadded xs) (few : l
   unfolding bundle filesOf entryBytes mostBytes mostEntries first
   bundle-written =
       let size = length-written in
-      let es : entries (length xs) (drop 4 (written xs)) ≡ entriesFrom (first xs) xs = ap (entries (length xs)) behind-count ∙ entries-written (first xs) xs (bodies xs) h (omega arith) in
-      rw (bundle, le-among 4 1_048_576 (length (written xs)) (omega arith) (omega arith), written-count, le-leb (length xs) 1_024 few, le-leb (first xs) (length (written xs)) (omega arith), es, ascending-written (first xs) xs up, behind-contents) (files-read 0 (first xs) xs h)
+      let es : entries (length xs) (drop 4 (written xs)) ≡ entriesFrom (first xs) xs =
+      ap (entries (length xs)) behind-count ∙ entries-written (first xs) xs (bodies xs) h (omega arith) in
+      let sized = le-among 4 1_048_576 (length (written xs)) (omega arith) (omega arith) in
+      let within = le-leb (first xs) (length (written xs)) (omega arith) in
+      let up-there = ascending-written (first xs) xs up in
+      rw (bundle, sized, written-count, le-leb (length xs) 1_024 few, within, es, up-there, behind-contents) (files-read 0 (first xs) xs h)
 
   written-bytes : AreBytes (written xs)
   unfolding written

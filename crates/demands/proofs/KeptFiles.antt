@@ -60,8 +60,8 @@ entries-fit zero s l b = tt
 entries-fit (suc n) s l b =
     let a : n * 112 + 112 ≤ length s = omega (arith, suc-mul n 112) in
     let m : length (take 8 (drop 104 s)) ≡ 8 = omega (arith, length-take 8 (drop 104 s), length-drop 104 s) in
-    let time : Fits 8 (little (take 8 (drop 104 s))) =
-    subst (λ (k : ℕ). Fits k (little (take 8 (drop 104 s)))) m (fits-little (take 8 (drop 104 s)) (All-take (λ (x : ℕ). x < 256) 8 (drop 104 s) (All-drop (λ (x : ℕ). x < 256) 104 s b))) in (
+    let bytes = All-take (λ (x : ℕ). x < 256) 8 (drop 104 s) (All-drop (λ (x : ℕ). x < 256) 104 s b) in
+    let time : Fits 8 (little (take 8 (drop 104 s))) = subst (λ (k : ℕ). Fits k (little (take 8 (drop 104 s)))) m (fits-little (take 8 (drop 104 s)) bytes) in (
       (omega (arith, length-take 96 s), All-take (λ (x : ℕ). x < 256) 96 s b, time),
       entries-fit n (drop 112 s) (omega (arith, length-drop 112 s)) (All-drop (λ (x : ℕ). x < 256) 112 s b),
     )
@@ -119,8 +119,8 @@ taken k at [] rest fs h b e =
     empty [] q = refl
     empty (x ∷ t) q = apart (cc)
 taken k at (e ∷ es) rest fs h b q =
-    let a = bind-some (nameIn (e .padded)) (λ name. guard (eqb (e .start) at) >>= (λ _. guard (leb (e .size) (length rest)) >>= (λ _. further >>= (λ gs. some (this name ∷ gs))))) q in
-    let c = bind-some (guard (eqb (e .start) at)) (λ _. guard (leb (e .size) (length rest)) >>= (λ _. further >>= (λ gs. some (this (a .0) ∷ gs)))) (a .2) in
+    let a = bind-some (nameIn (e .padded)) (λ name. guard (eqb (e .start) at) >>= (λ _. sized name)) q in
+    let c = bind-some (guard (eqb (e .start) at)) (λ _. sized (a .0)) (a .2) in
     let d = bind-some (guard (leb (e .size) (length rest))) (λ _. further >>= (λ gs. some (this (a .0) ∷ gs))) (c .2) in
     let g = bind-some further (λ gs. some (this (a .0) ∷ gs)) (d .2) in
     let within : e .size ≤ length rest = leb-true (e .size) (length rest) (guard-some (leb (e .size) (length rest)) (d .1)) in
@@ -132,6 +132,9 @@ taken k at (e ∷ es) rest fs h b q =
 
     further : Option (List File)
     further = filesFrom (suc k) (at + e .size) es (drop (e .size) rest)
+
+    sized : Bytes → Option (List File)
+    sized name = guard (leb (e .size) (length rest)) >>= (λ _. further >>= (λ gs. some (this name ∷ gs)))
 
     then : (name : Bytes) (gs : List File) → nameIn (e .padded) ≡ some name → e .size ≤ length rest → Taken es (drop (e .size) rest) gs
         → some (this name ∷ gs) ≡ some fs → Taken (e ∷ es) rest fs
@@ -172,9 +175,10 @@ source s fs b h =
     go n most h =
         let es = entries n (drop 4 s) in
         let rest = drop (4 + 112 * n) s in
-        let c = bind-some (guard (leb n mostEntries)) (λ _. guard (leb (4 + 112 * n) (length s)) >>= (λ _. guard (ascending es) >>= (λ _. filesFrom 0 (4 + 112 * n) es rest))) h in
-        let d = bind-some (guard (leb (4 + 112 * n) (length s))) (λ _. guard (ascending es) >>= (λ _. filesFrom 0 (4 + 112 * n) es rest)) (c .2) in
-        let e = bind-some (guard (ascending es)) (λ _. filesFrom 0 (4 + 112 * n) es rest) (d .2) in
+        let all = filesFrom 0 (4 + 112 * n) es rest in
+        let c = bind-some (guard (leb n mostEntries)) (λ _. guard (leb (4 + 112 * n) (length s)) >>= (λ _. guard (ascending es) >>= (λ _. all))) h in
+        let d = bind-some (guard (leb (4 + 112 * n) (length s))) (λ _. guard (ascending es) >>= (λ _. all)) (c .2) in
+        let e = bind-some (guard (ascending es)) (λ _. all) (d .2) in
         let m : 4 + 112 * n ≤ length s = leb-true (4 + 112 * n) (length s) (guard-some (leb (4 + 112 * n) (length s)) (d .1)) in
         let k : n ≤ 1_024 = leb-true n mostEntries (guard-some (leb n mostEntries) (c .1)) in
         let fit = entries-fit n (drop 4 s) (omega (arith, length-drop 4 s)) (All-drop (λ (x : ℕ). x < 256) 4 s b) in

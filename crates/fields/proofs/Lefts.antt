@@ -8,17 +8,17 @@ use native.Mathlib.Omega.{arith}
 use lib.ListN.{length, take, drop, getD, take-append-drop}
 use Rattle.rules.specs.Bytes.{Bytes, same}
 use Rattle.rules.specs.Json.Text.{Text}
-use Rattle.rules.specs.Json.Values.{Behind, onward, opening, closing, Member, memberLeft, contents, list, value}
+use Rattle.rules.specs.Json.Values.{Behind, opening, closing, Member, memberLeft, contents, list, value}
 use Rattle.rules.specs.Json.Fields.{under, sole}
 use Rattle.rules.proofs.Json.Suffix.{reads-left, reads-passed}
 use Rattle.rules.proofs.Json.TextReads.{ws-reads, spelled-left, spelled-text}
 use Rattle.rules.proofs.Json.ValueReads.{closing-onward, opening-onward, value-reads}
 use Rattle.rules.proofs.Json.Steps.{contents-list}
 use Rattle.rules.proofs.Json.Lefts.{Begins, list-left}
-use Rattle.rules.proofs.TextParts.{Suffix, suffix-trans, suffix-drop}
+use Rattle.rules.proofs.Suffixes.{Suffix, suffix-trans, suffix-drop}
 use Rattle.rules.proofs.MemberPlaces.{begins-suffix, rest-suffix}
 use Rattle.fields.specs.Places.{Placed, nextIn, valueIn, placed, following, placesFrom, placesIn}
-use Rattle.fields.specs.Slots.{missing, oneMore, slotBy, EachLeft, slotOf, slotsOf, Filled}
+use Rattle.fields.specs.Slots.{missing, oneMore, slotBy, EachLeft, slotOf, Filled}
 use Rattle.fields.specs.declared.notes.Slot.{Slot}
 use Rattle.fields.proofs.Places.{slots-named}
 

@@ -7,7 +7,7 @@ use native.Mathlib.Nat.{le-of-suc-le-suc, not-suc-le-zero}
 use lib.ListN.{length, getD}
 use Rattle.facts.specs.Lists.{All}
 use Rattle.facts.proofs.Lists.{All-at, All-weaken, All-map, map-All}
-use Rattle.rules.specs.Bytes.{Bytes, less, order, holds, distinct}
+use Rattle.rules.specs.Bytes.{Bytes, holds, distinct}
 use Rattle.rules.specs.Keyed.{Below, Ascends}
 use Rattle.rules.proofs.Order.{order-trans, order-less-ne}
 use Rattle.rules.proofs.Holding.{holds-past, distinct-cons}

@@ -2,14 +2,14 @@
 use mathlib.Core.Path.{_≡_, refl, sym, ap, _∙_}
 use mathlib.Core.Logic.{_⊎_, inl, inr}
 use mathlib.Core.Bool.{true, false}
-use mathlib.Core.Option.{Option, none, some}
+use mathlib.Core.Option.{none, some}
 use mathlib.Core.List.{List, [], _∷_, map}
 use Prim.Native.Nat.{suc, _≤_}
 use native.Mathlib.Omega.{arith}
 use lib.ListN.{length}
 use Rattle.facts.specs.Lists.{All}
 use Rattle.facts.proofs.Lists.{All-weaken}
-use Rattle.rules.specs.Bytes.{Bytes, Order, less, equal, more, order, same, holds}
+use Rattle.rules.specs.Bytes.{Bytes, Order, less, equal, more, order, holds}
 use Rattle.rules.specs.Live.{put, putBeside, takeOut, takeIf}
 use Rattle.rules.specs.Keyed.{Below, Ascends, lookup}
 use Rattle.rules.proofs.Tests.{apart, by, true-not-false}

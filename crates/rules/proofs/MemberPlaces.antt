@@ -16,7 +16,7 @@ use Rattle.rules.proofs.Json.StringReads.{string-reads}
 use Rattle.rules.proofs.Json.ValueReads.{closing-onward, opening-onward, colon-reads, value-reads}
 use Rattle.rules.proofs.Json.Steps.{contents-list}
 use Rattle.rules.proofs.Json.Lefts.{Begins, list-left}
-use Rattle.rules.proofs.TextParts.{Suffix, suffix-trans}
+use Rattle.rules.proofs.Suffixes.{Suffix, suffix-trans}
 
 -- ---- the text of a value, and where it stands
 

@@ -12,10 +12,9 @@ use lib.Seq.{take-at}
 use Rattle.rules.specs.Bytes.{Bytes, ascii, first}
 use Rattle.rules.specs.Json.Text.{Text, spelled, isWs, ws, byte}
 use Rattle.rules.specs.Json.Values.{Member, contents, value, objectOf, membersLeft}
-use Rattle.rules.specs.Json.Fields.{once, stringOf, stringAt, unquoted}
-use Rattle.rules.specs.Actions.{inLine, inAction, Facts, pathAt, addOf, protocolOf, metaDataOf, onlyOne, lineMember, isLine, orNothing}
-use Rattle.rules.specs.Actions.{Key, keyAdd, keyRemove, keyProtocol, keyMetaData, keyMergeskip, keyOther, keyOf}
-use Rattle.rules.specs.Actions.{Action, add, remove, protocol, metaData, mergeskip, other, actionBy, action}
+use Rattle.rules.specs.Json.Fields.{once, stringOf, unquoted}
+use Rattle.rules.specs.Actions.{inLine, inAction, Facts, onlyOne, lineMember, isLine, orNothing}
+use Rattle.rules.specs.Actions.{Action, add, remove, protocol, metaData, mergeskip, other, action}
 use Rattle.rules.specs.Actions.{pathWritten, pathIn, pathShown, pathLeft, startOf, startIn, pathStart, pathPlace}
 use Rattle.rules.specs.Actions.{noAdd, recordsOf, recordsIn, recordsShown}
 use Rattle.rules.proofs.Tests.{apart, by}
@@ -23,7 +22,8 @@ use Rattle.rules.proofs.Json.Suffix.{some-same, bound, answered-none}
 use Rattle.rules.proofs.Json.TextReads.{spelled-left}
 use Rattle.rules.proofs.Json.Steps.{value-end}
 use Rattle.rules.proofs.Json.InPlace.{value-text, object-text, objectOf-other, stringOf-other}
-use Rattle.rules.proofs.TextParts.{Suffix, suffix-trans, suffix-drop}
+use Rattle.rules.proofs.Suffixes.{Suffix, suffix-trans, suffix-drop}
+use Rattle.rules.proofs.Adds.{addOf-path, pathAt-once, action-add}
 use Rattle.rules.proofs.MemberPlaces.{Stands, contents-left, membersLeft-list, objectOf-left, onlyOne-left, under-left, sole-left}
 
 -- ---- the object and the string at a place
@@ -77,28 +77,12 @@ pub record Written (line : Text) : Type 0 where
   pub begins : left ≡ text ++ behind
   pub suffix : Suffix left line
 
-add-object : (k : Key) (v : Text) (f : Facts) → actionBy k v ≡ some (add f) → (ms : List Member) × (objectOf inAction v ≡ some ms) × (addOf ms ≡ some f)
-unfolding actionBy
-add-object keyAdd v f e = bound (objectOf inAction v) _ e (λ ms g h. bound (addOf ms) _ h (λ x i j. (ms, g, i ∙ ap some (add-same (some-same j)))))
-  where
-    add-same : {x : Facts} → add x ≡ add f → x ≡ f
-    add-same i = cc
-add-object keyRemove v f e = bound (objectOf inAction v) _ e (λ ms g h. bound (pathAt ms) _ h (λ x i j. apart (cc)))
-add-object keyProtocol v f e = bound (objectOf inAction v) _ e (λ ms g h. bound (protocolOf ms) _ h (λ x i j. apart (cc)))
-add-object keyMetaData v f e = bound (objectOf inAction v) _ e (λ ms g h. bound (metaDataOf ms) _ h (λ x i j. apart (cc)))
-add-object keyMergeskip v f e = apart (cc)
-add-object keyOther v f e = apart (cc)
-
-add-path : (ms : List Member) (f : Facts) → addOf ms ≡ some f → (x : Text) × (y : Bytes) × (once "path" ms ≡ some x) × (stringOf x ≡ some y)
-unfolding addOf pathAt stringAt
-add-path ms f e = bound (pathAt ms) _ e (λ p g h. bound (stringAt "path" ms) _ g (λ y i j. bound (once "path" ms) _ i (λ x k l. (x, y, k, l))))
-
 pub pathLeft-by : (line : Text) {ms fs : List Member} {m : Member} {v z : Text} → membersLeft inLine line ≡ some ms → onlyOne ms ≡ some m
     → membersLeft inAction (m .1) ≡ some fs → once "path" fs ≡ some v → byte 0x22 v ≡ some z → pathLeft line ≡ some z
 unfolding pathLeft
 pathLeft-by line a b c d e = rw (pathLeft, a, b, c, d) e
 
-brace-here : (v r : Text) → v ≡ 0x7B ∷ r → byte 0x7B (ws v) ≡ some r
+pub brace-here : (v r : Text) → v ≡ 0x7B ∷ r → byte 0x7B (ws v) ≡ some r
 unfolding byte ws isWs first
 brace-here v r e = ap (λ (t : Text). byte 0x7B (ws t)) e
 
@@ -109,10 +93,9 @@ quote-here v z e = ap (byte 0x22) e
 pub add-written : (line : Text) (f : Facts) → action line ≡ some (add f) → Written line
 unfolding action lineMember pathWritten pathLeft once
 add-written line f e =
-    bound (lineMember line) _ e (λ m a b.
+    let (m, a, (ms, g, h)) = action-add line f e in
+    let (x, i, j) = pathAt-once ms (f .path) (addOf-path ms f h) in
     bound (objectOf inLine line) _ a (λ ns c o.
-    let (ms, g, h) = add-object (keyOf (m .0)) (m .1) f b in
-    let (x, y, i, j) = add-path ms f h in
     let (gs, k, ks) = objectOf-left inLine line ns c in
     let (v, l, at-v) = onlyOne-left m ks o in
     let (r, u, p, q) = object-at (m .1) v ms line at-v g in
@@ -127,7 +110,7 @@ add-written line f e =
       found = pathLeft-by line {z = z} k l (membersLeft-list inAction v (brace-here v r p) w) d (quote-here n z s);
       begins = t;
       suffix = suffix-trans z n line (0x22 ∷ [], s) (suffix-trans n r line (at-n .suffix) (suffix-trans r v line (0x7B ∷ [], p) (at-v .suffix)));
-    }))
+    })
 
 -- ---- its place
 

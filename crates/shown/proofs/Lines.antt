@@ -10,7 +10,7 @@ use Rattle.facts.specs.Parts.{part}
 use Rattle.facts.proofs.Lists.{drop-place}
 use Rattle.facts.proofs.Parts.{length-part}
 use Rattle.rules.specs.Json.Text.{Text}
-use Rattle.rules.specs.Actions.{Facts, Action, add, remove, protocol, metaData, mergeskip, other, action, isLine, orNothing, pathIn, pathShown, pathLeft}
+use Rattle.rules.specs.Actions.{Facts, Action, add, remove, protocol, metaData, mergeskip, other, action, isLine, orNothing, pathIn, pathShown}
 use Rattle.rules.specs.Actions.{startOf, startIn, pathStart, pathPlace, Records, records, missing, noAdd, recordsOf, recordsIn, recordsShown}
 use Rattle.rules.proofs.Tests.{apart}
 use Rattle.rules.proofs.PathPlaces.{place-shown, place-within, place-nothing}
