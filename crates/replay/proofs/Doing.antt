@@ -54,7 +54,6 @@ became-carried {src} {limit} {st} {t} {t′} {rs} r w all b = record {
 }
 
 module _ (src line : Text) (limit from : ℕ) (st : State) (t : List ℕ) (w : Carries src limit st t) (z : Lies src from line) (h : 0 < length line) where
-
   -- ---- to the rules' state
 
   acts : (a : rAction) → action line ≡ some a → (e k : ℕ)

@@ -2,7 +2,15 @@
 use mathlib.Core.Path.{subst}
 use Rattle.actions.specs.Line.{ActionIs}
 use Rattle.replay.proofs.Zeroing.{
-  said-add, said-remove, said-mergeskip, said-malformed, said-other, said-table, said-table-twice, said-protocol, said-protocol-twice
+  said-add,
+  said-remove,
+  said-mergeskip,
+  said-malformed,
+  said-other,
+  said-table,
+  said-table-twice,
+  said-protocol,
+  said-protocol-twice,
 }
 use borrow.Author.Needs.{needs}
 use Rattle.replay.proofs.begin.say.Statement.{statement}
