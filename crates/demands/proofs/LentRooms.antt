@@ -110,7 +110,7 @@ cleaning-long lent s now retention h = true-enough lent (long-enough (enough len
 
 -- ---- reading
 
-length-rowsNumbers : (rs : List Row) → length (rowsNumbers rs) ≡ length rs * 4
+pub length-rowsNumbers : (rs : List Row) → length (rowsNumbers rs) ≡ length rs * 4
 unfolding rowsNumbers rowNumbers
 length-rowsNumbers [] = refl
 length-rowsNumbers (r ∷ rs) = let e : length (rowsNumbers rs) ≡ length rs * 4 = length-rowsNumbers rs in omega (arith, length-append (rowNumbers r) (rowsNumbers rs))
