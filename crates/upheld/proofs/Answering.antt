@@ -19,6 +19,7 @@ use Rattle.demands.specs.Exactly.{Readable, Read, answerOf}
 use Rattle.demands.specs.CleaningExactly.{NotWritable, NothingToName, Begun, Compared, Names}
 use Rattle.demands.specs.Choosing.{Keeps}
 use Rattle.demands.specs.Replayed.{StateSays}
+use Rattle.demands.proofs.Telling.{accepted-same, told-accepted}
 use Rattle.demands.proofs.Exactly.{reading-exactly}
 use Rattle.demands.proofs.KeepingExactly.{keeping-exactly}
 use Rattle.demands.proofs.CleaningExactly.{cleaning-exactly}
@@ -35,7 +36,6 @@ use Rattle.cleaning.specs.declared.Cleaned.the-variants.{Named}
 use Rattle.manifests.specs.Rooms.{keptIs, KeepIs}
 use Rattle.manifests.specs.declared.keeping.Kept.the-variants.{Numbers}
 use Rattle.upheld.specs.Answering.{ListsExactly, KeepsExactly, NamesExactly, nothing, files}
-use Rattle.upheld.proofs.Telling.{accepted-same, told-accepted}
 use Rattle.upheld.proofs.Ending.{counted-front}
 
 -- ---- reading
@@ -67,10 +67,12 @@ listed-ruled s q asked room after l c =
     let m = told-accepted (reading (length room) s q asked) _ (sym (c .answer)) in
     (m .0, m .1, tells l (m .0) (sym (m .2)))
 
-lists-by : (s q : Bytes) (asked : Asked) (room after : Room) (l : Listing) (d : Read (length room) s q asked) → after ≡ roomAfterReading (reading (length room) s q asked) room
-    → reading (length room) s q asked ≡ accepted (answerOf d) → Tells l (answerOf d) → ListsExactly s q asked after l
+lists-by : (s q : Bytes) (asked : Asked) (room after : Room) (l : Listing) (d : Read (length room) s q asked)
+    → after ≡ roomAfterReading (reading (length room) s q asked) room → reading (length room) s q asked ≡ accepted (answerOf d)
+    → Tells l (answerOf d) → ListsExactly s q asked after l
 lists-by s q asked room after l d holds e t =
     let log = logOf (d .opened .fs) in
+    let says = replays-exactly log (wayTo log (versionAsked asked log)) (d .state) (d .state-read) in
     record {
       cs = d .opened .cs;
       fs = d .opened .fs;
@@ -79,7 +81,7 @@ lists-by s q asked room after l d holds e t =
       query-read = d .opened .query-read;
       bundle-read = d .opened .bundle-read;
       version = t .version;
-      live = subst (λ (v : ℕ). StateSays log (wayTo log v) (d .state)) (sym (t .version)) (replays-exactly log (wayTo log (versionAsked asked log)) (d .state) (d .state-read));
+      live = subst (λ (v : ℕ). StateSays log (wayTo log v) (d .state)) (sym (t .version)) says;
       picks = picks-exactly (d .opened .cs) (d .state .live);
       places = rows-stand-in-the-bundle (length room) s q asked (answerOf d) e;
       count = t .count;
@@ -128,8 +130,9 @@ names-upheld s now retention room room′ one one′ two two′ n c =
         → NamesExactly (lent room one two) s now retention room′ n
     named-by es front long (inl (b, h, e)) = subst (NamesExactly (lent room one two) s now retention room′) (ap length e ∙ long) (nothing b h)
     named-by es front long (inr (d, a, w, m, e)) =
-        files d a w m (subst (Names (d .comparing .c) now retention (d .comparing .begun .fs)) (e ∙ front) (named-exactly (d .comparing .c) now retention (d .comparing .begun .fs)))
-        (ap length (sym front) ∙ long)
+        let c = d .comparing .c in
+        let fs = d .comparing .begun .fs in
+        files d a w m (subst (Names c now retention fs) (e ∙ front) (named-exactly c now retention fs)) (ap length (sym front) ∙ long)
 
     go : (es : List ℕ) × (cleaning (lent room one two) s now retention ≡ accepted es) × (es ≡ take n room′) × (length es ≡ n)
         → NamesExactly (lent room one two) s now retention room′ n

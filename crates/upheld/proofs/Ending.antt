@@ -8,10 +8,11 @@ use Rattle.rules.specs.Rooms.{Room, rowsRoom, keptRoom, namesRoom, leaves, rows
 use Rattle.rules.specs.Reading.{Asked, Listing, Told, told, reading, roomAfterReading}
 use Rattle.rules.specs.Keeping.{keeping, roomAfterKeeping}
 use Rattle.rules.specs.Cleaning.{cleaning, namesAfterCleaning}
-use Rattle.rules.specs.Refusals.{Answer, accepted}
-use Rattle.demands.specs.Ending.{Ends, answered, refused-by, RoomEnds}
-use Rattle.demands.proofs.Ending.{reading-ends, keeping-ends, cleaning-ends}
-use Rattle.demands.proofs.LentRooms.{length-rowsNumbers, reading-room-ends, keeping-room-ends, cleaning-rooms-end}
+use Rattle.rules.specs.Refusals.{Refusal, Answer, accepted, refused}
+use Rattle.demands.specs.Ending.{Ends, RoomEnds}
+use Rattle.demands.proofs.Ending.{reading-ends, keeping-ends, cleaning-ends, ends-told, ends-counted}
+use Rattle.demands.proofs.Telling.{told-refused, told-accepted, told-count, counted-refused, counted-accepted, leaves-front}
+use Rattle.demands.proofs.LentRooms.{room-told, length-rowsNumbers, reading-room-ends, keeping-room-ends, cleaning-rooms-end}
 use Rattle.reading.specs.Answers.{readIs, ReadIs}
 use Rattle.reading.specs.declared.Read.{Read}
 use Rattle.cleaning.specs.Answers.{cleanedIs, lent, CleanIs}
@@ -19,18 +20,6 @@ use Rattle.cleaning.specs.declared.Cleaned.{Cleaned}
 use Rattle.manifests.specs.Rooms.{keptIs, KeepIs}
 use Rattle.manifests.specs.declared.keeping.Kept.{Kept}
 use Rattle.upheld.specs.Upheld.{ReadingEnds, CleaningEnds, KeepingEnds, Demand1}
-use Rattle.upheld.proofs.Telling.{told-refused, told-accepted, told-count, counted-refused, counted-accepted}
-use Rattle.upheld.proofs.Rooms.{front-filled, room-told}
-
-ends-told : {numbers : List ℕ} {o : Answer Listing} → Ends numbers o → Ends numbers (told o)
-unfolding told
-ends-told (answered l) = answered _
-ends-told (refused-by x h) = refused-by x h
-
-ends-counted : {numbers : List ℕ} {o : Answer (List ℕ)} → Ends numbers o → Ends numbers (counted o)
-unfolding counted
-ends-counted (answered ns) = answered _
-ends-counted (refused-by x h) = refused-by x h
 
 -- ---- reading
 
@@ -48,7 +37,7 @@ module _ (s q : Bytes) (asked : Asked) (room after : Room) (r : Read) (c : ReadI
       let l = told-accepted ruled t (sym (c .answer) ∙ h) in
       let n : length (numbers (l .0)) ≡ t .count * 4 = length-rowsNumbers (l .0 .rows) ∙ ap (λ (k : ℕ). k * 4) (told-count (l .0) t (l .2)) in
       let e = c .holds ∙ ap (λ (a : Answer Listing). roomAfterReading a room) (l .1) in
-      (l .0, l .1, front-filled rowsRoom numbers (l .0) room after (t .count * 4) e n)
+      (l .0, l .1, leaves-front rowsRoom numbers room (l .0) after (t .count * 4) e n)
 
   pub reading-upheld : ReadingEnds room after r
   reading-upheld = record {
@@ -60,24 +49,30 @@ module _ (s q : Bytes) (asked : Asked) (room after : Room) (r : Read) (c : ReadI
 
 -- ---- numbers in a room: of files named, of manifests kept
 
+abbrev all : List ℕ → List ℕ
+all ns = ns
+
 module _ (size : ℕ) (ruled : Answer (List ℕ)) (said : Answer ℕ) (answer : said ≡ counted ruled) (before after : Room) where
-  pub counted-front : after ≡ leaves size (λ (ns : List ℕ). ns) ruled before → (n : ℕ) → said ≡ accepted n
+  refused-too : (x : Refusal) → said ≡ refused x → ruled ≡ refused x
+  refused-too x h = counted-refused ruled x (sym answer ∙ h)
+
+  pub counted-front : after ≡ leaves size all ruled before → (n : ℕ) → said ≡ accepted n
       → (ns : List ℕ) × (ruled ≡ accepted ns) × (ns ≡ take n after) × (length ns ≡ n)
   counted-front holds n h =
       let k = counted-accepted ruled n (sym answer ∙ h) in
-      let e = holds ∙ ap (λ (a : Answer (List ℕ)). leaves size (λ (ns : List ℕ). ns) a before) (k .1) in
-      (k .0, k .1, front-filled size (λ (ns : List ℕ). ns) (k .0) before after n e (k .2), k .2)
+      let e = holds ∙ ap (λ (a : Answer (List ℕ)). leaves size all a before) (k .1) in
+      (k .0, k .1, leaves-front size all before (k .0) after n e (k .2), k .2)
 
-  counted-room : {back : Room} → back ≡ leaves size (λ (ns : List ℕ). ns) ruled before → after ≡ back
-      → RoomEnds size (λ (ns : List ℕ). ns) ruled before back → RoomEnds size (λ (n : ℕ). take n after) said before after
+  counted-room : {back : Room} → back ≡ leaves size all ruled before → after ≡ back
+      → RoomEnds size all ruled before back → RoomEnds size (λ (n : ℕ). take n after) said before after
   counted-room b e h =
-      room-told size (λ (ns : List ℕ). ns) (λ (n : ℕ). take n after) ruled said before after
-      (λ x h. counted-refused ruled x (sym answer ∙ h)) (λ n h. let f = counted-front (e ∙ b) n h in (f .0, f .1, f .2)) (subst (RoomEnds size (λ (ns : List ℕ). ns) ruled before) (sym e) h)
+      room-told size all (λ (n : ℕ). take n after) ruled said before after refused-too
+      (λ n h. let f = counted-front (e ∙ b) n h in (f .0, f .1, f .2)) (subst (RoomEnds size all ruled before) (sym e) h)
 
-  -- a table in which nothing is told
+  -- a table that holds zeros whatever is named
   counted-table : {back : Room} → after ≡ back → RoomEnds size (λ (ns : List ℕ). []) ruled before back → RoomEnds size (λ (n : ℕ). []) said before after
   counted-table e h =
-      room-told size (λ (ns : List ℕ). []) (λ (n : ℕ). []) ruled said before after (λ x h. counted-refused ruled x (sym answer ∙ h))
+      room-told size (λ (ns : List ℕ). []) (λ (n : ℕ). []) ruled said before after refused-too
       (λ n h. let k = counted-accepted ruled n (sym answer ∙ h) in (k .0, k .1, refl)) (subst (RoomEnds size (λ (ns : List ℕ). []) ruled before) (sym e) h)
 
 cleaning-upheld : (s : Bytes) (now retention : ℕ) (room room′ one one′ two two′ : Room) (r : Cleaned)

@@ -1,6 +1,4 @@
 -- The proofs of what `specs/` says.
-pub mod Telling
-pub mod Rooms
 pub mod Ending
 pub mod Refusing
 pub mod Answering

@@ -1,24 +1,22 @@
 -- Demand 3, of the entries: readings of a log before and after files are removed.
 use mathlib.Core.Path.{_≡_, refl, sym, _∙_, ap, subst}
 use mathlib.Core.Logic.{_⊎_, inl, inr, _↔_, Iff·trans}
-use mathlib.Core.Option.{some}
 use mathlib.Core.List.{List}
-use Prim.Native.Nat.{ℕ, _≤_}
+use Prim.Native.Nat.{ℕ}
 use lib.ListN.{length, take}
 use Rattle.rules.specs.Bytes.{Bytes}
-use Rattle.rules.specs.Bundle.{File, bundle}
-use Rattle.rules.specs.Starts.{logOf}
-use Rattle.rules.specs.Query.{Condition, query}
-use Rattle.rules.specs.Rooms.{Room, rowsRoom, namesRoom}
-use Rattle.rules.specs.Reading.{Asked, theLatest, theVersion, reading, historyListing}
+use Rattle.rules.specs.Bundle.{File}
+use Rattle.rules.specs.Starts.{Log, logOf}
+use Rattle.rules.specs.Rooms.{Room, namesRoom}
+use Rattle.rules.specs.Reading.{Asked, theLatest, theVersion, Listing, reading, historyListing}
 use Rattle.rules.specs.Cleaning.{cleaning, namesAfterCleaning}
 use Rattle.rules.specs.Same.{SameListing, SameAnswer}
-use Rattle.rules.specs.Refusals.{accepted, refused, notKept}
+use Rattle.rules.specs.Refusals.{Answer, accepted, refused, notKept}
 use Rattle.rules.proofs.Sameness.{same-listing-trans, same-answer-sym, same-answer-trans}
-use Rattle.demands.specs.Removed.{Without, NotVersionZero}
-use Rattle.demands.specs.FullHistory.{FullHistory}
+use Rattle.demands.specs.FirstSentence as FirstSentence
 use Rattle.demands.specs.LastSentence as Ruled
 use Rattle.demands.specs.LastSentence.{checkpointOf}
+use Rattle.demands.proofs.Telling.{same-listing-sym, reading-room-same}
 use Rattle.demands.proofs.FirstSentence.{first-sentence, full-log-is-history}
 use Rattle.demands.proofs.LastSentence.{last-sentence, stopped-halfway}
 use Rattle.refusals.specs.Numbered.{numbered}
@@ -30,38 +28,36 @@ use Rattle.cleaning.specs.Answers.{cleanedIs, lent}
 use Rattle.upheld.specs.Seen.{SameRead, ReadsSame}
 use Rattle.upheld.specs.Removing.{KeptOrNot, KeepsAnswers, Run, Runs, not-run, once-more}
 use Rattle.upheld.specs.Upheld.{Demand3}
-use Rattle.upheld.proofs.Telling.{same-listing-sym, reading-room}
 use Rattle.upheld.proofs.Ending.{counted-front}
 use Rattle.upheld.proofs.Refusing.{read-refused}
 use Rattle.upheld.proofs.Seen.{same-read}
 
 -- ---- any files but version 0
 
-first-upheld : (s t q : Bytes) (fs gs : List File) (cs : List Condition) (n v : ℕ) (room after room′ after′ : Room) (r r′ : Read)
-    → bundle s ≡ some fs → FullHistory fs n → bundle t ≡ some gs → Without NotVersionZero fs gs
-    → v ≤ n → query q ≡ some cs → rowsRoom ≤ length room → rowsRoom ≤ length room′
-    → ReadIs s q (theVersion v) room after r → ReadIs t q (theVersion v) room′ after′ r′ → KeptOrNot (logOf gs) v s t after after′ r r′
+-- `full` is what the history answers
+kept-or-not : (left : Log) (v : ℕ) (s t q : Bytes) (room after room′ after′ : Room) (r r′ : Read) (full : Answer Listing)
+    → SameAnswer SameListing full (reading (length room) s q (theVersion v)) → FirstSentence.KeptOrNot left v full (reading (length room′) t q (theVersion v))
+    → ReadIs s q (theVersion v) room after r → ReadIs t q (theVersion v) room′ after′ r′ → KeptOrNot left v s t after after′ r r′
 unfolding numbered
-first-upheld s t q fs gs cs n v room after room′ after′ r r′ es full et w l eq long long′ c c′ =
-    let k = first-sentence s t q fs gs cs n v (length room′) es full et w l eq long′ in
-    let not-kept = read-refused t q (theVersion v) room′ after′ r′ c′ NotKept in
-    record { either = sides (not-kept .1) (k .either); exactly-when = Iff·trans not-kept (k .exactly-when) }
+kept-or-not left v s t q room after room′ after′ r r′ full whole k c c′ =
+    record { either = sides (k .either); exactly-when = Iff·trans not-kept (k .exactly-when) }
   where
-    sides : (reading (length room′) t q (theVersion v) ≡ refused notKept → r′ ≡ Refused NotKept)
-        → SameAnswer SameListing (historyListing cs (logOf fs) v) (reading (length room′) t q (theVersion v)) ⊎ (reading (length room′) t q (theVersion v) ≡ refused notKept)
+    not-kept : (r′ ≡ Refused NotKept) ↔ (reading (length room′) t q (theVersion v) ≡ refused notKept)
+    not-kept = read-refused t q (theVersion v) room′ after′ r′ c′ NotKept
+
+    sides : SameAnswer SameListing full (reading (length room′) t q (theVersion v)) ⊎ (reading (length room′) t q (theVersion v) ≡ refused notKept)
         → SameRead s t after after′ r r′ ⊎ (r′ ≡ Refused NotKept)
-    sides refuses (inr e) = inr (refuses e)
-    sides refuses (inl h) =
-        let whole = full-log-is-history s q fs cs n v (length room) es full l eq long in
-        inl (same-read s t room after room′ after′ q (theVersion v) r r′
-        (same-answer-trans (λ a b d. same-listing-trans) (same-answer-sym (λ a b. same-listing-sym) whole) h) c c′)
+    sides (inr e) = inr (not-kept .1 e)
+    sides (inl h) =
+        let same = same-answer-trans (λ a b d. same-listing-trans) (same-answer-sym (λ a b. same-listing-sym) whole) h in
+        inl (same-read s t room after room′ after′ q (theVersion v) r r′ same c c′)
 
 -- ---- files the cleaner named
 
 reads-same : (s t q : Bytes) (asked : Asked) → ((room : ℕ) → SameAnswer SameListing (reading room s q asked) (reading room t q asked)) → ReadsSame s t q asked
 reads-same s t q asked h room after room′ after′ r r′ long long′ c c′ =
-    same-read s t room after room′ after′ q asked r r′
-    (subst (SameAnswer SameListing (reading (length room) s q asked)) (reading-room (length room) (length room′) t q asked long long′) (h (length room))) c c′
+    let e = reading-room-same (length room) (length room′) t q asked long long′ in
+    same-read s t room after room′ after′ q asked r r′ (subst (SameAnswer SameListing (reading (length room) s q asked)) e (h (length room))) c c′
 
 keeps-read : (c : ℕ) (s t : Bytes) → Ruled.KeepsAnswers c s t → KeepsAnswers c s t
 keeps-read c s t k = record {
@@ -93,7 +89,9 @@ runs-ruled (once-more r more) = Ruled.once-more (run-ruled r) (runs-ruled more)
 
 pub demand-3 : Demand3
 demand-3 = record {
-  first = first-upheld;
+  first = λ s t q fs gs cs n v room after room′ after′ r r′ es full et w l eq long long′.
+      kept-or-not (logOf gs) v s t q room after room′ after′ r r′ (historyListing cs (logOf fs) v)
+      (full-log-is-history s q fs cs n v (length room) es full l eq long) (first-sentence s t q fs gs cs n v (length room′) es full et w l eq long′);
   last = λ s t fs gs r. keeps-read (checkpointOf fs) s t (last-sentence s t fs gs (run-ruled r));
   halfway = λ s t fs e r. keeps-read (checkpointOf fs) s t (stopped-halfway s t fs e (runs-ruled r));
 }

@@ -17,6 +17,7 @@ use Rattle.rules.proofs.Tests.{apart}
 use Rattle.rules.proofs.Answers.{refused-number}
 use Rattle.demands.specs.Showing.{IsAdd}
 use Rattle.demands.specs.Places.{StandsIn}
+use Rattle.demands.proofs.Telling.{told-count, told-same}
 use Rattle.demands.proofs.Places.{rows-stand-in-the-bundle}
 use Rattle.refusals.specs.Numbered.{numbered}
 use Rattle.reading.specs.Answers.{readIs, AnswerIs, ReadIs}
@@ -24,20 +25,19 @@ use Rattle.reading.specs.declared.Read.{Read}
 use Rattle.reading.specs.declared.Read.the-variants.{Listed, Refused}
 use Rattle.reading.proofs.Alone.{readIs-alone}
 use Rattle.upheld.specs.Seen.{rowIn, RowSays, SameRow, SameRead, both-listed, both-refused as refused-both}
-use Rattle.upheld.proofs.Telling.{told-same, told-count}
 
 -- ---- rows
 
 stands-says : (s : Bytes) (r : Row) → StandsIn s r → RowSays s (rowNumbers r) (r .facts)
 unfolding rowNumbers
 stands-says s r p =
-    let line : take (r .size) (drop (r .at) s) ≡ p .line =
-    ap (λ (x : Bytes). take (r .size) (drop (r .at) x)) (p .parts) ∙ ap (take (r .size)) (drop-at (p .before) _ (r .at) (p .place)) ∙ take-at (p .line) (p .behind) (r .size) (p .long) in
+    let onward : drop (r .at) s ≡ p .line ++ p .behind = ap (drop (r .at)) (p .parts) ∙ drop-at (p .before) _ (r .at) (p .place) in
+    let line : take (r .size) (drop (r .at) s) ≡ p .line = ap (take (r .size)) onward ∙ take-at (p .line) (p .behind) (r .size) (p .long) in
     record {
       at = r .at;
       long = r .size;
       four = refl;
-      within = omega (arith, ap length (p .parts), length-append (p .before) (p .line ++ p .behind), length-append (p .line) (p .behind), p .place, p .long);
+      within = omega (arith, ap length (p .parts), length-append (p .before) (p .line ++ p .behind), length-append (p .line) (p .behind));
       adds = subst (λ (x : Bytes). IsAdd x (r .facts)) (sym line) (p .says);
     }
 
@@ -59,7 +59,14 @@ module _ (s t : Bytes) (rest rest′ : Room) where
   rows-seen no-rows a b k l = absurd (omega arith)
   rows-seen (row {r = r} {s = u} {rs = rs} {ss = us} f h) a b zero l =
       rw (row-first r rs rest, row-first u us rest′)
-      (record { f = r .facts; g = u .facts; in-s = stands-says s r (a .0); in-t = stands-says t u (b .0); facts = f; numbers = cc (f .size, f .modificationTime) })
+      (record {
+        f = r .facts;
+        g = u .facts;
+        in-s = stands-says s r (a .0);
+        in-t = stands-says t u (b .0);
+        facts = f;
+        numbers = cc (f .size, f .modificationTime);
+      })
   rows-seen (row {r = r} {s = u} {rs = rs} {ss = us} f h) a b (suc k) l =
       rw (row-behind r rs rest k, row-behind u us rest′ k) (rows-seen h (a .1) (b .1) k (omega arith))
 
@@ -71,6 +78,9 @@ unfolding roomAfterReading leaves filled
 room-rows l room after e = (_, e)
 
 module _ (s t : Bytes) (room after room′ after′ : Room) where
+  rooms : {z z′ : Room} → z ≡ after → z′ ≡ after′ → (k : ℕ) → SameRow s t (rowIn z k) (rowIn z′ k) → SameRow s t (rowIn after k) (rowIn after′ k)
+  rooms {z′ = z′} e f k h = subst (λ (x : Room). SameRow s t (rowIn after k) (rowIn x k)) f (subst (λ (x : Room). SameRow s t (rowIn x k) (rowIn z′ k)) e h)
+
   same-listed : (l m : Ruled) → SameListing l m → All (StandsIn s) (l .rows) → All (StandsIn t) (m .rows) → (r r′ : Read)
       → AnswerIs (accepted l) room after r → AnswerIs (accepted m) room′ after′ r′ → SameRead s t after after′ r r′
   unfolding readIs told
@@ -81,18 +91,18 @@ module _ (s t : Bytes) (room after room′ after′ : Room) where
       let (rest, f) = room-rows l room after (c .holds) in
       let (rest′, g) = room-rows m room′ after′ (c′ .holds) in
       subst (SameRead s t after after′ (Listed x)) e
-      (both-listed x
-      (λ k n. subst (λ (z : Room). SameRow s t (rowIn z k) (rowIn after′ k)) (sym f)
-      (subst (λ (z : Room). SameRow s t (rowIn (rowsNumbers (l .rows) ++ rest) k) (rowIn z k)) (sym g) (rows-seen s t rest rest′ (h .rows) a b k (omega arith)))))
+      (both-listed x (λ k n. rooms (sym f) (sym g) k (rows-seen s t rest rest′ (h .rows) a b k (omega arith))))
 
-  same-refused : (x y : Refusal) → x .number ≡ y .number → (r r′ : Read) → readIs r ≡ refused x → readIs r′ ≡ refused y → SameRead s t after after′ r r′
+  same-refused : (x y : Refusal) → x .number ≡ y .number → (r r′ : Read) → readIs r ≡ refused x → readIs r′ ≡ refused y
+      → SameRead s t after after′ r r′
   unfolding readIs
   same-refused x y h (Listed l) r′ e f = apart (cc)
   same-refused x y h (Refused a) (Listed m) e f = apart (cc)
   same-refused x y h (Refused a) (Refused b) e f = refused-both a b (refused-number e ∙ h ∙ sym (refused-number f))
 
   same-answered : {o o′ : Answer Ruled} → SameAnswer SameListing o o′ → ((l : Ruled) → o ≡ accepted l → All (StandsIn s) (l .rows))
-      → ((l : Ruled) → o′ ≡ accepted l → All (StandsIn t) (l .rows)) → (r r′ : Read) → AnswerIs o room after r → AnswerIs o′ room′ after′ r′ → SameRead s t after after′ r r′
+      → ((l : Ruled) → o′ ≡ accepted l → All (StandsIn t) (l .rows)) → (r r′ : Read)
+      → AnswerIs o room after r → AnswerIs o′ room′ after′ r′ → SameRead s t after after′ r r′
   unfolding told
   same-answered (both-accepted {a = l} {b = m} h) p p′ r r′ c c′ = same-listed l m h (p l refl) (p′ m refl) r r′ c c′
   same-answered (both-refused {r = x} {s = y} h) p p′ r r′ c c′ = same-refused x y h r r′ (c .answer) (c′ .answer)

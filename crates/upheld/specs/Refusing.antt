@@ -20,7 +20,9 @@ use Rattle.demands.specs.Met.{Met}
 use Rattle.demands.specs.Exactly.{SomeTooLarge, Unknown, Readable, Opened, logIn, versionIn, Reached, Read, columnsAsked}
 use Rattle.demands.specs.CleaningExactly.{Enough, NotWritable as CannotWrite, Comparing, MetComparing, Compared}
 use Rattle.refusals.specs.declared.Refusal.{Refusal}
-use Rattle.refusals.specs.declared.Refusal.the-variants.{RoomTooShort, BundleMalformed, VersionTooLarge, NoVersionZero, NotKept, Malformed, TooManyLive, ReaderTooHigh, UnknownFeature, QueryMalformed, NoSuchColumn, NotWritable, CheckpointDisagrees, StateMalformed, TooManyManifests}
+use Rattle.refusals.specs.declared.Refusal.the-variants.{RoomTooShort, BundleMalformed, VersionTooLarge, NoVersionZero, NotKept, Malformed, TooManyLive}
+use Rattle.refusals.specs.declared.Refusal.the-variants.{ReaderTooHigh, UnknownFeature, QueryMalformed, NoSuchColumn, NotWritable, CheckpointDisagrees}
+use Rattle.refusals.specs.declared.Refusal.the-variants.{StateMalformed, TooManyManifests}
 
 -- reading: 1, 10, 2, 3, 4, 5, then 6 or 7 by first line met, 8, 9, 11
 abbrev pub ReadingRule : (room : ℕ) → (s q : Bytes) → Asked → Refusal → Type 0

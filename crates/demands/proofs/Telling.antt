@@ -1,12 +1,14 @@
--- What is told of an answer, and of which answer it is told.
-use mathlib.Core.Path.{_≡_, refl, sym, ap}
+-- What is told of an answer, and of which answer it is told: of a listing its numbers, of numbers their count. And what else the entries'
+-- demands want of the rules: listings are the same both ways, rooms that are long enough are all one, an answer's numbers stand in front.
+use mathlib.Core.Path.{_≡_, refl, sym, ap, _∙_}
 use mathlib.Core.List.{List}
 use Prim.Native.Nat.{ℕ, suc, _≤_}
-use lib.ListN.{length}
+use lib.ListN.{length, take}
+use lib.Seq.{take-at}
 use borrow.Author.Tests.{le-leb}
 use Rattle.rules.specs.Bytes.{Bytes}
 use Rattle.rules.specs.Live.{Row}
-use Rattle.rules.specs.Rooms.{rowsRoom, counted}
+use Rattle.rules.specs.Rooms.{Room, rowsRoom, filled, leaves, counted}
 use Rattle.rules.specs.Reading.{Asked, Listing, Told, told, reading}
 use Rattle.rules.specs.Same.{SameRows, no-rows, row, SameListing}
 use Rattle.rules.specs.Refusals.{Refusal, Answer, accepted, refused}
@@ -16,7 +18,22 @@ use Rattle.rules.proofs.Sameness.{same-rows-sym, same-protocol-sym}
 pub accepted-same : {A : Type 0} {a b : A} → accepted a ≡ accepted b → a ≡ b
 accepted-same e = cc
 
--- ---- a listing
+-- ---- the same listings
+
+pub same-listing-sym : {l m : Listing} → SameListing l m → SameListing m l
+same-listing-sym s = record {
+  version = sym (s .version);
+  table = sym (s .table);
+  inForce = same-protocol-sym (s .inForce);
+  canWrite = sym (s .canWrite);
+  rows = same-rows-sym (s .rows);
+}
+
+length-same-rows : {rs ss : List Row} → SameRows rs ss → length rs ≡ length ss
+length-same-rows no-rows = refl
+length-same-rows (row f s) = ap suc (length-same-rows s)
+
+-- ---- told of a listing
 
 pub told-refused : (o : Answer Listing) (x : Refusal) → told o ≡ refused x → o ≡ refused x
 unfolding told
@@ -32,15 +49,12 @@ pub told-count : (l : Listing) (t : Told) → told (accepted l) ≡ accepted t �
 unfolding told
 told-count l t e = cc
 
-pub length-same-rows : {rs ss : List Row} → SameRows rs ss → length rs ≡ length ss
-length-same-rows no-rows = refl
-length-same-rows (row f h) = ap suc (length-same-rows h)
-
+-- the same listings tell the same
 pub told-same : {l m : Listing} → SameListing l m → told (accepted l) ≡ told (accepted m)
 unfolding told
 told-same h = cc (length-same-rows (h .rows))
 
--- ---- numbers
+-- ---- told of numbers
 
 pub counted-refused : (o : Answer (List ℕ)) (x : Refusal) → counted o ≡ refused x → o ≡ refused x
 unfolding counted
@@ -52,18 +66,13 @@ unfolding counted
 counted-accepted (accepted ns) n e = (ns, refl, cc)
 counted-accepted (refused y) n e = apart (cc)
 
--- ---- to be moved
+-- ---- rooms
 
-pub same-listing-sym : {l m : Listing} → SameListing l m → SameListing m l
-same-listing-sym s = record {
-  version = sym (s .version);
-  table = sym (s .table);
-  inForce = same-protocol-sym (s .inForce);
-  canWrite = sym (s .canWrite);
-  rows = same-rows-sym (s .rows);
-}
-
--- rooms that are long enough are all one
-pub reading-room : (a b : ℕ) (s q : Bytes) (asked : Asked) → rowsRoom ≤ a → rowsRoom ≤ b → reading a s q asked ≡ reading b s q asked
+pub reading-room-same : (a b : ℕ) (s q : Bytes) (asked : Asked) → rowsRoom ≤ a → rowsRoom ≤ b → reading a s q asked ≡ reading b s q asked
 unfolding reading
-reading-room a b s q asked h k = rw (le-leb rowsRoom a h, le-leb rowsRoom b k)
+reading-room-same a b s q asked h k = rw (le-leb rowsRoom a h, le-leb rowsRoom b k)
+
+pub leaves-front : {A : Type 0} (n : ℕ) (numbers : A → List ℕ) (room : Room) (a : A) (after : Room) (k : ℕ)
+    → after ≡ leaves n numbers (accepted a) room → length (numbers a) ≡ k → numbers a ≡ take k after
+unfolding leaves filled
+leaves-front n numbers room a after k e h = sym (ap (take k) e ∙ take-at (numbers a) _ k h)
