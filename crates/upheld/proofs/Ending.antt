@@ -5,7 +5,7 @@ use Prim.Native.Nat.{ℕ, _*_}
 use lib.ListN.{length, take}
 use Rattle.rules.specs.Bytes.{Bytes}
 use Rattle.rules.specs.Rooms.{Room, rowsRoom, keptRoom, namesRoom, leaves, rowsNumbers, counted}
-use Rattle.rules.specs.Reading.{Asked, Listing, Told, told, reading, roomAfterReading}
+use Rattle.rules.specs.Reading.{Asked, Listing, Told, reading, roomAfterReading}
 use Rattle.rules.specs.Keeping.{keeping, roomAfterKeeping}
 use Rattle.rules.specs.Cleaning.{cleaning, namesAfterCleaning}
 use Rattle.rules.specs.Refusals.{Refusal, Answer, accepted, refused}

@@ -1,7 +1,7 @@
 -- What a caller sees of two readings that the rules answer the same: the same answer, and rows that point at lines of the same facts.
 use mathlib.Core.Path.{_≡_, refl, sym, _∙_, ap, subst}
 use mathlib.Core.List.{List, _∷_, _++_}
-use Prim.Native.Nat.{ℕ, zero, suc, _+_, _*_, _≤_, _<_}
+use Prim.Native.Nat.{ℕ, zero, suc, _*_, _<_}
 use native.Mathlib.Omega.{arith}
 use lib.ListN.{length, take, drop, length-append}
 use lib.Seq.{take-at, drop-at}
@@ -19,7 +19,6 @@ use Rattle.demands.specs.Showing.{IsAdd}
 use Rattle.demands.specs.Places.{StandsIn}
 use Rattle.demands.proofs.Telling.{told-count, told-same}
 use Rattle.demands.proofs.Places.{rows-stand-in-the-bundle}
-use Rattle.refusals.specs.Numbered.{numbered}
 use Rattle.reading.specs.Answers.{readIs, AnswerIs, ReadIs}
 use Rattle.reading.specs.declared.Read.{Read}
 use Rattle.reading.specs.declared.Read.the-variants.{Listed, Refused}
