@@ -1,5 +1,6 @@
 -- The customer's three demands, of the entries: of every answer, and every room beside it, that their promises allow. `read_at` and
--- `read_latest` promise `ReadIs`, `clean` promises `CleanIs` and `keep` promises `KeepIs`, whatever is lent to them.
+-- `read_latest` promise `ReadIs`, `clean` promises `CleanIs` and `keep` promises `KeepIs`, whatever is lent to them. `path_of`, `records_of`
+-- and `directory` promise what the rules show, so that `Showing` of `demands` speaks of them as it stands.
 use mathlib.Core.Path.{_≡_}
 use mathlib.Core.Logic.{_↔_}
 use mathlib.Core.Option.{some}
