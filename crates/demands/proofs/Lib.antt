@@ -19,5 +19,6 @@ pub mod Replayed
 pub mod Places
 pub mod Choosing
 pub mod Showing
+pub mod Telling
 pub mod WrongPrograms
 pub mod Demands
