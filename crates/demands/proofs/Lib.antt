@@ -19,6 +19,5 @@ pub mod Replayed
 pub mod Places
 pub mod Choosing
 pub mod Showing
-pub mod Telling
 pub mod WrongPrograms
 pub mod Demands

@@ -22,4 +22,5 @@ pub mod Moving
 pub mod SoleNames
 pub mod Bundles
 pub mod Readings
+pub mod Telling
 pub mod TextParts

@@ -15,11 +15,12 @@ use Rattle.rules.specs.Keeping.{keeping, roomAfterKeeping}
 use Rattle.rules.specs.Cleaning.{named, cleaning, namesAfterCleaning}
 use Rattle.rules.specs.Same.{SameState}
 use Rattle.rules.specs.Refusals.{accepted}
+use Rattle.rules.proofs.Answers.{accepted-same}
+use Rattle.rules.proofs.Telling.{told-accepted}
 use Rattle.demands.specs.Exactly.{Readable, Read, answerOf}
 use Rattle.demands.specs.CleaningExactly.{NotWritable, NothingToName, Begun, Compared, Names}
 use Rattle.demands.specs.Choosing.{Keeps}
 use Rattle.demands.specs.Replayed.{StateSays}
-use Rattle.demands.proofs.Telling.{accepted-same, told-accepted}
 use Rattle.demands.proofs.Exactly.{reading-exactly}
 use Rattle.demands.proofs.KeepingExactly.{keeping-exactly}
 use Rattle.demands.proofs.CleaningExactly.{cleaning-exactly}

@@ -9,9 +9,10 @@ use Rattle.rules.specs.Reading.{Asked, Listing, Told, reading, roomAfterReading
 use Rattle.rules.specs.Keeping.{keeping, roomAfterKeeping}
 use Rattle.rules.specs.Cleaning.{cleaning, namesAfterCleaning}
 use Rattle.rules.specs.Refusals.{Refusal, Answer, accepted, refused}
+use Rattle.rules.proofs.Rooms.{leaves-front}
+use Rattle.rules.proofs.Telling.{told-refused, told-accepted, told-count, counted-refused, counted-accepted}
 use Rattle.demands.specs.Ending.{Ends, RoomEnds}
 use Rattle.demands.proofs.Ending.{reading-ends, keeping-ends, cleaning-ends, ends-told, ends-counted}
-use Rattle.demands.proofs.Telling.{told-refused, told-accepted, told-count, counted-refused, counted-accepted, leaves-front}
 use Rattle.demands.proofs.LentRooms.{room-told, length-rowsNumbers, reading-room-ends, keeping-room-ends, cleaning-rooms-end}
 use Rattle.reading.specs.Answers.{readIs, ReadIs}
 use Rattle.reading.specs.declared.Read.{Read}

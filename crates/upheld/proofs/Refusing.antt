@@ -11,9 +11,9 @@ use Rattle.rules.specs.Reading.{Asked, told, reading}
 use Rattle.rules.specs.Keeping.{keeping}
 use Rattle.rules.specs.Cleaning.{cleaning}
 use Rattle.rules.specs.Refusals.{Answer, refused}
+use Rattle.rules.proofs.Telling.{told-refused, counted-refused}
 use Rattle.demands.specs.Ending.{Ends}
 use Rattle.demands.proofs.Ending.{isIn, never-refused, reading-ends, keeping-ends, cleaning-ends}
-use Rattle.demands.proofs.Telling.{told-refused, counted-refused}
 use Rattle.demands.proofs.Exactly.{reading-exactly}
 use Rattle.demands.proofs.KeepingExactly.{keeping-exactly}
 use Rattle.demands.proofs.CleaningExactly.{cleaning-exactly}

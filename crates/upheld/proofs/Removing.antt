@@ -12,11 +12,11 @@ use Rattle.rules.specs.Reading.{Asked, theLatest, theVersion, Listing, reading,
 use Rattle.rules.specs.Cleaning.{cleaning, namesAfterCleaning}
 use Rattle.rules.specs.Same.{SameListing, SameAnswer}
 use Rattle.rules.specs.Refusals.{Answer, accepted, refused, notKept}
-use Rattle.rules.proofs.Sameness.{same-listing-trans, same-answer-sym, same-answer-trans}
+use Rattle.rules.proofs.Sameness.{same-listing-sym, same-listing-trans, same-answer-sym, same-answer-trans}
+use Rattle.rules.proofs.Readings.{reading-room-same}
 use Rattle.demands.specs.FirstSentence as FirstSentence
 use Rattle.demands.specs.LastSentence as Ruled
 use Rattle.demands.specs.LastSentence.{checkpointOf}
-use Rattle.demands.proofs.Telling.{same-listing-sym, reading-room-same}
 use Rattle.demands.proofs.FirstSentence.{first-sentence, full-log-is-history}
 use Rattle.demands.proofs.LastSentence.{last-sentence, stopped-halfway}
 use Rattle.refusals.specs.Numbered.{numbered}

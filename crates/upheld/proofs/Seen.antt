@@ -15,9 +15,9 @@ use Rattle.rules.specs.Same.{SameRows, no-rows, row, SameListing, SameAnswer, b
 use Rattle.rules.specs.Refusals.{Refusal, Answer, accepted, refused}
 use Rattle.rules.proofs.Tests.{apart}
 use Rattle.rules.proofs.Answers.{refused-number}
+use Rattle.rules.proofs.Telling.{told-count, told-same}
 use Rattle.demands.specs.Showing.{IsAdd}
 use Rattle.demands.specs.Places.{StandsIn}
-use Rattle.demands.proofs.Telling.{told-count, told-same}
 use Rattle.demands.proofs.Places.{rows-stand-in-the-bundle}
 use Rattle.reading.specs.Answers.{readIs, AnswerIs, ReadIs}
 use Rattle.reading.specs.declared.Read.{Read}
