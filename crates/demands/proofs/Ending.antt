@@ -1,5 +1,5 @@
 -- Demand 1: every step of an entry ends with an answer or with a refusal of its list.
-use mathlib.Core.Path.{_≡_, refl}
+use mathlib.Core.Path.{_≡_, refl, subst}
 use mathlib.Core.Logic.{_⊎_, inl, inr}
 use mathlib.Core.Bool.{Bool, true, false, not}
 use mathlib.Core.Option.{Option, none, some}
@@ -7,7 +7,7 @@ use mathlib.Core.List.{List, [], _∷_, map}
 use Prim.Native.Nat.{ℕ, suc, _+_}
 use lib.Dec.{eqb, leb}
 use lib.ListN.{length}
-use borrow.Author.Tests.{eqb-true}
+use borrow.Author.Tests.{eqb-true, eq-eqb}
 use Rattle.rules.specs.Bytes.{Bytes, allAmong}
 use Rattle.rules.specs.Bundle.{File, bundle}
 use Rattle.rules.specs.Names.{anyTooLarge}
@@ -20,19 +20,22 @@ use Rattle.rules.specs.Marker.{marked}
 use Rattle.rules.specs.Gate.{knownReader, readerNames, gate, writable}
 use Rattle.rules.specs.Query.{Condition, columnOf, query}
 use Rattle.rules.specs.Manifests.{manifests, mostManifests}
-use Rattle.rules.specs.Rooms.{rowsRoom, keptRoom}
-use Rattle.rules.specs.Reading.{versionAsked, stateBy, listing, listingBy, listingAt, reading}
+use Rattle.rules.specs.Rooms.{rowsRoom, keptRoom, counted}
+use Rattle.rules.specs.Reading.{versionAsked, Listing, told, stateBy, listing, listingBy, listingAt, reading}
 use Rattle.rules.specs.Keeping.{keeping}
 use Rattle.rules.specs.Agreement.{agree}
 use Rattle.rules.specs.Cleaning.{named, compared, cleanedBy, cleanedAt, enough, cleaning}
-use Rattle.rules.specs.Refusals.{Refusal, Answer, accepted, _>>=_, orRefuse, require, plain, roomTooShort, bundleMalformed, versionTooLarge, noVersionZero, notKept, malformed, tooManyLive, readerTooHigh, unknownFeature, queryMalformed, noSuchColumn, notWritable, checkpointDisagrees, stateMalformed, tooManyManifests}
-use Rattle.rules.proofs.Tests.{apart}
+use Rattle.rules.specs.Refusals.{Refusal, Answer, accepted, refused, _>>=_, orRefuse, require, plain, roomTooShort, bundleMalformed, versionTooLarge}
+use Rattle.rules.specs.Refusals.{noVersionZero, notKept, malformed, tooManyLive, readerTooHigh, unknownFeature, queryMalformed, noSuchColumn}
+use Rattle.rules.specs.Refusals.{notWritable, checkpointDisagrees, stateMalformed, tooManyManifests}
+use Rattle.rules.proofs.Tests.{apart, true-not-false}
+use Rattle.rules.proofs.Answers.{refused-number}
 use Rattle.demands.specs.Removed.{In}
 use Rattle.demands.specs.Ending.{OneOf, Ends, answered, refused-by, ReadingEnds, KeepingEnds, CleaningEnds}
 
 -- ---- a number that stands in a list
 
-isIn : ℕ → List ℕ → Bool
+unfoldable pub isIn : ℕ → List ℕ → Bool
 isIn n [] = false
 isIn n (k ∷ ks) = elim (eqb n k) [ true ↦ true | false ↦ isIn n ks ]
 
@@ -44,6 +47,21 @@ isIn-in n (k ∷ ks) h = go (eqb n k) refl h (isIn-in n ks)
     go : (b : Bool) → eqb n k ≡ b → elim b [ true ↦ true | false ↦ isIn n ks ] ≡ true → (isIn n ks ≡ true → In n ks) → (n ≡ k) ⊎ In n ks
     go true e h ih = inl (eqb-true n k e)
     go false e h ih = inr (ih h)
+
+in-isIn : (n : ℕ) (ks : List ℕ) → In n ks → isIn n ks ≡ true
+unfolding isIn
+in-isIn n [] i = absurd i
+in-isIn n (k ∷ ks) (inl e) = rw (isIn, eq-eqb n k e)
+in-isIn n (k ∷ ks) (inr i) = go (eqb n k) (in-isIn n ks i)
+  where
+    go : (b : Bool) → isIn n ks ≡ true → elim b [ true ↦ true | false ↦ isIn n ks ] ≡ true
+    go true e = refl
+    go false e = e
+
+-- a number that is not listed is never given
+pub never-refused : {A : Type 0} {ks : List ℕ} {o : Answer A} (r : Refusal) → isIn (r .number) ks ≡ false → Ends ks o → o ≡ refused r → ⊥
+never-refused r h (answered a) e = apart (cc)
+never-refused {ks = ks} r h (refused-by s l) e = true-not-false (in-isIn (r .number) ks (subst (λ (n : ℕ). In n ks) (refused-number e) (l .listed))) h
 
 -- ---- steps
 
@@ -197,3 +215,15 @@ cleaning-ends lent s now retention =
     (λ fs. ends-bind forCleaning _ (ends-require forCleaning versionTooLarge (not (anyTooLarge fs)) (plain-listed forCleaning 3 refl))
     (λ _. ends-bind forCleaning _ (ends-orRefuse forCleaning noVersionZero (logOf fs .versionFile 0) (plain-listed forCleaning 4 refl))
     (λ zf. cleanedAt-ends (marked (logOf fs)) zf now retention fs))))
+
+-- ---- what is told of them ends as they do
+
+pub ends-told : {numbers : List ℕ} {o : Answer Listing} → Ends numbers o → Ends numbers (told o)
+unfolding told
+ends-told (answered l) = answered _
+ends-told (refused-by r h) = refused-by r h
+
+pub ends-counted : {numbers : List ℕ} {o : Answer (List ℕ)} → Ends numbers o → Ends numbers (counted o)
+unfolding counted
+ends-counted (answered ns) = answered _
+ends-counted (refused-by r h) = refused-by r h

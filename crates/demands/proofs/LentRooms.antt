@@ -25,7 +25,8 @@ use Rattle.rules.specs.Rooms.{Room, rowsRoom, keptRoom, namesRoom, filled, leav
 use Rattle.rules.specs.Reading.{Asked, versionAsked, Listing, stateBy, listing, listingBy, listingAt, reading, roomAfterReading}
 use Rattle.rules.specs.Keeping.{keeping, roomAfterKeeping}
 use Rattle.rules.specs.Cleaning.{mayGo, named, compared, cleanedBy, cleanedAt, Lent, enough, cleaning, namesAfterCleaning, tableAfterCleaning}
-use Rattle.rules.specs.Refusals.{Answer, accepted, refused, _>>=_, orRefuse, require, roomTooShort, bundleMalformed, versionTooLarge, noVersionZero, queryMalformed, noSuchColumn, stateMalformed, tooManyManifests}
+use Rattle.rules.specs.Refusals.{Refusal, Answer, accepted, refused, _>>=_, orRefuse, require, roomTooShort, bundleMalformed, versionTooLarge}
+use Rattle.rules.specs.Refusals.{noVersionZero, queryMalformed, noSuchColumn, stateMalformed, tooManyManifests}
 use Rattle.rules.proofs.Tests.{apart}
 use Rattle.rules.proofs.Replaying.{bind-accepted, require-accepted, stateBy-live}
 use Rattle.rules.proofs.Rooms.{length-filled, leaves-accepted, leaves-untouched, leaves-zeros}
@@ -90,6 +91,19 @@ leaves-ends {A} n numbers (refused s) room long few = by-number (decide (s .numb
           long = ap length e ∙ length-filled n [] room (omega arith) (long other);
         }
 
+-- `said` is told of the answer: refused by the same, or accepted with the same numbers in front
+pub room-told : {A B : Type 0} (n : ℕ) (numbers : A → List ℕ) (front : B → List ℕ) (answer : Answer A) (said : Answer B) (before after : Room)
+    → ((r : Refusal) → said ≡ refused r → answer ≡ refused r)
+    → ((b : B) → said ≡ accepted b → (a : A) × (answer ≡ accepted a) × (numbers a ≡ front b))
+    → RoomEnds n numbers answer before after → RoomEnds n front said before after
+room-told n numbers front answer said before after back forth e = record {
+  filled = λ b h. let f = forth b h in subst (λ (ns : List ℕ). take n after ≡ ns ++ replicate (n - length ns) 0) (f .2) (e .filled (f .0) (f .1));
+  untouched = λ r h. e .untouched r (back r h);
+  zeros = λ r h. e .zeros r (back r h);
+  beyond = e .beyond;
+  long = e .long;
+}
+
 -- a first step that refuses a short room
 long-enough : {A : Type 0} (b : Bool) (f : Unit {0} → Answer A) → (numberOf (require roomTooShort b >>= f) ≡ 1 → ⊥) → b ≡ true
 unfolding numberOf
@@ -110,7 +124,7 @@ cleaning-long lent s now retention h = true-enough lent (long-enough (enough len
 
 -- ---- reading
 
-length-rowsNumbers : (rs : List Row) → length (rowsNumbers rs) ≡ length rs * 4
+pub length-rowsNumbers : (rs : List Row) → length (rowsNumbers rs) ≡ length rs * 4
 unfolding rowsNumbers rowNumbers
 length-rowsNumbers [] = refl
 length-rowsNumbers (r ∷ rs) = let e : length (rowsNumbers rs) ≡ length rs * 4 = length-rowsNumbers rs in omega (arith, length-append (rowNumbers r) (rowsNumbers rs))

@@ -16,7 +16,7 @@ use Rattle.reading.specs.declared.Read.the-variants.{Listed, Refused}
 listingOf : Told → Listing
 listingOf s = record { version = record { 0 = s .version }; rows = s .count; reader = s .reader; writer = s .writer; writable = s .canWrite }
 
-readIs-alone : (r s : Read) → readIs r ≡ readIs s → r ≡ s
+pub readIs-alone : (r s : Read) → readIs r ≡ readIs s → r ≡ s
 unfolding readIs listingOf
 readIs-alone (Listed l) (Listed m) e =
     let same : _≡_ {A = Told} (record { version = l .version .0; count = l .rows; reader = l .reader; writer = l .writer; canWrite = l .writable })

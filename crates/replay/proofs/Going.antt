@@ -48,21 +48,21 @@ module _ (src : Text) (entry from to limit : ℕ) (t₀ : List ℕ) (st₀ : Sta
     reads-all : to ≤ at → readLines limit entry 1 from (lines (part src from to)) (stateOf src st₀ t₀) ≡ accepted (stateOf src st t)
     reads-all h = sym (g .reads) ∙ readLines-none limit entry line src at to (stateOf src st t) h
 
-    ends : to ≤ at → (b : Bool) → met ≡ b → readFile limit (bodyAs src entry from to) (stateOf src st₀ t₀) ≡ (require (malformed entry 0) b >>= (λ _. accepted (stateOf src st t)))
+    ends : to ≤ at → (b : Bool) → met ≡ b → readFile limit (bodyAs entry from (part src from to)) (stateOf src st₀ t₀) ≡ (require (malformed entry 0) b >>= (λ _. accepted (stateOf src st t)))
     unfolding bodyAs anyObject
     ends h b e =
         let none-left : (met || anyObject (lines (part src at to))) ≡ b = ap (λ ls. met || anyObject ls) (lines-part-none src at to h) ∙ or-none met ∙ e in
-        readFile-ends limit (bodyAs src entry from to) (stateOf src st₀ t₀) (reads-all h)
+        readFile-ends limit (bodyAs entry from (part src from to)) (stateOf src st₀ t₀) (reads-all h)
         ∙ ap (λ (b : Bool). require (malformed entry 0) b >>= (λ _. accepted (stateOf src st t))) (sym (g .objects) ∙ none-left)
       where
         or-none : (b : Bool) → (b || false) ≡ b
         or-none true = refl
         or-none false = refl
 
-    pub going-met : to ≤ at → met ≡ true → OutcomeIs src limit (readFile limit (bodyAs src entry from to) (stateOf src st₀ t₀)) t₀ t (Done st)
+    pub going-met : to ≤ at → met ≡ true → OutcomeIs src limit (readFile limit (bodyAs entry from (part src from to)) (stateOf src st₀ t₀)) t₀ t (Done st)
     going-met h e = (ends h true e, g .carried)
 
-    pub going-none : to ≤ at → met ≡ false → OutcomeIs src limit (readFile limit (bodyAs src entry from to) (stateOf src st₀ t₀)) t₀ t (MalformedAt entry 0)
+    pub going-none : to ≤ at → met ≡ false → OutcomeIs src limit (readFile limit (bodyAs entry from (part src from to)) (stateOf src st₀ t₀)) t₀ t (MalformedAt entry 0)
     going-none h e = (ends h false e, g .carried .left)
 
     -- ---- one line more, which ends at `end`
@@ -79,10 +79,10 @@ module _ (src : Text) (entry from to limit : ℕ) (t₀ : List ℕ) (st₀ : Sta
           ∙ sym (step ∙ ap (λ (a : Answer rState). a >>= (λ next. readLines limit entry (suc line) (end + 1) (lines (part src (end + 1) to)) next)) e)
 
       faulty : {r : Refusal} → readLine limit entry line at (part src at end) (stateOf src st t) ≡ refused r
-          → readFile limit (bodyAs src entry from to) (stateOf src st₀ t₀) ≡ refused r
+          → readFile limit (bodyAs entry from (part src from to)) (stateOf src st₀ t₀) ≡ refused r
       unfolding bodyAs
       faulty e =
-          readFile-refused limit (bodyAs src entry from to) (stateOf src st₀ t₀)
+          readFile-refused limit (bodyAs entry from (part src from to)) (stateOf src st₀ t₀)
           (step ∙ ap (λ (a : Answer rState). a >>= (λ next. readLines limit entry (suc line) (end + 1) (lines (part src (end + 1) to)) next)) e)
 
       size : length (part src at end) ≡ end - at
@@ -100,7 +100,7 @@ module _ (src : Text) (entry from to limit : ℕ) (t₀ : List ℕ) (st₀ : Sta
           }
 
       module _ (n : at < end) (t′ : List ℕ) where
-        pub going-next : (m : State) → LineIs src limit at end st t t′ (Next m) → Going src entry from to limit t₀ st₀ t′ (end + 1) m true (line + 1)
+        pub going-next : (m : State) → LineIs src limit at (part src at end) st t t′ (Next m) → Going src entry from to limit t₀ st₀ t′ (end + 1) m true (line + 1)
         going-next m d =
             let e : 0 < length (part src at end) = omega (arith, size) in
             record {
@@ -121,8 +121,8 @@ module _ (src : Text) (entry from to limit : ℕ) (t₀ : List ℕ) (st₀ : Sta
         left-same : t′ ≡ t → Left limit t₀ t′
         left-same e = subst (Left limit t₀) (sym e) (g .carried .left)
 
-        pub going-malformed : LineIs src limit at end st t t′ Malformed → OutcomeIs src limit (readFile limit (bodyAs src entry from to) (stateOf src st₀ t₀)) t₀ t′ (MalformedAt entry line)
+        pub going-malformed : LineIs src limit at (part src at end) st t t′ Malformed → OutcomeIs src limit (readFile limit (bodyAs entry from (part src from to)) (stateOf src st₀ t₀)) t₀ t′ (MalformedAt entry line)
         going-malformed d = (faulty (d .0 entry line), left-same (d .1))
 
-        pub going-many : LineIs src limit at end st t t′ TooMany → OutcomeIs src limit (readFile limit (bodyAs src entry from to) (stateOf src st₀ t₀)) t₀ t′ (TooManyAt entry line)
+        pub going-many : LineIs src limit at (part src at end) st t t′ TooMany → OutcomeIs src limit (readFile limit (bodyAs entry from (part src from to)) (stateOf src st₀ t₀)) t₀ t′ (TooManyAt entry line)
         going-many d = (faulty (d .0 entry line), left-same (d .1))

@@ -1,4 +1,5 @@
 -- The laws that the functions of this crate cite.
+pub mod Lying
 pub mod Putting
 pub mod Standing
 pub mod Doing
@@ -6,3 +7,4 @@ pub mod Going
 pub mod Nothing
 pub mod Zeroing
 pub mod Filing
+pub mod Within

@@ -2,11 +2,10 @@
 use mathlib.Core.Path.{_≡_, refl, ap, _∙_}
 use mathlib.Core.Option.{Option, none}
 use mathlib.Core.List.{List, []}
-use Prim.Native.Nat.{ℕ, _+_, _-_, _≤_, _<_}
+use Prim.Native.Nat.{ℕ, _+_, _≤_, _<_}
 use native.Mathlib.Omega.{arith}
 use lib.ListN.{length}
 use Rattle.facts.specs.Lists.{All}
-use Rattle.facts.specs.Parts.{part}
 use Rattle.facts.specs.Rows.{rowsOf}
 use Rattle.facts.proofs.Parts.{part-none}
 use Rattle.rules.specs.Json.Text.{Text}
@@ -18,15 +17,14 @@ use Rattle.table.specs.Table.{Room}
 use Rattle.live.specs.Live.{places}
 use Rattle.replay.specs.declared.Span.{Span}
 use Rattle.replay.specs.declared.State.{State}
-use Rattle.replay.specs.Views.{lineAt, metaDataIn, protocolIn, tableAt, protocolAt, orNoTable, stateOf, Inside, Carries}
+use Rattle.replay.specs.Views.{Lies, lineAt, metaDataIn, protocolIn, tableAt, protocolAt, orNoTable, stateOf, Inside, Carries}
 use Rattle.replay.specs.Answers.{Renewed}
-use Rattle.replay.proofs.Doing.{part-sized-to}
 
 -- ---- a line by its place, and no line
 
-pub action-here : (src : Text) (from to : ℕ) → from ≤ to → action (lineAt src (record { at = from; size = to - from })) ≡ action (part src from to)
+pub action-here : {src line : Text} {from : ℕ} → Lies src from line → action (lineAt src (record { at = from; size = length line })) ≡ action line
 unfolding lineAt
-action-here src from to h = ap action (part-sized-to src from to h)
+action-here z = ap action (z .same)
 
 action-nowhere : (src : Text) (sp : Span) → sp .size ≡ 0 → action (lineAt src sp) ≡ none
 unfolding lineAt

@@ -28,75 +28,75 @@ use Rattle.actions.specs.declared.line.Action.the-variants.{Add, Remove, Protoc
 use Rattle.replay.specs.declared.begin.Said.{Said}
 use Rattle.replay.specs.declared.begin.Saying.the-variants.{Next, Bad}
 use Rattle.replay.specs.declared.begin.Zero.the-variants.{Says, Malformed as NoZero}
-use Rattle.replay.specs.Views.{metaDataIn, protocolIn, tableAt, protocolAt, orNoTable, stateOf, saidOf, Stated}
+use Rattle.replay.specs.Views.{Lies, metaDataIn, protocolIn, tableAt, protocolAt, orNoTable, stateOf, saidOf, Stated}
 use Rattle.replay.specs.Answers.{bodyAs, says, SayingIs, ZeroIs, middle}
 use Rattle.rules.proofs.Applying.{zeroLines-empty}
 use Rattle.replay.proofs.Nothing.{nowhere, action-here, table-nowhere, protocol-nowhere, carries-none}
 
 -- ---- one line
 
-module _ (src : Text) (from to : ℕ) (x : Said) (w : Stated src x) (h : from < to) (l : to ≤ length src) where
-  told : (a : rAction) → action (part src from to) ≡ some a → says (part src from to) (saidOf src x) ≡ rSay a (saidOf src x)
+module _ (src line : Text) (from : ℕ) (x : Said) (w : Stated src x) (z : Lies src from line) (h : 0 < length line) where
+  told : (a : rAction) → action line ≡ some a → says line (saidOf src x) ≡ rSay a (saidOf src x)
   unfolding says
   told a q = rw q
 
-  pub said-add : {a : Added} → ActionIs (action (part src from to)) (part src from to) (Add a) → SayingIs src (says (part src from to) (saidOf src x)) Bad
+  pub said-add : {a : Added} → ActionIs (action line) line (Add a) → SayingIs src (says line (saidOf src x)) Bad
   unfolding rSay
   said-add q = told _ (q .1)
 
-  pub said-remove : {p : ℕ} → ActionIs (action (part src from to)) (part src from to) (Remove p) → SayingIs src (says (part src from to) (saidOf src x)) Bad
+  pub said-remove : {p : ℕ} → ActionIs (action line) line (Remove p) → SayingIs src (says line (saidOf src x)) Bad
   unfolding rSay
   said-remove q = told _ (q .0)
 
-  pub said-mergeskip : ActionIs (action (part src from to)) (part src from to) Mergeskip → SayingIs src (says (part src from to) (saidOf src x)) Bad
+  pub said-mergeskip : ActionIs (action line) line Mergeskip → SayingIs src (says line (saidOf src x)) Bad
   unfolding rSay
   said-mergeskip q = told _ q
 
-  pub said-malformed : ActionIs (action (part src from to)) (part src from to) Malformed → SayingIs src (says (part src from to) (saidOf src x)) Bad
+  pub said-malformed : ActionIs (action line) line Malformed → SayingIs src (says line (saidOf src x)) Bad
   unfolding says
   said-malformed q = rw q
 
-  pub said-other : ActionIs (action (part src from to)) (part src from to) Other → SayingIs src (says (part src from to) (saidOf src x)) (Next x)
+  pub said-other : ActionIs (action line) line Other → SayingIs src (says line (saidOf src x)) (Next x)
   unfolding rSay
   said-other q = (told _ q, w)
 
   -- a metaData where there is none yet, and another
 
-  module _ {at : ℕ} (q : ActionIs (action (part src from to)) (part src from to) (MetaData at)) where
-    table-here : tableAt src (record { at = from; size = to - from }) ≡ some (q .0)
+  module _ {at : ℕ} (q : ActionIs (action line) line (MetaData at)) where
+    table-here : tableAt src (record { at = from; size = length line }) ≡ some (q .0)
     unfolding tableAt metaDataIn
-    table-here = ap metaDataIn (action-here src from to (omega arith) ∙ q .1)
+    table-here = ap metaDataIn (action-here z ∙ q .1)
 
-    pub said-table : x .table .size ≡ 0 → SayingIs src (says (part src from to) (saidOf src x)) (Next (record { table = record { at = from; size = to - from }; protocol = x .protocol }))
+    pub said-table : x .table .size ≡ 0 → SayingIs src (says line (saidOf src x)) (Next (record { table = record { at = from; size = length line }; protocol = x .protocol }))
     unfolding rSay sayTable saidOf
     said-table e = (
       told (metaData (q .0)) (q .1)
           ∙ ap (λ (o : Option rMetaData). sayTable o (q .0) (saidOf src x)) (table-nowhere src (x .table) e)
           ∙ ap (λ (o : Option rMetaData). some (record { ofTable = o; ofProtocol = protocolAt src (x .protocol) })) (sym table-here),
-      record { metaData = omega arith; protocol = w .protocol; ofTable = λ n. (q .0, table-here); ofProtocol = w .ofProtocol },
+      record { metaData = z .within; protocol = w .protocol; ofTable = λ n. (q .0, table-here); ofProtocol = w .ofProtocol },
     )
 
-    pub said-table-twice : (x .table .size ≡ 0 → ⊥) → SayingIs src (says (part src from to) (saidOf src x)) Bad
+    pub said-table-twice : (x .table .size ≡ 0 → ⊥) → SayingIs src (says line (saidOf src x)) Bad
     unfolding rSay sayTable saidOf
     said-table-twice n =
         told (metaData (q .0)) (q .1)
         ∙ ap (λ (o : Option rMetaData). sayTable o (q .0) (saidOf src x)) (w .ofTable (omega arith) .1)
 
-  module _ {r : Stating} (q : ActionIs (action (part src from to)) (part src from to) (Protocol r)) where
-    protocol-here : protocolAt src (record { at = from; size = to - from }) ≡ some (q .0)
+  module _ {r : Stating} (q : ActionIs (action line) line (Protocol r)) where
+    protocol-here : protocolAt src (record { at = from; size = length line }) ≡ some (q .0)
     unfolding protocolAt protocolIn
-    protocol-here = ap protocolIn (action-here src from to (omega arith) ∙ q .1)
+    protocol-here = ap protocolIn (action-here z ∙ q .1)
 
-    pub said-protocol : x .protocol .size ≡ 0 → SayingIs src (says (part src from to) (saidOf src x)) (Next (record { table = x .table; protocol = record { at = from; size = to - from } }))
+    pub said-protocol : x .protocol .size ≡ 0 → SayingIs src (says line (saidOf src x)) (Next (record { table = x .table; protocol = record { at = from; size = length line } }))
     unfolding rSay sayProtocol saidOf
     said-protocol e = (
       told (protocol (q .0)) (q .1)
           ∙ ap (λ (o : Option rProtocol). sayProtocol o (q .0) (saidOf src x)) (protocol-nowhere src (x .protocol) e)
           ∙ ap (λ (o : Option rProtocol). some (record { ofTable = tableAt src (x .table); ofProtocol = o })) (sym protocol-here),
-      record { metaData = w .metaData; protocol = omega arith; ofTable = w .ofTable; ofProtocol = λ n. (q .0, protocol-here) },
+      record { metaData = w .metaData; protocol = z .within; ofTable = w .ofTable; ofProtocol = λ n. (q .0, protocol-here) },
     )
 
-    pub said-protocol-twice : (x .protocol .size ≡ 0 → ⊥) → SayingIs src (says (part src from to) (saidOf src x)) Bad
+    pub said-protocol-twice : (x .protocol .size ≡ 0 → ⊥) → SayingIs src (says line (saidOf src x)) Bad
     unfolding rSay sayProtocol saidOf
     said-protocol-twice n =
         told (protocol (q .0)) (q .1)
@@ -140,13 +140,13 @@ module _ (src : Text) (entry from to : ℕ) where
   module _ (at : ℕ) (x : Said) (line : ℕ) (g : Telling src entry from to at x line) where
     -- ---- behind the last line
 
-    ends : to ≤ at → readZero (bodyAs src entry from to) ≡ ending entry (saidOf src x)
+    ends : to ≤ at → readZero (bodyAs entry from (part src from to)) ≡ ending entry (saidOf src x)
     unfolding readZero bodyAs zeroLines
     ends h =
         ap (λ (a : Answer rSaid). a >>= ending entry)
         (sym (g .reads) ∙ ap (λ (ls : List Bytes). zeroLines entry line ls (saidOf src x)) (lines-part-none src at to h))
 
-    pub telling-says : to ≤ at → (x .table .size ≡ 0 → ⊥) → ZeroIs src (readZero (bodyAs src entry from to)) (Says (record { table = x .table; protocol = x .protocol; base = middle; live = 0 }))
+    pub telling-says : to ≤ at → (x .table .size ≡ 0 → ⊥) → ZeroIs src (readZero (bodyAs entry from (part src from to))) (Says (record { table = x .table; protocol = x .protocol; base = middle; live = 0 }))
     unfolding saidOf stateOf rowsOf orNoTable
     telling-says h n =
         let (m, q) = g .stated .ofTable (omega arith) in (
@@ -158,7 +158,7 @@ module _ (src : Text) (entry from to : ℕ) where
           λ limit t short fits room. carries-none (record { table = x .table; protocol = x .protocol; base = middle; live = 0 }) refl short fits room (g .stated .metaData) (g .stated .protocol),
         )
 
-    pub telling-none : to ≤ at → x .table .size ≡ 0 → ZeroIs src (readZero (bodyAs src entry from to)) (NoZero entry 0)
+    pub telling-none : to ≤ at → x .table .size ≡ 0 → ZeroIs src (readZero (bodyAs entry from (part src from to))) (NoZero entry 0)
     unfolding saidOf
     telling-none h e =
         ends h ∙ ap (λ (o : Option rMetaData). ending entry (record { ofTable = o; ofProtocol = protocolAt src (x .protocol) })) (table-nowhere src (x .table) e)
@@ -192,7 +192,7 @@ module _ (src : Text) (entry from to : ℕ) where
           reads = next-number (saidOf src z) ∙ sym (step ∙ zeroLines-says entry line (part src at end) (lines (part src (end + 1) to)) (saidOf src x) (some (saidOf src z)) (omega (arith, size)) (d .0));
         }
 
-        pub telling-bad : SayingIs src (says (part src at end) (saidOf src x)) Bad → ZeroIs src (readZero (bodyAs src entry from to)) (NoZero entry line)
+        pub telling-bad : SayingIs src (says (part src at end) (saidOf src x)) Bad → ZeroIs src (readZero (bodyAs entry from (part src from to))) (NoZero entry line)
         unfolding readZero bodyAs
         telling-bad d =
             ap (λ (a : Answer rSaid). a >>= ending entry)

@@ -4,7 +4,6 @@ use mathlib.Core.Option.{Option, none, some}
 use mathlib.Core.List.{List, []}
 use Prim.Native.Nat.{ℕ, _+_, _≤_, _<_}
 use lib.ListN.{length}
-use Rattle.facts.specs.Parts.{part}
 use Rattle.rules.specs.Bytes.{_>>=_}
 use Rattle.rules.specs.Bundle.{File}
 use Rattle.rules.specs.Json.Text.{Text}
@@ -47,20 +46,18 @@ abbrev pub PutIs : Text → Cells → (base n limit : ℕ) → List ℕ → List
 PutIs src c base n limit t t′ (Rows r) = Became src (put (key src) c (rows n (behind base t))) limit t r t′
 PutIs src c base n limit t t′ Full = (length (put (key src) c (rows n (behind base t))) ≡ limit + 1) × (t′ ≡ t)
 
--- of the line from `from` to `to`, whatever its entry and number
-abbrev pub LineIs : Text → (limit from to : ℕ) → State → List ℕ → List ℕ → Applied → Type 0
-LineIs src limit from to st t t′ (Next m) =
-    ((e k : ℕ) → readLine limit e k from (part src from to) (stateOf src st t) ≡ accepted (stateOf src m t′)) × Carried src limit t m t′
-LineIs src limit from to st t t′ Malformed =
-    ((e k : ℕ) → readLine limit e k from (part src from to) (stateOf src st t) ≡ refused (malformed e k)) × (t′ ≡ t)
-LineIs src limit from to st t t′ TooMany =
-    ((e k : ℕ) → readLine limit e k from (part src from to) (stateOf src st t) ≡ refused (tooManyLive e k)) × (t′ ≡ t)
+-- of a line, which stands in src at `from`, whatever its entry and number
+abbrev pub LineIs : Text → (limit from : ℕ) → (line : Text) → State → List ℕ → List ℕ → Applied → Type 0
+LineIs src limit from line st t t′ (Next m) =
+    ((e k : ℕ) → readLine limit e k from line (stateOf src st t) ≡ accepted (stateOf src m t′)) × Carried src limit t m t′
+LineIs src limit from line st t t′ Malformed = ((e k : ℕ) → readLine limit e k from line (stateOf src st t) ≡ refused (malformed e k)) × (t′ ≡ t)
+LineIs src limit from line st t t′ TooMany = ((e k : ℕ) → readLine limit e k from line (stateOf src st t) ≡ refused (tooManyLive e k)) × (t′ ≡ t)
 
 -- ---- one file
 
--- the bytes from `from` to `to` as the body of entry number e; the rules look at no name and no time
-unfoldable pub bodyAs : Text → (entry from to : ℕ) → File
-bodyAs src e from to = record { entry = e; name = []; start = from; time = 0; body = part src from to }
+-- a body, which stands at `from`, as that of entry number e; the rules look at no name and no time
+unfoldable pub bodyAs : (entry from : ℕ) → Text → File
+bodyAs e from body = record { entry = e; name = []; start = from; time = 0; body = body }
 
 -- of a file, which gives o: the state, or the paper's number with entry and line
 abbrev pub OutcomeIs : Text → (limit : ℕ) → Answer rState → List ℕ → List ℕ → Outcome → Type 0

@@ -19,6 +19,13 @@ use Rattle.replay.specs.declared.Span.{Span}
 use Rattle.replay.specs.declared.State.{State}
 use Rattle.replay.specs.declared.begin.Said.{Said}
 
+-- ---- bodies and lines are parts of the bundle
+
+-- the bytes p stand in src at place `from`
+pub record Lies (src : Text) (from : ℕ) (p : Text) : Type 0 where
+  pub within : from + length p ≤ length src
+  pub same : part src from (from + length p) ≡ p
+
 -- ---- a line by its place
 
 unfoldable pub lineAt : Text → Span → Text

@@ -4,10 +4,9 @@ use crate::State;
 use actions::Action;
 ghost use Prim.Native.Nat.{_≤_, _<_};
 ghost use lib.ListN.{length};
-ghost use Rattle.facts.specs.Parts.{part};
 ghost use Rattle.rules.specs.History.{readZero};
 ghost use Rattle.bundle.specs.Files.{filesIn, fileIn};
-ghost use Rattle.replay.specs.Views.{saidOf, Stated};
+ghost use Rattle.replay.specs.Views.{Lies, saidOf, Stated};
 ghost use Rattle.replay.specs.Answers.{bodyAs, says, SayingIs, ZeroIs, Renewed};
 
 // Rows are put in behind so many free ones at first, so that there is room on both sides.
@@ -25,18 +24,18 @@ enum Saying {
     Bad,
 }
 
-// Adds the line from `from` to `to`, which is not empty, to what version 0 said.
-fn say(src: &[u8], from: usize, to: usize, said: Said) -> Saying
-    requires { ⌜ Stated (now src) said × (from < to) × (to ≤ length (now src)) ⌝ }
-    ensures { λ r. ⌜ SayingIs (now (src .entry)) (says (part (now (src .entry)) from to) (saidOf (now (src .entry)) said)) r ⌝ }
+// Adds a line, which is not empty and stands in the bundle at `from`, to what version 0 said. The bundle itself is only spoken of.
+fn say(src: &[u8], line: &[u8], from: usize, said: Said) -> Saying
+    requires { ⌜ Stated (now src) said × Lies (now src) from (now line) × (0 < length (now line)) ⌝ }
+    ensures { λ r. ⌜ SayingIs (now (src .entry)) (says (now (line .entry)) (saidOf (now (src .entry)) said)) r ⌝ }
 {
     let this = Span {
         at: from,
-        size: to - from,
+        size: line.len(),
     };
     let table = said.table;
     let protocol = said.protocol;
-    match actions::classify(&src[from..to]) {
+    match actions::classify(line) {
         Action::Add(_) => Saying::Bad,
         Action::Remove(_) => Saying::Bad,
         Action::Protocol(_) => {
@@ -69,22 +68,22 @@ pub enum Zero {
     Malformed(usize, usize),
 }
 
-// Reads the lines from `from` to `to` as those of version 0, entry number `entry`.
-fn zero_lines(src: &[u8], entry: usize, from: usize, to: usize) -> Zero
-    requires { ⌜ (from ≤ to) × (to ≤ length (now src)) ⌝ }
-    ensures { λ r. ⌜ ZeroIs (now (src .entry)) (readZero (bodyAs (now (src .entry)) entry from to)) r ⌝ }
+// Reads the lines of the body of version 0, entry number `entry`, which stands in the bundle at `from`.
+fn zero_lines(src: &[u8], body: &[u8], from: usize, entry: usize) -> Zero
+    requires { ⌜ Lies (now src) from (now body) ⌝ }
+    ensures { λ r. ⌜ ZeroIs (now (src .entry)) (readZero (bodyAs entry from (now (body .entry)))) r ⌝ }
 {
-    let mut at = from;
+    let mut at = 0;
     let mut said = Said {
         table: Span { at: 0, size: 0 },
         protocol: Span { at: 0, size: 0 },
     };
     let mut line = 1;
-    while at < to {
-        let end = lines::line_end(src, at, to);
+    while at < body.len() {
+        let end = lines::line_end(body, at, body.len());
         let next = end + 1;
         if at < end {
-            match say(src, at, end, said) {
+            match say(src, &body[at..end], from + at, said) {
                 Saying::Next(after) => {
                     said = after;
                     at = next;
@@ -118,7 +117,7 @@ pub fn read_zero(src: &[u8], k: usize) -> Zero
     let e = bundle::entry_at(src, k);
     let from = e.start;
     let to = from + e.size;
-    zero_lines(src, k, from, to)
+    zero_lines(src, &src[from..to], from, k)
 }
 
 // What a checkpoint's lines are applied to where version 0 gave z: its metaData, no protocol and nothing live.

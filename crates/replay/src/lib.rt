@@ -13,7 +13,6 @@ use table::Cells;
 ghost use mathlib.Core.Path.{_≡_};
 ghost use Prim.Native.Nat.{_+_, _≤_, _<_};
 ghost use lib.ListN.{length};
-ghost use Rattle.facts.specs.Parts.{part};
 ghost use Rattle.rules.specs.Actions.{action};
 ghost use Rattle.rules.specs.History.{readFile};
 ghost use Rattle.strings.specs.Decoded.{WellSpelled};
@@ -22,7 +21,7 @@ ghost use Rattle.table.specs.Table.{Room, behind};
 ghost use Rattle.live.specs.Live.{pathAt, Table};
 ghost use Rattle.actions.specs.Line.{ActionIs};
 ghost use Rattle.actions.specs.declared.line.Action.the-variants.{Add};
-ghost use Rattle.replay.specs.Views.{stateOf, Carries};
+ghost use Rattle.replay.specs.Views.{Lies, stateOf, Carries};
 ghost use Rattle.replay.specs.Answers.{bodyAs, PutIs, LineIs, OutcomeIs};
 
 // A line of the bundle; of size 0 where there is none.
@@ -76,24 +75,24 @@ pub enum Applied {
     TooMany,
 }
 
-// Applies the line from `from` to `to`, which is the add a.
+// Applies a line, which stands in the bundle at `from` and is the add a.
 fn apply_add(
     src: &[u8],
+    line: &[u8],
     from: usize,
-    to: usize,
     a: Added,
     st: State,
     t: &mut [u64],
     limit: usize,
 ) -> Applied
-    requires { ⌜ Carries (now src) limit st (now t) × (from < to) × (to ≤ length (now src)) ⌝ }
-    requires { ⌜ ActionIs (action (part (now src) from to)) (part (now src) from to) (Add a) ⌝ }
-    ensures { λ r. ⌜ LineIs (now (src .entry)) limit from to st (now (t .entry)) (now (t .exit)) r ⌝ }
+    requires { ⌜ Carries (now src) limit st (now t) × Lies (now src) from (now line) × (0 < length (now line)) ⌝ }
+    requires { ⌜ ActionIs (action (now line)) (now line) (Add a) ⌝ }
+    ensures { λ r. ⌜ LineIs (now (src .entry)) limit from (now (line .entry)) st (now (t .entry)) (now (t .exit)) r ⌝ }
 {
     let head = live::pack(from, from + a.path);
     let c = Cells {
         head,
-        len: (to - from) as u64,
+        len: line.len() as u64,
         size: a.size,
         time: a.time,
     };
@@ -112,17 +111,24 @@ fn apply_add(
     }
 }
 
-// Applies the line from `from` to `to`, which is not empty.
-pub fn apply(src: &[u8], from: usize, to: usize, st: State, t: &mut [u64], limit: usize) -> Applied
-    requires { ⌜ Carries (now src) limit st (now t) × (from < to) × (to ≤ length (now src)) ⌝ }
-    ensures { λ r. ⌜ LineIs (now (src .entry)) limit from to st (now (t .entry)) (now (t .exit)) r ⌝ }
+// Applies a line, which is not empty and stands in the bundle at `from`.
+pub fn apply(
+    src: &[u8],
+    line: &[u8],
+    from: usize,
+    st: State,
+    t: &mut [u64],
+    limit: usize,
+) -> Applied
+    requires { ⌜ Carries (now src) limit st (now t) × Lies (now src) from (now line) × (0 < length (now line)) ⌝ }
+    ensures { λ r. ⌜ LineIs (now (src .entry)) limit from (now (line .entry)) st (now (t .entry)) (now (t .exit)) r ⌝ }
 {
     let base = st.base;
     let n = st.live;
     let table = st.table;
     let protocol = st.protocol;
-    match actions::classify(&src[from..to]) {
-        Action::Add(a) => apply_add(src, from, to, a, st, t, limit),
+    match actions::classify(line) {
+        Action::Add(a) => apply_add(src, line, from, a, st, t, limit),
         Action::Remove(p) => {
             let r = live::take_out(src, t, base, n, limit, from + p);
             Applied::Next(State {
@@ -135,7 +141,7 @@ pub fn apply(src: &[u8], from: usize, to: usize, st: State, t: &mut [u64], limit
         Action::Protocol(_) => {
             let here = Span {
                 at: from,
-                size: to - from,
+                size: line.len(),
             };
             Applied::Next(State {
                 table,
@@ -161,28 +167,29 @@ pub enum Outcome {
     TooMany(usize, usize),
 }
 
-// Reads the lines from `from` to `to` as those of entry number `entry`. After a fault the first `limit` rows of the table may hold anything.
+// Reads the lines of the body of entry number `entry`, which stands in the bundle at `from`. After a fault the first `limit` rows of
+// the table may hold anything.
 pub fn read_lines(
     src: &[u8],
-    entry: usize,
+    body: &[u8],
     from: usize,
-    to: usize,
+    entry: usize,
     st: State,
     t: &mut [u64],
     limit: usize,
 ) -> Outcome
-    requires { ⌜ Carries (now src) limit st (now t) × (from ≤ to) × (to ≤ length (now src)) ⌝ }
-    ensures { λ r. ⌜ OutcomeIs (now (src .entry)) limit (readFile limit (bodyAs (now (src .entry)) entry from to) (stateOf (now (src .entry)) st (now (t .entry)))) (now (t .entry)) (now (t .exit)) r ⌝ }
+    requires { ⌜ Carries (now src) limit st (now t) × Lies (now src) from (now body) ⌝ }
+    ensures { λ r. ⌜ OutcomeIs (now (src .entry)) limit (readFile limit (bodyAs entry from (now (body .entry))) (stateOf (now (src .entry)) st (now (t .entry)))) (now (t .entry)) (now (t .exit)) r ⌝ }
 {
-    let mut at = from;
+    let mut at = 0;
     let mut state = st;
     let mut met = false;
     let mut line = 1;
-    while at < to {
-        let end = lines::line_end(src, at, to);
+    while at < body.len() {
+        let end = lines::line_end(body, at, body.len());
         let next = end + 1;
         if at < end {
-            match apply(src, at, end, state, t, limit) {
+            match apply(src, &body[at..end], from + at, state, t, limit) {
                 Applied::Next(after) => {
                     state = after;
                     met = true;
@@ -211,5 +218,5 @@ pub fn read_file(src: &[u8], k: usize, st: State, t: &mut [u64], limit: usize) -
     let e = bundle::entry_at(src, k);
     let from = e.start;
     let to = from + e.size;
-    read_lines(src, k, from, to, st, t, limit)
+    read_lines(src, &src[from..to], from, k, st, t, limit)
 }

@@ -27,6 +27,11 @@ module _ {B : Type 0} {Same : B → B → Type 0} where
   same-require r s e true x y h = h
   same-require r s e false x y h = both-refused e
 
+-- ---- what is accepted
+
+pub accepted-same : {A : Type 0} {a b : A} → accepted a ≡ accepted b → a ≡ b
+accepted-same e = cc
+
 -- ---- what is refused
 
 -- 0 where accepted, and else the refusal's number

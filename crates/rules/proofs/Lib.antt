@@ -22,6 +22,7 @@ pub mod Moving
 pub mod SoleNames
 pub mod Bundles
 pub mod Readings
+pub mod Telling
 pub mod Suffixes
 pub mod Adds
 pub mod MemberPlaces

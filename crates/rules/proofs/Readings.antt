@@ -1,4 +1,4 @@
--- What reading comes to, once the room, the query, the bundle and its names are passed.
+-- What reading comes to, once the room, the query, the bundle and its names are passed; rooms that are long enough are all one.
 use mathlib.Core.Path.{_≡_}
 use mathlib.Core.Bool.{false}
 use mathlib.Core.Option.{some}
@@ -17,3 +17,7 @@ pub reading-is : (room : ℕ) (s q : Bytes) (asked : Asked) (cs : List Condition
     → reading room s q asked ≡ listingAt cs (logOf fs) (versionAsked asked (logOf fs))
 unfolding reading
 reading-is room s q asked cs fs r eq es small = rw (le-leb rowsRoom room r, eq, es, small)
+
+pub reading-room-same : (a b : ℕ) (s q : Bytes) (asked : Asked) → rowsRoom ≤ a → rowsRoom ≤ b → reading a s q asked ≡ reading b s q asked
+unfolding reading
+reading-room-same a b s q asked h k = rw (le-leb rowsRoom a h, le-leb rowsRoom b k)

@@ -1,10 +1,11 @@
 -- What a lent room holds at the end, as code leaves it: numbers in front, zeros written behind them, the rest as it was.
 -- `filled` and `zeroed` stay shut in what is said here, so that a room's thousands of zeros are never written out.
-use mathlib.Core.Path.{_≡_, refl}
+use mathlib.Core.Path.{_≡_, refl, sym, ap, _∙_}
 use mathlib.Core.List.{List, [], _∷_}
 use Prim.Native.Nat.{ℕ, _*_, _≤_}
 use native.Mathlib.Omega.{arith}
 use lib.ListN.{length, take, drop, length-append, length-drop, length-replicate}
+use lib.Seq.{take-at}
 use borrow.Author.Tests.{eq-eqb, ne-eqb}
 use Rattle.facts.specs.Rows.{flat, rowsOf, Layout}
 use Rattle.facts.specs.Moves.{zeroed}
@@ -57,3 +58,8 @@ module _ {A : Type 0} (n : ℕ) (numbers : A → List ℕ) (room : Room) where
   pub leaves-zeros : (r : Refusal) → (r .number ≡ 1 → ⊥) → leaves n numbers (refused r) room ≡ filled n [] room
   unfolding leaves
   leaves-zeros r h = rw (leaves, ne-eqb (r .number) 1 h)
+
+  -- the numbers of an answer stand in the front of the room
+  pub leaves-front : (a : A) (after : Room) (k : ℕ) → after ≡ leaves n numbers (accepted a) room → length (numbers a) ≡ k → numbers a ≡ take k after
+  unfolding leaves filled
+  leaves-front a after k e h = sym (ap (take k) e ∙ take-at (numbers a) _ k h)

@@ -1,6 +1,8 @@
 -- Sameness of facts, rows, protocols, states, listings and answers is reflexive, symmetric and transitive.
-use mathlib.Core.Path.{refl, sym, _∙_}
+use mathlib.Core.Path.{_≡_, refl, sym, _∙_, ap}
 use mathlib.Core.List.{List, [], _∷_}
+use Prim.Native.Nat.{suc}
+use lib.ListN.{length}
 use Rattle.rules.specs.Actions.{Facts, Protocol}
 use Rattle.rules.specs.Live.{Row}
 use Rattle.rules.specs.History.{State}
@@ -45,6 +47,10 @@ pub same-rows-trans : {rs ss ts : List Row} → SameRows rs ss → SameRows ss t
 same-rows-trans no-rows no-rows = no-rows
 same-rows-trans (row f s) (row g t) = row (same-facts-trans f g) (same-rows-trans s t)
 
+pub length-same-rows : {rs ss : List Row} → SameRows rs ss → length rs ≡ length ss
+length-same-rows no-rows = refl
+length-same-rows (row f s) = ap suc (length-same-rows s)
+
 -- ---- protocols
 
 pub same-protocol-refl : (p : Protocol) → SameProtocol p p
@@ -81,6 +87,15 @@ same-state-trans h k = record { inForce = same-protocol-trans (h .inForce) (k .i
 
 pub same-listing-refl : (l : Listing) → SameListing l l
 same-listing-refl l = record { version = refl; table = refl; inForce = same-protocol-refl (l .inForce); canWrite = refl; rows = same-rows-refl (l .rows) }
+
+pub same-listing-sym : {l m : Listing} → SameListing l m → SameListing m l
+same-listing-sym s = record {
+  version = sym (s .version);
+  table = sym (s .table);
+  inForce = same-protocol-sym (s .inForce);
+  canWrite = sym (s .canWrite);
+  rows = same-rows-sym (s .rows);
+}
 
 pub same-listing-trans : {l m n : Listing} → SameListing l m → SameListing m n → SameListing l n
 same-listing-trans s t = record {

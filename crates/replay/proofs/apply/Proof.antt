@@ -1,29 +1,11 @@
 -- `apply` does what the line says that `classify` finds.
-use denote.Ref.{now}
-use mathlib.Core.Path.{_≡_, subst}
-use Rattle.facts.specs.Parts.{part}
-use Rattle.rules.specs.Actions.{action}
-use Rattle.actions.specs.declared.line.Action.{Action}
+use mathlib.Core.Path.{subst}
 use Rattle.actions.specs.Line.{ActionIs}
 use Rattle.replay.proofs.Doing.{remove-fits, remove-placed, did-remove, did-protocol, did-metaData, did-mergeskip, did-other, did-malformed}
 use native.Mathlib.Omega.{arith}
 use borrow.Author.Needs.{needs}
 use Rattle.replay.proofs.apply.Statement.{statement}
 use Rattle.replay.proofs.apply.Tie as tie
-
-said : (c : tie.After-classify) (r : Action) → c .classify .result ≡ r → let a = c .before .before .before .before .before .before .args in
-    ActionIs (action (part (now (a .src)) (a .from) (a .to))) (part (now (a .src)) (a .from) (a .to)) r
-unfolding part
-said c r e = subst (ActionIs _ _) e (c .classify .ensures)
-
-sub-classify : tie.Need-sub-classify
-sub-classify c = search needs
-
-part-classify-start : tie.Need-part-classify-start
-part-classify-start c = search needs
-
-part-classify-end : tie.Need-part-classify-end
-part-classify-end c = search needs
 
 classify-requires : tie.Need-classify-requires
 classify-requires c κs = search needs
@@ -33,27 +15,27 @@ enum-known-a c = search needs
 
 apply-add-requires : tie.Need-apply-add-requires
 apply-add-requires c κs =
-    let s = c .before .before .before .before .before .before .before .before .before .before in
-    ((s .pre .0, s .pre .1, s .pre .2), said (c .before .before .before .before) _ (c .before .before .a .given .1))
+    let p = c .before .before .before .before .before .before .before .before .before .before .pre in
+    ((p .0, p .1, p .2), subst (ActionIs _ _) (c .before .before .a .given .1) (c .before .before .before .before .classify .ensures))
 
 enum-known-p : tie.Need-enum-known-p
 enum-known-p c = search needs
 
 add-take-out : tie.Need-add-take-out
 add-take-out c =
-    let s = c .before .before .before .before .before .before .before .before .before .before in
-    omega (arith, remove-fits _ _ _ _ _ _ (s .pre .0) (s .pre .1) (s .pre .2) (said (c .before .before .before .before) _ (c .before .before .p .given .1)), s .pre .2)
+    let p = c .before .before .before .before .before .before .before .before .before .before .pre in
+    let q = subst (ActionIs _ _) (c .before .before .p .given .1) (c .before .before .before .before .classify .ensures) in
+    omega (arith, remove-fits _ _ _ _ _ _ (p .0) (p .1) (p .2) q, p .0 .short)
 
 take-out-requires : tie.Need-take-out-requires
 take-out-requires c κs =
-    let s = c .before .before .before .before .before .before .before .before .before .before in
-    (s .pre .0 .table, remove-placed _ _ _ _ _ _ (s .pre .0) (s .pre .1) (s .pre .2) (said (c .before .before .before .before) _ (c .before .before .p .given .1)) .spelled, s .pre .0 .few, s .pre .0 .room)
+    let p = c .before .before .before .before .before .before .before .before .before .before .pre in
+    let q = subst (ActionIs _ _) (c .before .before .p .given .1) (c .before .before .before .before .classify .ensures) in
+    let w = p .0 in
+    (w .table, remove-placed _ _ _ _ _ _ w (p .1) (p .2) q .spelled, w .few, w .room)
 
 enum-told : tie.Need-enum-told
 enum-told c = search needs
-
-sub-t27 : tie.Need-sub-t27
-sub-t27 c = search needs
 
 enum-told-2 : tie.Need-enum-told-2
 enum-told-2 c = search needs
@@ -78,41 +60,38 @@ same-length-2 c = search needs
 
 returns-2 : tie.Need-returns-2
 returns-2 c =
-    let s = c .before .before .before .before .before .before .before .before .before .before .before .before .before in
-    did-remove _ _ _ _ _ _ (s .pre .0) (s .pre .1) (s .pre .2) _ (said (c .before .before .before .before .before .before .before) _ (c .before .before .before .before .before .p .given .1)) (c .before .before .take-out .ensures)
+    let p = c .before .before .before .before .before .before .before .before .before .before .before .before .before .pre in
+    did-remove _ _ _ _ _ _ (p .0) (p .1) (p .2) _ (subst (ActionIs _ _) (c .before .before .before .before .before .p .given .1) (c .before .before .before .before .before .before .before .classify .ensures)) (c .before .before .take-out .ensures)
 
 returns-3 : tie.Need-returns-3
 returns-3 c =
-    let s = c .before .before .before .before .before .before .before .before in
-    did-protocol _ _ _ _ _ _ (s .pre .0) (s .pre .1) (s .pre .2) (said (c .before .before) _ (c .enum-told .given .1))
+    let p = c .before .before .before .before .before .before .before .before .pre in
+    did-protocol _ _ _ _ _ _ (p .0) (p .1) (p .2) (subst (ActionIs _ _) (c .enum-told .given .1) (c .before .before .classify .ensures))
 
 returns-4 : tie.Need-returns-4
 returns-4 c =
-    let s = c .before .before .before .before .before .before .before .before in
-    did-metaData _ _ _ _ _ _ (s .pre .0) (s .pre .1) (s .pre .2) (said (c .before .before) _ (c .enum-told2 .given .1))
+    let p = c .before .before .before .before .before .before .before .before .pre in
+    did-metaData _ _ _ _ _ _ (p .0) (p .1) (p .2) (subst (ActionIs _ _) (c .enum-told2 .given .1) (c .before .before .classify .ensures))
 
 returns-5 : tie.Need-returns-5
 returns-5 c =
-    let s = c .before .before .before .before .before .before .before .before in
-    did-mergeskip _ _ _ _ _ _ (s .pre .0) (s .pre .1) (s .pre .2) (said (c .before .before) _ (c .enum-told3 .given .1))
+    let p = c .before .before .before .before .before .before .before .before .pre in
+    did-mergeskip _ _ _ _ _ _ (p .0) (p .1) (p .2) (subst (ActionIs _ _) (c .enum-told3 .given .1) (c .before .before .classify .ensures))
 
 returns-6 : tie.Need-returns-6
 returns-6 c =
-    let s = c .before .before .before .before .before .before .before .before in
-    did-other _ _ _ _ _ _ (s .pre .0) (s .pre .1) (s .pre .2) (said (c .before .before) _ (c .enum-told4 .given .1))
+    let p = c .before .before .before .before .before .before .before .before .pre in
+    did-other _ _ _ _ _ _ (p .0) (p .1) (p .2) (subst (ActionIs _ _) (c .enum-told4 .given .1) (c .before .before .classify .ensures))
 
 returns-7 : tie.Need-returns-7
 returns-7 c =
-    let s = c .before .before .before .before .before .before .before .before in
-    did-malformed _ _ _ _ _ _ (s .pre .0) (s .pre .1) (s .pre .2) (said (c .before .before) _ (c .enum-told5 .given .1))
+    let p = c .before .before .before .before .before .before .before .before .pre in
+    did-malformed _ _ _ _ _ _ (p .0) (p .1) (p .2) (subst (ActionIs _ _) (c .enum-told5 .given .1) (c .before .before .classify .ensures))
 
 pub apply-spec : {M : Type 1} → statement M
 apply-spec =
     tie.close
     (tie.spec
-    sub-classify
-    part-classify-start
-    part-classify-end
     classify-requires
     enum-known-a
     apply-add-requires
@@ -120,7 +99,6 @@ apply-spec =
     add-take-out
     take-out-requires
     enum-told
-    sub-t27
     enum-told-2
     enum-told-3
     enum-told-4

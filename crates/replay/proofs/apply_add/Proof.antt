@@ -9,23 +9,20 @@ use Rattle.replay.proofs.apply_add.Tie as tie
 
 add-pack : tie.Need-add-pack
 add-pack c =
-    let s = c .before .before .before in
-    omega (arith, add-fits _ _ _ _ _ _ (s .pre .0 .0) (s .pre .0 .1) (s .pre .0 .2) (s .pre .1), s .pre .0 .2)
+    let (p, q) = c .before .before .before .before .pre in
+    omega (arith, add-fits _ _ _ _ _ _ (p .0) (p .1) (p .2) q, p .0 .short)
 
 pack-requires : tie.Need-pack-requires
 pack-requires c κs =
-    let s = c .before .before .before in
-    (omega (arith, s .pre .0 .1, s .pre .0 .2, s .pre .0 .0 .short), omega (arith, add-fits _ _ _ _ _ _ (s .pre .0 .0) (s .pre .0 .1) (s .pre .0 .2) (s .pre .1), s .pre .0 .2, s .pre .0 .0 .short))
-
-sub-t15 : tie.Need-sub-t15
-sub-t15 c = search needs
+    let (p, q) = c .before .before .before .before .pre in
+    (omega (arith, p .1 .within, p .0 .short), omega (arith, add-fits _ _ _ _ _ _ (p .0) (p .1) (p .2) q, p .0 .short))
 
 put-row-requires : tie.Need-put-row-requires
 put-row-requires c κs =
-    let s = c .before .before .before .before .before .before .before in
-    let w = s .pre .0 .0 in
+    let (p, q) = c .before .before .before .before .before .before .before .before .pre in
+    let w = p .0 in
     let e = c .before .before .before .pack .ensures in
-    (w .table, rw (e .path) (add-placed _ _ _ _ _ _ w (s .pre .0 .1) (s .pre .0 .2) (s .pre .1) .spelled), w .few, w .room)
+    (w .table, rw (e .path) (add-placed _ _ _ _ _ _ w (p .1) (p .2) q .spelled), w .few, w .room)
 
 enum-known-r : tie.Need-enum-known-r
 enum-known-r c = search needs
@@ -38,16 +35,18 @@ same-length c = search needs
 
 returns : tie.Need-returns
 returns c =
-    let s = c .before .before .before .before .before .before .before .before .before .before .before .before .before in
-    did-add _ _ _ _ _ _ (s .pre .0 .0) (s .pre .0 .1) (s .pre .0 .2) (s .pre .1) _ (c .before .before .before .before .before .before .before .before .before .pack .ensures) _ (subst (PutIs _ _ _ _ _ _ _) (c .before .r .given .1) (c .before .before .before .before .before .put-row .ensures))
+    let (p, q) = c .before .before .before .before .before .before .before .before .before .before .before .before .before .before .pre in
+    did-add _ _ _ _ _ _ (p .0) (p .1) (p .2) q _ (c .before .before .before .before .before .before .before .before .before .pack .ensures) _
+    (subst (PutIs _ _ _ _ _ _ _) (c .before .r .given .1) (c .before .before .before .before .before .put-row .ensures))
 
 same-length-2 : tie.Need-same-length-2
 same-length-2 c = search needs
 
 returns-2 : tie.Need-returns-2
 returns-2 c =
-    let s = c .before .before .before .before .before .before .before .before .before .before .before .before in
-    did-full _ _ _ _ _ _ (s .pre .0 .0) (s .pre .0 .1) (s .pre .0 .2) (s .pre .1) _ (c .before .before .before .before .before .before .before .before .pack .ensures) (subst (PutIs _ _ _ _ _ _ _) (c .enum-told .given .1) (c .before .before .before .before .put-row .ensures))
+    let (p, q) = c .before .before .before .before .before .before .before .before .before .before .before .before .before .pre in
+    did-full _ _ _ _ _ _ (p .0) (p .1) (p .2) q _ (c .before .before .before .before .before .before .before .before .pack .ensures)
+    (subst (PutIs _ _ _ _ _ _ _) (c .enum-told .given .1) (c .before .before .before .before .put-row .ensures))
 
 pub apply-add-spec : {M : Type 1} → statement M
 apply-add-spec =
@@ -55,7 +54,6 @@ apply-add-spec =
     (tie.spec
     add-pack
     pack-requires
-    sub-t15
     put-row-requires
     enum-known-r
     enum-told

@@ -1,31 +1,20 @@
 -- `say` keeps the first metaData and the first protocol.
-use denote.Ref.{now}
-use mathlib.Core.Path.{_≡_, subst}
-use Rattle.facts.specs.Parts.{part}
-use Rattle.rules.specs.Actions.{action}
-use Rattle.actions.specs.declared.line.Action.{Action}
+use mathlib.Core.Path.{subst}
 use Rattle.actions.specs.Line.{ActionIs}
-use Rattle.replay.proofs.Zeroing.{said-add, said-remove, said-mergeskip, said-malformed, said-other, said-table, said-table-twice, said-protocol, said-protocol-twice}
+use Rattle.replay.proofs.Zeroing.{
+  said-add,
+  said-remove,
+  said-mergeskip,
+  said-malformed,
+  said-other,
+  said-table,
+  said-table-twice,
+  said-protocol,
+  said-protocol-twice,
+}
 use borrow.Author.Needs.{needs}
 use Rattle.replay.proofs.begin.say.Statement.{statement}
 use Rattle.replay.proofs.begin.say.Tie as tie
-
-found : (c : tie.After-classify) (r : Action) → c .classify .result ≡ r → let a = c .before .before .before .before .before .args in
-    ActionIs (action (part (now (a .src)) (a .from) (a .to))) (part (now (a .src)) (a .from) (a .to)) r
-unfolding part
-found c r e = subst (ActionIs _ _) e (c .classify .ensures)
-
-sub-classify : tie.Need-sub-classify
-sub-classify c = search needs
-
-sub-classify-2 : tie.Need-sub-classify-2
-sub-classify-2 c = search needs
-
-part-classify-start : tie.Need-part-classify-start
-part-classify-start c = search needs
-
-part-classify-end : tie.Need-part-classify-end
-part-classify-end c = search needs
 
 classify-requires : tie.Need-classify-requires
 classify-requires c κs = search needs
@@ -41,16 +30,16 @@ enum-told-3 c = search needs
 
 returns : tie.Need-returns
 returns c =
-    let s = c .before .before .before .before .before .before .before .before .before in
-    said-protocol _ _ _ _ (s .pre .0) (s .pre .1) (s .pre .2) (found (c .before .before .before .before) _ (c .before .before .enum-told3 .given .1)) (c .if1 .taken)
+    let p = c .before .before .before .before .before .before .before .before .before .pre in
+    said-protocol _ _ _ _ (p .0) (p .1) (p .2) (subst (ActionIs _ _) (c .before .before .enum-told3 .given .1) (c .before .before .before .before .classify .ensures)) (c .if1 .taken)
 
 enum-told-4 : tie.Need-enum-told-4
 enum-told-4 c = search needs
 
 returns-2 : tie.Need-returns-2
 returns-2 c =
-    let s = c .before .before .before .before .before .before .before .before .before in
-    said-table _ _ _ _ (s .pre .0) (s .pre .1) (s .pre .2) (found (c .before .before .before .before) _ (c .before .before .enum-told4 .given .1)) (c .if2 .taken)
+    let p = c .before .before .before .before .before .before .before .before .before .pre in
+    said-table _ _ _ _ (p .0) (p .1) (p .2) (subst (ActionIs _ _) (c .before .before .enum-told4 .given .1) (c .before .before .before .before .classify .ensures)) (c .if2 .taken)
 
 enum-told-5 : tie.Need-enum-told-5
 enum-told-5 c = search needs
@@ -63,47 +52,43 @@ enum-told-7 c = search needs
 
 returns-3 : tie.Need-returns-3
 returns-3 c =
-    let s = c .before .before .before .before .before .before .before in
-    said-add _ _ _ _ (s .pre .0) (s .pre .1) (s .pre .2) (found (c .before .before) _ (c .enum-told .given .1))
+    let p = c .before .before .before .before .before .before .before .pre in
+    said-add _ _ _ _ (p .0) (p .1) (p .2) (subst (ActionIs _ _) (c .enum-told .given .1) (c .before .before .classify .ensures))
 
 returns-4 : tie.Need-returns-4
 returns-4 c =
-    let s = c .before .before .before .before .before .before .before in
-    said-remove _ _ _ _ (s .pre .0) (s .pre .1) (s .pre .2) (found (c .before .before) _ (c .enum-told2 .given .1))
+    let p = c .before .before .before .before .before .before .before .pre in
+    said-remove _ _ _ _ (p .0) (p .1) (p .2) (subst (ActionIs _ _) (c .enum-told2 .given .1) (c .before .before .classify .ensures))
 
 returns-5 : tie.Need-returns-5
 returns-5 c =
-    let s = c .before .before .before .before .before .before .before .before .before in
-    said-protocol-twice _ _ _ _ (s .pre .0) (s .pre .1) (s .pre .2) (found (c .before .before .before .before) _ (c .before .before .enum-told3 .given .1)) (c .if1 .left)
+    let p = c .before .before .before .before .before .before .before .before .before .pre in
+    said-protocol-twice _ _ _ _ (p .0) (p .1) (p .2) (subst (ActionIs _ _) (c .before .before .enum-told3 .given .1) (c .before .before .before .before .classify .ensures)) (c .if1 .left)
 
 returns-6 : tie.Need-returns-6
 returns-6 c =
-    let s = c .before .before .before .before .before .before .before .before .before in
-    said-table-twice _ _ _ _ (s .pre .0) (s .pre .1) (s .pre .2) (found (c .before .before .before .before) _ (c .before .before .enum-told4 .given .1)) (c .if2 .left)
+    let p = c .before .before .before .before .before .before .before .before .before .pre in
+    said-table-twice _ _ _ _ (p .0) (p .1) (p .2) (subst (ActionIs _ _) (c .before .before .enum-told4 .given .1) (c .before .before .before .before .classify .ensures)) (c .if2 .left)
 
 returns-7 : tie.Need-returns-7
 returns-7 c =
-    let s = c .before .before .before .before .before .before .before in
-    said-mergeskip _ _ _ _ (s .pre .0) (s .pre .1) (s .pre .2) (found (c .before .before) _ (c .enum-told5 .given .1))
+    let p = c .before .before .before .before .before .before .before .pre in
+    said-mergeskip _ _ _ _ (p .0) (p .1) (p .2) (subst (ActionIs _ _) (c .enum-told5 .given .1) (c .before .before .classify .ensures))
 
 returns-8 : tie.Need-returns-8
 returns-8 c =
-    let s = c .before .before .before .before .before .before .before in
-    said-other _ _ _ _ (s .pre .0) (s .pre .1) (s .pre .2) (found (c .before .before) _ (c .enum-told6 .given .1))
+    let p = c .before .before .before .before .before .before .before .pre in
+    said-other _ _ _ _ (p .0) (p .1) (p .2) (subst (ActionIs _ _) (c .enum-told6 .given .1) (c .before .before .classify .ensures))
 
 returns-9 : tie.Need-returns-9
 returns-9 c =
-    let s = c .before .before .before .before .before .before .before in
-    said-malformed _ _ _ _ (s .pre .0) (s .pre .1) (s .pre .2) (found (c .before .before) _ (c .enum-told7 .given .1))
+    let p = c .before .before .before .before .before .before .before .pre in
+    said-malformed _ _ _ _ (p .0) (p .1) (p .2) (subst (ActionIs _ _) (c .enum-told7 .given .1) (c .before .before .classify .ensures))
 
 pub say-spec : {M : Type 1} → statement M
 say-spec =
     tie.close
     (tie.spec
-    sub-classify
-    sub-classify-2
-    part-classify-start
-    part-classify-end
     classify-requires
     enum-told
     enum-told-2

@@ -1,0 +1,85 @@
+-- The paper's table of refusals, by the code's cases: for each entry when it gives which. What it never gives is ⊥.
+use mathlib.Core.Path.{_≡_}
+use mathlib.Core.Option.{none, some}
+use mathlib.Core.List.{List}
+use Prim.Native.Nat.{ℕ, _≤_, _<_}
+use lib.ListN.{length}
+use Rattle.rules.specs.Bytes.{Bytes}
+use Rattle.rules.specs.Bundle.{File, bundle}
+use Rattle.rules.specs.Starts.{logOf}
+use Rattle.rules.specs.Gate.{knownReader, readerNames}
+use Rattle.rules.specs.Query.{query}
+use Rattle.rules.specs.Manifests.{Manifest, manifests, mostManifests}
+use Rattle.rules.specs.Rooms.{rowsRoom, keptRoom}
+use Rattle.rules.specs.Reading.{Asked}
+use Rattle.rules.specs.Cleaning.{Lent}
+use Rattle.rules.specs.Same.{SameState}
+use Rattle.rules.specs.Refusals.{malformed, tooManyLive}
+use Rattle.demands.specs.Reaching.{There, NoStart}
+use Rattle.demands.specs.Met.{Met}
+use Rattle.demands.specs.Exactly.{SomeTooLarge, Unknown, Readable, Opened, logIn, versionIn, Reached, Read, columnsAsked}
+use Rattle.demands.specs.CleaningExactly.{Enough, NotWritable as CannotWrite, Comparing, MetComparing, Compared}
+use Rattle.refusals.specs.declared.Refusal.{Refusal}
+use Rattle.refusals.specs.declared.Refusal.the-variants.{RoomTooShort, BundleMalformed, VersionTooLarge, NoVersionZero, NotKept, Malformed, TooManyLive}
+use Rattle.refusals.specs.declared.Refusal.the-variants.{ReaderTooHigh, UnknownFeature, QueryMalformed, NoSuchColumn, NotWritable, CheckpointDisagrees}
+use Rattle.refusals.specs.declared.Refusal.the-variants.{StateMalformed, TooManyManifests}
+
+-- reading: 1, 10, 2, 3, 4, 5, then 6 or 7 by first line met, 8, 9, 11
+abbrev pub ReadingRule : (room : ℕ) → (s q : Bytes) → Asked → Refusal → Type 0
+ReadingRule room s q asked RoomTooShort = room < rowsRoom
+ReadingRule room s q asked BundleMalformed = (rowsRoom ≤ room) × There (query q) × (bundle s ≡ none)
+ReadingRule room s q asked VersionTooLarge = (rowsRoom ≤ room) × There (query q) × ((fs : List File) × (bundle s ≡ some fs) × SomeTooLarge fs)
+ReadingRule room s q asked NoVersionZero = (o : Opened room s q) × (logIn asked o .versionFile 0 ≡ none)
+ReadingRule room s q asked NotKept = (o : Opened room s q) × There (logIn asked o .versionFile 0) × NoStart (logIn asked o) (versionIn asked o)
+ReadingRule room s q asked (Malformed e l) = (r : Reached room s q asked) × Met (r .zero) (r .way) (malformed e l)
+ReadingRule room s q asked (TooManyLive e l) = (r : Reached room s q asked) × Met (r .zero) (r .way) (tooManyLive e l)
+ReadingRule room s q asked ReaderTooHigh = (r : Read room s q asked) × (knownReader < r .state .inForce .minReaderVersion)
+ReadingRule room s q asked UnknownFeature =
+    (r : Read room s q asked) × (r .state .inForce .minReaderVersion ≤ knownReader) × Unknown readerNames (r .state .inForce .readerFeatures)
+ReadingRule room s q asked QueryMalformed = (rowsRoom ≤ room) × (query q ≡ none)
+ReadingRule room s q asked NoSuchColumn =
+    (r : Read room s q asked) × Readable (r .state .inForce) × Unknown (r .state .table .partitionColumns) (columnsAsked r)
+ReadingRule room s q asked NotWritable = ⊥
+ReadingRule room s q asked CheckpointDisagrees = ⊥
+ReadingRule room s q asked StateMalformed = ⊥
+ReadingRule room s q asked TooManyManifests = ⊥
+
+-- cleaning: 1 to 4; then 6 or 7 by first line met; the checkpoint's gate 8, 9, 12; then 13
+abbrev pub CleaningRule : Lent → Bytes → Refusal → Type 0
+CleaningRule lent s RoomTooShort = Enough lent → ⊥
+CleaningRule lent s BundleMalformed = Enough lent × (bundle s ≡ none)
+CleaningRule lent s VersionTooLarge = Enough lent × ((fs : List File) × (bundle s ≡ some fs) × SomeTooLarge fs)
+CleaningRule lent s NoVersionZero =
+    Enough lent × ((fs : List File) × (bundle s ≡ some fs) × (SomeTooLarge fs → ⊥) × (logOf fs .versionFile 0 ≡ none))
+CleaningRule lent s NotKept = ⊥
+CleaningRule lent s (Malformed e l) = (c : Comparing lent s) × MetComparing (c .begun .zero) (c .checkpoint) (c .way) (malformed e l)
+CleaningRule lent s (TooManyLive e l) = (c : Comparing lent s) × MetComparing (c .begun .zero) (c .checkpoint) (c .way) (tooManyLive e l)
+CleaningRule lent s ReaderTooHigh = (c : Compared lent s) × (knownReader < c .mine .inForce .minReaderVersion)
+CleaningRule lent s UnknownFeature =
+    (c : Compared lent s) × (c .mine .inForce .minReaderVersion ≤ knownReader) × Unknown readerNames (c .mine .inForce .readerFeatures)
+CleaningRule lent s QueryMalformed = ⊥
+CleaningRule lent s NoSuchColumn = ⊥
+CleaningRule lent s NotWritable = (c : Compared lent s) × Readable (c .mine .inForce) × CannotWrite (c .mine .inForce)
+CleaningRule lent s CheckpointDisagrees =
+    (c : Compared lent s) × Readable (c .mine .inForce) × (CannotWrite (c .mine .inForce) → ⊥) × (SameState (c .mine) (c .theirs) → ⊥)
+CleaningRule lent s StateMalformed = ⊥
+CleaningRule lent s TooManyManifests = ⊥
+
+-- manifests: 1, 10, 14, 15
+abbrev pub KeepingRule : (room : ℕ) → (state q : Bytes) → Refusal → Type 0
+KeepingRule room state q RoomTooShort = room < keptRoom
+KeepingRule room state q BundleMalformed = ⊥
+KeepingRule room state q VersionTooLarge = ⊥
+KeepingRule room state q NoVersionZero = ⊥
+KeepingRule room state q NotKept = ⊥
+KeepingRule room state q (Malformed e l) = ⊥
+KeepingRule room state q (TooManyLive e l) = ⊥
+KeepingRule room state q ReaderTooHigh = ⊥
+KeepingRule room state q UnknownFeature = ⊥
+KeepingRule room state q QueryMalformed = (keptRoom ≤ room) × (query q ≡ none)
+KeepingRule room state q NoSuchColumn = ⊥
+KeepingRule room state q NotWritable = ⊥
+KeepingRule room state q CheckpointDisagrees = ⊥
+KeepingRule room state q StateMalformed = (keptRoom ≤ room) × There (query q) × (manifests state ≡ none)
+KeepingRule room state q TooManyManifests =
+    (keptRoom ≤ room) × There (query q) × ((ms : List Manifest) × (manifests state ≡ some ms) × (mostManifests < length ms))

@@ -1,0 +1,1 @@
+// Statements and proofs only: see specs/ and proofs/.
