@@ -141,7 +141,7 @@ typedef struct {
     size_t length;
 } kerumpase_place;
 
-/* Where an add writes its path: raw, between its quotes. length is 0 if the line is no well-formed add. */
+/* Where an add writes its path: raw, between its quotes. Both are 0 if the line is no well-formed add. */
 kerumpase_place kerumpase_path_of(const uint8_t *line, size_t line_length);
 
 enum {

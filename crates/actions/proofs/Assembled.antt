@@ -10,7 +10,9 @@ use lib.ListN.{length, take, drop, getD, length-drop}
 use lib.Seq.{drop-drop}
 use Rattle.facts.specs.Parts.{part}
 use Rattle.facts.proofs.Parts.{part-rest}
-use Rattle.rules.specs.Actions.{inAction, inField, Pairs, Facts, Action, add, remove, protocol, metaData, mostColumns, addOf, pathAt, partitionValuesAt, protocolOf, metaDataOf, actionBy, action, pathWritten}
+use Rattle.rules.specs.Actions.{inAction, inField, Pairs, Facts, Action, add, remove, protocol, metaData}
+use Rattle.rules.specs.Actions.{mostColumns, addOf, pathAt, partitionValuesAt, protocolOf, metaDataOf, actionBy, action}
+use Rattle.rules.specs.Actions.{onlyOne, pathWritten, pathLeft}
 use Rattle.rules.specs.Bytes.{Bytes, _>>=_, guard, among, distinct}
 use Rattle.rules.specs.Json.Text.{Text, behind, byte}
 use Rattle.rules.specs.Json.Numbers.{whole}
@@ -22,6 +24,7 @@ use Rattle.rules.proofs.Json.Suffix.{bound, reads-fewer}
 use Rattle.rules.proofs.Json.Shadows.{behind-some}
 use Rattle.rules.proofs.Json.StringReads.{string-reads}
 use Rattle.rules.proofs.Json.Places.{unquoted-place}
+use Rattle.rules.proofs.PathPlaces.{pathLeft-by}
 use Rattle.values.specs.Answers.{truthIs}
 use Rattle.strings.proofs.Decoding.{decoded-some}
 use Rattle.kinds.specs.Kinds.{namesOf}
@@ -34,13 +37,14 @@ use Rattle.slots.specs.Counts.{recordsIs, isKnown, isBool}
 use Rattle.slots.specs.Inside.{Inside, wholeIn, boolIn, stringIn, optionalWholeIn}
 use Rattle.nested.specs.Nested.{Pairing, valuesIn, featuresIn, Known, columnsOf, columnsIn, ColumnsIs}
 use Rattle.actions.specs.Line.{ActionIs}
-use Rattle.slots.specs.Texts.{pathOf, idOf, Told, Read}
+use Rattle.slots.specs.Texts.{pathOf, idOf, Told, PathIs}
+use Rattle.slots.specs.declared.Path.the-variants.{Spelled}
 use Rattle.slots.specs.Versions.{versionOf}
 use Rattle.actions.specs.declared.line.Action.the-variants.{Add, Remove, Protocol, MetaData}
 use Rattle.nested.specs.declared.Columns.the-variants.{Within}
 use Rattle.slots.specs.declared.Records.{Records}
 use Rattle.actions.proofs.Lines.{lined-action}
-use Rattle.slots.proofs.Single.{inside-single}
+use Rattle.slots.proofs.Single.{times-inside, inside-single}
 use Rattle.slots.proofs.Stated.{field-whole, field-bool, field-string, field-optional, field-path, field-version}
 use Rattle.nested.proofs.Stated.{field-values, field-features, field-columns}
 use Rattle.slots.proofs.Strings.{byte-text, string-behind}
@@ -97,6 +101,12 @@ path-placed s x y i e =
     let (sole, f) = string-single s x (path-string (stringIn s x) e) in
     let (h, k) = inside-single s x sole i in
     placed s (x .start) (x .end) y h k f
+
+-- and where it begins, by the places of the fields
+path-left : (s : Text) (k : ℕ) (f : Fields) (l : Lined s k f) {y : Bytes} → Placed s (slot f 0 .start) (slot f 0 .end) y
+    → once "path" (l .lefts) ≡ some (drop (slot f 0 .start) s) → pathLeft s ≡ some (drop (slot f 0 .start + 1) s)
+unfolding onlyOne byte
+path-left s k f l p e = pathLeft-by s (l .line-left) refl (l .object-left) e (ap (byte 0x22) (p .quote))
 
 -- ---- add
 
@@ -207,6 +217,10 @@ module _ (s : Text) (f : Fields) (l : Lined s 0 f) where
       ∙ ap (λ o. o >>= (λ v. some (unquoted v))) o
       ∙ ap some (unquoted-place s v k (omega arith) (p .within) 0x22 (p .quote) ∙ ap (λ (n : ℕ). take n (drop (v + 1) s)) size)
 
+  add-starts : slot f 0 .seen ≡ 1 → once "path" (l .lefts) ≡ some (drop (slot f 0 .start) s)
+  unfolding once namesOf
+  add-starts o = l .starts 0 (omega arith) o
+
   pub add-there : (y : Bytes) (a t at : ℕ) (b : Bool) (ps : Pairs) (n : Option ℕ) (r : Records) → Inside s (slot f 0) → pathOf (stringIn s (slot f 0)) ≡ some y → wholeIn s (slot f 1) ≡ some a → wholeIn s (slot f 2) ≡ some t
       → boolIn s (slot f 3) ≡ some b → valuesIn s (slot f 4) ≡ some ps → Pairing s at ps → optionalWholeIn s (slot f 5) ≡ some n → r ≡ recordsIs (some n)
       → ActionIs (action s) s (Add (record { path = slot f 0 .start + 1; end = slot f 0 .end - 1; size = a; time = t; records = r; values = at }))
@@ -221,6 +235,7 @@ module _ (s : Text) (f : Fields) (l : Lined s 0 f) where
           spelled = record { end = slot f 0 .end; closed = ap behind (p .read) };
           path = decoded-some (drop (slot f 0 .start + 1) s) (p .read);
           written = path-written y i e1;
+          left = path-left s 0 f l p (add-starts (string-single s (slot f 0) (path-string (stringIn s (slot f 0)) e1) .0));
           ordered = omega arith;
           within = omega arith;
           size = refl;
@@ -260,12 +275,22 @@ module _ (s : Text) (f : Fields) (l : Lined s 1 f) where
   pub remove-no-path : pathOf (stringIn s (slot f 0)) ≡ none → action s ≡ none
   remove-no-path e = lined-remove ∙ rw e
 
-  pub remove-there : (p : ℕ) → Read (pathOf (stringIn s (slot f 0))) s p → ActionIs (action s) s (Remove p)
-  remove-there p r =
+  remove-starts : slot f 0 .seen ≡ 1 → once "path" (l .lefts) ≡ some (drop (slot f 0 .start) s)
+  unfolding once namesOf
+  remove-starts o = l .starts 0 (omega arith) o
+
+  remove-inside : Inside s (slot f 0)
+  unfolding namesOf
+  remove-inside = times-inside s (slot f 0 .seen) (slot f 0 .start) (slot f 0 .end) _ (l .each 0 (omega arith))
+
+  pub remove-there : (p : ℕ) → PathIs (pathOf (stringIn s (slot f 0))) s (slot f 0 .start) (Spelled p) → ActionIs (action s) s (Remove p)
+  remove-there p (r, place) =
       let (y, g) = behind-some (string (drop p s)) (r .spelled .closed) in
       let few : length (drop (r .spelled .end) s) + 1 ≤ length (drop p s) = reads-fewer (string-reads y (drop p s) (drop (r .spelled .end) s) g) in
       let n : length (drop p s) ≡ length s - p = length-drop p s in
-      (lined-remove ∙ ap (λ o. o >>= (λ p. some (remove p))) (r .says), r .spelled, omega arith)
+      let single = string-single s (slot f 0) (path-string (stringIn s (slot f 0)) (r .says)) .0 in
+      let left = path-left s 1 f l (path-placed s (slot f 0) _ remove-inside (r .says)) (remove-starts single) in
+      (lined-remove ∙ ap (λ o. o >>= (λ p. some (remove p))) (r .says), r .spelled, omega arith, left ∙ ap (λ (i : ℕ). some (drop i s)) (sym place))
 
 -- ---- protocol
 

@@ -11,14 +11,17 @@ use Rattle.rules.specs.Actions.{inLine, inAction, Key, keyOf, add, remove, prot
 use Rattle.rules.specs.Bytes.{Bytes, ascii, _>>=_, guard, first, same, isEmpty}
 use Rattle.rules.specs.Json.Text.{Text, Taker, behind as left, spelled, ws, byte}
 use Rattle.rules.specs.Json.Strings.{string}
-use Rattle.rules.specs.Json.Values.{Member, Behind, closed, onward, neither, opening, closing, andThen, afterItem, items, colon, member, contents, value, alone, objectOf}
-use Rattle.rules.proofs.Tests.{by}
+use Rattle.rules.specs.Json.Values.{Member, Behind, closed, onward, neither, opening, closing, andThen, afterItem, items, list, colon}
+use Rattle.rules.specs.Json.Values.{member, memberLeft, contents, value, alone, objectOf, membersLeft}
+use Rattle.rules.proofs.Tests.{apart, by}
 use Rattle.rules.proofs.Json.Suffix.{answered-none}
 use Rattle.rules.proofs.Json.TextReads.{spelled-none, spelled-left, byte-same}
 use Rattle.rules.proofs.Json.ValueReads.{value-reads, member-reads}
 use Rattle.rules.proofs.Json.Steps.{value-object, value-end, objectOf-contents, objectOf-none, contents-list, list-closed, list-onward, list-neither, rest, rest-none, rest-closed, rest-neither, rest-onward}
 use Rattle.rules.proofs.Json.InPlace.{objectOf-other}
 use Rattle.rules.proofs.Json.Places.{spelled-place, objectOf-place}
+use Rattle.rules.proofs.MemberPlaces.{membersLeft-list}
+use Rattle.rules.proofs.PathPlaces.{brace-here}
 use Rattle.kinds.specs.Kinds.{namesOf, seek}
 use Rattle.text.specs.Answers.{Skips}
 use Rattle.fields.specs.Slots.{Filled, ScannedBy, Scanned}
@@ -27,6 +30,7 @@ use Rattle.kinds.specs.declared.Kind.the-variants.{Line, MetaData}
 use Rattle.keys.specs.declared.Spell.{Spell}
 use Rattle.fields.specs.declared.notes.Fields.{Fields}
 use Rattle.fields.proofs.Members.{member-nameless, member-no-colon}
+use Rattle.fields.proofs.Lefts.{filled-left}
 use Rattle.keys.proofs.Quoting.{named-string}
 use Rattle.actions.specs.Begun.{endsBy, ends, lineValue, keyed, keyAt, kindAt, Braced, Begun, Lined}
 use Rattle.slots.proofs.Strings.{byte-text}
@@ -45,6 +49,10 @@ module _ (s : Text) where
     unfolding lineMember
     inside = ap (λ o. o >>= onlyOne) (objectOf-contents inLine s e)
 
+    places : membersLeft inLine s ≡ (list (memberLeft (value inLine)) 0x7D (drop i s) >>= (λ p. some (p .0)))
+    unfolding membersLeft
+    places = rw (membersLeft, e)
+
     pub line-neither : opening 0x7D (drop i s) ≡ neither → lineMember s ≡ none
     unfolding alone
     line-neither f = inside ∙ ap (λ o. alone o >>= onlyOne) (contents-list (value inLine) (drop i s) ∙ list-neither (member (value inLine)) 0x7D (drop i s) f)
@@ -61,6 +69,7 @@ module _ (s : Text) where
     line-braced j l f = record {
       within = l;
       line = inside ∙ ap (λ o. alone o >>= onlyOne) (contents-list (value inLine) (drop i s) ∙ list-onward (member (value inLine)) 0x7D (drop i s) f);
+      lefts = places ∙ ap (λ o. o >>= (λ p. some (p .0))) (list-onward (memberLeft (value inLine)) 0x7D (drop i s) f);
     }
 
 -- ---- its key
@@ -150,8 +159,20 @@ module _ (s : Text) (j : ℕ) (g : Braced s j) where
               behind neither h = ap (λ o. alone o >>= onlyOne) (rest-neither item 0x7D (drop j s) f h)
                   ∙ sym (ap (λ (c : Behind). keyed (nameIn s n) (guard (endsBy c) >>= (λ _. some (p .0)))) h)
 
+      ended-left : (r : Text) → value inLine (drop v s) ≡ some r → ends r ≡ true → membersLeft inLine s ≡ some ((nameIn s n, drop v s) ∷ [])
+      unfolding memberLeft
+      ended-left r f t = go (closing 0x7D r) refl t
+        where
+          item : memberLeft (value inLine) (drop j s) ≡ some ((nameIn s n, drop v s), r)
+          item = rw (memberLeft, q .quote, named-string s n (q .named), e, f)
+
+          go : (c : Behind) → closing 0x7D r ≡ c → endsBy c ≡ true → membersLeft inLine s ≡ some ((nameIn s n, drop v s) ∷ [])
+          go (closed u) h i = g .lefts ∙ ap (λ o. o >>= (λ p. some (p .0))) (rest-closed (memberLeft (value inLine)) 0x7D (drop j s) item h)
+          go (onward u) h i = apart (cc)
+          go neither h i = apart (cc)
+
       pub line-begun : (k : ℕ) → v ≤ length s → k ≡ seek (nameIn s n) (namesOf Line) → Begun s k v
-      line-begun k l p = record { name = nameIn s n; key = key-seek (nameIn s n) ∙ ap keyAt (sym p); within = l; line = valued }
+      line-begun k l p = record { name = nameIn s n; key = key-seek (nameIn s n) ∙ ap keyAt (sym p); within = l; line = valued; left = ended-left }
 
 -- ---- behind the value
 
@@ -205,6 +226,13 @@ line-malformed s e = ap (λ o. o >>= (λ m. actionBy (keyOf (m .0)) (m .1))) e
 pub lined-action : (s : Text) (k : ℕ) (f : Fields) (l : Lined s k f) → action s ≡ actionBy (keyAt k) (l .text)
 unfolding action
 lined-action s k f l = ap (λ o. o >>= (λ m. actionBy (keyOf (m .0)) (m .1))) (l .line) ∙ ap (λ (key : Key). actionBy key (l .text)) (l .key)
+
+few-names : (k : ℕ) → length (namesOf (kindAt k)) ≤ 8
+unfolding namesOf
+few-names zero = omega arith
+few-names (suc zero) = omega arith
+few-names (suc (suc zero)) = omega arith
+few-names (suc (suc (suc n))) = omega arith
 
 module _ (s : Text) (k v : ℕ) (g : Begun s k v) where
   begun-action : action s ≡ (lineValue (drop v s) >>= actionBy (keyAt k))
@@ -279,6 +307,7 @@ module _ (s : Text) (k v : ℕ) (g : Begun s k v) where
         let next : i ≡ v + 1 = byte-next s v i 0x7B (g .within) l b in
         let low : i + 1 ≤ f .end = r .from in
         let all : contents (value inAction) (drop (v + 1) s) ≡ some (r .ms, drop (f .end) s) = sym (ap (λ (j : ℕ). contents (value inAction) (drop j s)) next) ∙ r .all in
+        let (fs, places, starts) = filled-left inAction s i (namesOf (kindAt k)) (f .end) (f .slots) r (few-names k) in
         record {
           name = g .name;
           text = take (f .end - v) (drop v s);
@@ -288,6 +317,11 @@ module _ (s : Text) (k v : ℕ) (g : Begun s k v) where
           object = objectOf-place s v (f .end) (omega arith) (r .within) inAction (r .ms) (byte-text 0x7B (drop v s) b ∙ ap (λ (j : ℕ). 0x7B ∷ drop j s) next) all;
           valued = contents-valued inAction (drop i s) (r .ms) (drop (f .end) s) (r .all);
           each = r .each;
+          left = drop v s;
+          lefts = fs;
+          line-left = g .left (drop (f .end) s) (begun-contents (r .all)) t;
+          object-left = membersLeft-list inAction (drop v s) (brace-here (drop v s) (drop i s) (byte-text 0x7B (drop v s) b)) places;
+          starts = starts;
         }
 
 pub place-three : (k : ℕ) → k < 4 → (k ≡ 0 → ⊥) → (k ≡ 1 → ⊥) → (k ≡ 2 → ⊥) → k ≡ 3

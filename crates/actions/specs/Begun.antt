@@ -1,16 +1,16 @@
 -- A line by its one member: its key, where its value begins, and what the rest of the line says.
 use mathlib.Core.Path.{_≡_}
-use mathlib.Core.Bool.{Bool, false}
+use mathlib.Core.Bool.{Bool, true, false}
 use mathlib.Core.Option.{Option, none, some}
-use mathlib.Core.List.{List}
+use mathlib.Core.List.{List, [], _∷_}
 use Prim.Native.Nat.{ℕ, zero, suc, _≤_}
 use lib.ListN.{length, drop}
 use Rattle.rules.specs.Actions.{inLine, inAction, Key, keyAdd, keyRemove, keyProtocol, keyMetaData, keyMergeskip, keyOther, keyOf, onlyOne, lineMember}
 use Rattle.rules.specs.Bytes.{Bytes, _>>=_, guard, isEmpty}
 use Rattle.rules.specs.Json.Text.{Text, spelled, ws}
-use Rattle.rules.specs.Json.Values.{Member, Behind, closed, onward, neither, closing, items, member, value, alone, objectOf}
+use Rattle.rules.specs.Json.Values.{Member, Behind, closed, onward, neither, closing, items, member, memberLeft, value, alone, objectOf, membersLeft}
 use Rattle.kinds.specs.Kinds.{namesOf}
-use Rattle.fields.specs.Slots.{Each}
+use Rattle.fields.specs.Slots.{Each, EachLeft}
 use Rattle.kinds.specs.declared.Kind.{Kind}
 use Rattle.kinds.specs.declared.Kind.the-variants.{Add, Remove, Protocol, MetaData}
 use Rattle.fields.specs.declared.notes.Fields.{Fields}
@@ -55,6 +55,7 @@ kindAt (suc (suc (suc n))) = MetaData
 pub record Braced (s : Text) (j : ℕ) : Type 0 where
   pub within : j ≤ length s
   pub line : lineMember s ≡ (alone (items (member (value inLine)) 0x7D (suc (length (drop j s))) (drop j s)) >>= onlyOne)
+  pub lefts : membersLeft inLine s ≡ (items (memberLeft (value inLine)) 0x7D (suc (length (drop j s))) (drop j s) >>= (λ p. some (p .0)))
 
 -- its key is that of place k, and its value begins at v
 pub record Begun (s : Text) (k v : ℕ) : Type 0 where
@@ -62,6 +63,7 @@ pub record Begun (s : Text) (k v : ℕ) : Type 0 where
   pub key : keyOf name ≡ keyAt k
   pub within : v ≤ length s
   pub line : lineMember s ≡ keyed name (lineValue (drop v s))
+  pub left : (r : Text) → value inLine (drop v s) ≡ some r → ends r ≡ true → membersLeft inLine s ≡ some ((name, drop v s) ∷ [])
 
 abbrev pub KeyedIs : Text → Keyed → Type 0
 KeyedIs s (Value k v) = Begun s k v
@@ -82,3 +84,9 @@ pub record Lined (s : Text) (k : ℕ) (f : Fields) : Type 0 where
   pub object : objectOf inAction text ≡ some ms
   pub valued : Valued inAction ms
   pub each : Each s (namesOf (kindAt k)) ms (f .slots)
+  -- and by their places
+  pub left : Text
+  pub lefts : List Member
+  pub line-left : membersLeft inLine s ≡ some ((name, left) ∷ [])
+  pub object-left : membersLeft inAction left ≡ some lefts
+  pub starts : EachLeft s (namesOf (kindAt k)) lefts (f .slots)

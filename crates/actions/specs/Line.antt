@@ -4,7 +4,8 @@ use mathlib.Core.Option.{Option, none, some}
 use Prim.Native.Nat.{_≤_}
 use lib.ListN.{length, drop}
 use Rattle.facts.specs.Parts.{part}
-use Rattle.rules.specs.Actions.{Facts, MetaData as rMetaData, Protocol as rProtocol, Action as rAction, add, remove, protocol, metaData, mergeskip, other, pathWritten}
+use Rattle.rules.specs.Actions.{Facts, MetaData as rMetaData, Protocol as rProtocol, Action as rAction, add, remove, protocol, metaData, mergeskip, other}
+use Rattle.rules.specs.Actions.{pathWritten, pathLeft}
 use Rattle.rules.specs.Bytes.{allAmong}
 use Rattle.rules.specs.Gate.{readerNames, writerNames}
 use Rattle.rules.specs.Json.Text.{Text}
@@ -21,6 +22,7 @@ pub record AddIs (s : Text) (f : Facts) (a : Added) : Type 0 where
   pub spelled : WellSpelled s (a .path)
   pub path : decoded (drop (a .path) s) ≡ f .path
   pub written : pathWritten s ≡ some (part s (a .path) (a .end))
+  pub left : pathLeft s ≡ some (drop (a .path) s)
   pub ordered : a .path ≤ a .end
   pub within : a .end ≤ length s
   pub size : a .size ≡ f .size
@@ -38,7 +40,7 @@ pub record ProtocolIs (s : Text) (p : rProtocol) (r : Stated) : Type 0 where
 
 abbrev pub ActionIs : Option rAction → Text → Action → Type 0
 ActionIs o s (Add a) = (f : Facts) × (o ≡ some (add f)) × AddIs s f a
-ActionIs o s (Remove p) = (o ≡ some (remove (decoded (drop p s)))) × WellSpelled s p × (p ≤ length s)
+ActionIs o s (Remove p) = (o ≡ some (remove (decoded (drop p s)))) × WellSpelled s p × (p ≤ length s) × (pathLeft s ≡ some (drop p s))
 ActionIs o s (Protocol r) = (p : rProtocol) × (o ≡ some (protocol p)) × ProtocolIs s p r
 ActionIs o s (MetaData at) = (m : rMetaData) × (o ≡ some (metaData m)) × (at ≤ length s) × Listed s at (m .partitionColumns)
 ActionIs o s Mergeskip = o ≡ some mergeskip

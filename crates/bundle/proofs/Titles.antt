@@ -16,7 +16,8 @@ use Rattle.rules.specs.Numbers.{little}
 use Rattle.rules.specs.Bundle.{Entry, File, mostBytes, mostEntries, entryBytes, field, entryOf, entries, zeros, unpadded, nameIn, ascending, filesFrom, filesOf, bundle}
 use Rattle.rules.proofs.Tests.{apart}
 use Rattle.rules.proofs.Order.{trichotomy, among-true, order-cons-less, order-cons-more, order-cons-equal}
-use Rattle.rules.proofs.Ascending.{Ascends, ascends-of}
+use Rattle.rules.specs.Keyed.{Ascends}
+use Rattle.rules.proofs.Ascending.{ascends-of}
 use Rattle.bundle.specs.Files.{filesOr, filesIn, fileIn, noFile}
 use Rattle.bundle.proofs.Choices.{bind-some, guard-some, some-is}
 use Rattle.bundle.proofs.Entries.{entries-at, length-entries}

@@ -51,7 +51,7 @@ true-meetsValue : (c : Condition) (f : Facts) → Meets c f → meetsValue c (va
 unfolding meetsValue
 true-meetsValue c f (x, e, h) = ap (meetsValue c) e ∙ true-meetsAs (c .kind) (c .op) x (c .bound) h
 
-meetsAll-true : (cs : List Condition) (f : Facts) → meetsAll cs f ≡ true → MeetsEvery cs f
+pub meetsAll-true : (cs : List Condition) (f : Facts) → meetsAll cs f ≡ true → MeetsEvery cs f
 unfolding meetsAll All
 meetsAll-true [] f h = tt
 meetsAll-true (c ∷ cs) f h = go (meetsValue c (valueAt (c .column) (f .partitionValues))) refl h (meetsAll-true cs f)
@@ -125,7 +125,7 @@ unfolding testAt bothThere
 true-drops c m d =
     drops-is c (m .bounds) ∙ rw (d .bounds-there, d .min-there, d .max-there) (true-outsideAs (c .kind) (c .op) (c .bound) (d .min) (d .max) (d .excludes))
 
-dropped-true : (cs : List Condition) (m : Manifest) → dropped cs m ≡ true → Dropped cs m
+pub dropped-true : (cs : List Condition) (m : Manifest) → dropped cs m ≡ true → Dropped cs m
 unfolding dropped
 dropped-true [] m h = apart (cc)
 dropped-true (c ∷ cs) m h = go (Rules.drops c (m .bounds)) refl h (dropped-true cs m)

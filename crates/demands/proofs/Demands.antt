@@ -2,6 +2,7 @@
 use Rattle.demands.specs.Demands.{Demand1, Demand2, Demand3}
 use Rattle.demands.proofs.Starts.{read-from-the-highest, latest-stops}
 use Rattle.demands.proofs.Ordered.{removal-keeps-order}
+use Rattle.demands.proofs.Bundled.{removal-keeps-a-bundle}
 use Rattle.demands.proofs.Readable.{true-is-readable}
 use Rattle.demands.proofs.FirstSentence.{first-sentence, full-log-is-history}
 use Rattle.demands.proofs.LastSentence.{last-sentence, stopped-halfway}
@@ -15,6 +16,7 @@ use Rattle.demands.proofs.CleaningExactly.{cleaning-exactly}
 use Rattle.demands.proofs.Replayed.{replays-exactly}
 use Rattle.demands.proofs.Places.{rows-stand-in-the-bundle}
 use Rattle.demands.proofs.Choosing.{picks-exactly, keeps-exactly, writable-exactly}
+use Rattle.demands.proofs.Skipping.{skipped-held-nothing}
 use Rattle.demands.proofs.Showing.{path-is-shown, records-are-shown, directory-is-shown}
 use Rattle.demands.proofs.WrongPrograms.{none-keeps-the-promise}
 
@@ -41,6 +43,7 @@ demand-2 = record {
   verdict = writable-exactly;
   picked = picks-exactly;
   kept = keeps-exactly;
+  skipped = skipped-held-nothing;
   named = named-exactly;
   reading = reading-exactly;
   keeping = keeping-exactly;
@@ -54,6 +57,7 @@ demand-3 = record {
   example = answers-hold;
   readable = true-is-readable;
   removal = removal-keeps-order;
+  bundled = removal-keeps-a-bundle;
   whole = full-log-is-history;
   first = first-sentence;
   last = last-sentence;

@@ -1,6 +1,9 @@
 pub mod Starts
 pub mod Removal
 pub mod Ordered
+pub mod LittleEndian
+pub mod KeptFiles
+pub mod Bundled
 pub mod Readable
 pub mod FirstSentence
 pub mod Upward
@@ -18,6 +21,7 @@ pub mod CleaningExactly
 pub mod Replayed
 pub mod Places
 pub mod Choosing
+pub mod Skipping
 pub mod Showing
 pub mod WrongPrograms
 pub mod Demands

@@ -7,7 +7,7 @@ use Rattle.facts.proofs.Lists.{All-weaken}
 use Rattle.rules.specs.Bytes.{Bytes, less, order}
 use Rattle.rules.specs.Bundle.{File}
 use Rattle.rules.proofs.Order.{order-trans, order-less-ne}
-use Rattle.rules.proofs.Ascending.{Ascends}
+use Rattle.rules.specs.Keyed.{Ascends}
 use Rattle.rules.proofs.Bundles.{paddedName, paddedName-same, bundle-sound}
 use Rattle.demands.specs.Removed.{SameFile, Without, end, keep, remove, Among, LeftOf, RemovalKeepsOrder}
 

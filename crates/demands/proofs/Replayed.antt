@@ -17,8 +17,8 @@ use Rattle.rules.specs.Reading.{stateBy}
 use Rattle.rules.specs.Refusals.{accepted, _>>=_, orRefuse, require, malformed, noVersionZero, notKept}
 use Rattle.rules.proofs.Tests.{apart, by}
 use Rattle.rules.proofs.Order.{same-true, same-false}
-use Rattle.rules.proofs.Ascending.{Ascends}
-use Rattle.rules.proofs.Live.{lookup, lookup-put, lookup-put-other, lookup-takeOut, lookup-takeOut-other}
+use Rattle.rules.specs.Keyed.{Ascends, lookup}
+use Rattle.rules.proofs.Live.{lookup-put, lookup-put-other, lookup-takeOut, lookup-takeOut-other}
 use Rattle.rules.proofs.Replaying.{bind-accepted, withinLimit-accepted, effect-ascends, Ordered, stateBy-live}
 use Rattle.rules.proofs.Answers.{orRefuse-accepted}
 use Rattle.rules.proofs.Moving.{follow-table}

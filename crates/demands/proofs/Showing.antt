@@ -6,54 +6,22 @@ use mathlib.Core.Option.{Option, none, some}
 use mathlib.Core.List.{List, [], _∷_, _++_}
 use Prim.Native.Nat.{ℕ}
 use lib.Dec.{eqb}
-use lib.ListN.{length}
+use lib.ListN.{take, drop, take-append-drop}
 use borrow.Author.Tests.{eqb-true}
-use Rattle.rules.specs.Bytes.{Bytes, guard, ascii, among, begins}
+use Rattle.rules.specs.Bytes.{Bytes, ascii, begins}
 use Rattle.rules.specs.Json.Text.{Text}
 use Rattle.rules.specs.Json.Values.{Member, objectOf}
-use Rattle.rules.specs.Json.Numbers.{whole}
-use Rattle.rules.specs.Json.Fields.{once, optional, ifThere, stringOf, unquoted, boolOf, stringAt, wholeAt}
-use Rattle.rules.specs.Actions.{inAction, Facts, pathAt, partitionValuesAt, addOf, protocolOf, metaDataOf, Key, keyAdd, keyRemove, keyProtocol, keyMetaData, keyMergeskip, keyOther, keyOf, Action, add, remove, protocol, metaData, mergeskip, other, actionBy, lineMember, action, isLine, orNothing, pathWritten, pathIn, pathShown, noAdd, recordsIn, recordsShown}
+use Rattle.rules.specs.Json.Fields.{once, stringOf, unquoted}
+use Rattle.rules.specs.Actions.{inAction, Facts}
+use Rattle.rules.specs.Actions.{Action, add, remove, protocol, metaData, mergeskip, other, lineMember, action}
+use Rattle.rules.specs.Actions.{isLine, orNothing, pathWritten, pathIn, pathShown, pathPlace, noAdd, recordsIn, recordsShown}
 use Rattle.rules.specs.Manifests.{slash, hasSlash, beforeLastSlash, standsAsIs, directory}
 use Rattle.rules.proofs.Tests.{apart, true-not-false, or-cases, and-right}
-use Rattle.rules.proofs.Json.Suffix.{some-same, bound}
-use Rattle.rules.proofs.TextParts.{pathShown-part}
+use Rattle.rules.proofs.Adds.{addOf-path, pathAt-once, action-add}
+use Rattle.rules.proofs.PathPlaces.{place-shown, place-within, place-nothing}
 use Rattle.demands.specs.Showing.{IsAdd, PathIsShown, RecordsAreShown, DirectoryIsShown}
 
 -- ---- a well-formed add
-
-add-same : {f g : Facts} → _≡_ {A = Option Action} (some (add f)) (some (add g)) → f ≡ g
-add-same e = cc
-
-addOf-path : (ms : List Member) (f : Facts) → addOf ms ≡ some f → pathAt ms ≡ some (f .path)
-unfolding addOf
-addOf-path ms f e =
-    bound (pathAt ms) _ e (λ p a b.
-    bound (wholeAt "size" ms) _ b (λ n _ c.
-    bound (wholeAt "modificationTime" ms) _ c (λ t _ d.
-    bound (once "dataChange" ms) _ d (λ v _ g.
-    bound (boolOf v) _ g (λ _ _ h.
-    bound (partitionValuesAt ms) _ h (λ ps _ i.
-    bound (optional "numRecords" ms) _ i (λ r _ j.
-    bound (ifThere whole r) _ j (λ q _ k. a ∙ ap (λ (x : Facts). some (x .path)) (some-same k)))))))))
-
-pathAt-once : (ms : List Member) (p : Bytes) → pathAt ms ≡ some p → (v : Text) × (once "path" ms ≡ some v) × (stringOf v ≡ some p)
-unfolding pathAt stringAt
-pathAt-once ms p e = bound (stringAt "path" ms) _ e (λ x a b. bound (once "path" ms) _ a (λ v c d. bound (guard (among 1 512 (length x))) _ b (λ _ _ g. (v, c, d ∙ g))))
-
--- only an add's key makes an add
-actionBy-add : (k : Key) (v : Text) (f : Facts) → actionBy k v ≡ some (add f) → (ms : List Member) × (objectOf inAction v ≡ some ms) × (addOf ms ≡ some f)
-unfolding actionBy
-actionBy-add keyAdd v f h = bound (objectOf inAction v) _ h (λ ms a b. bound (addOf ms) _ b (λ g c d. (ms, a, c ∙ ap some (add-same d))))
-actionBy-add keyRemove v f h = bound (objectOf inAction v) _ h (λ ms a b. bound (pathAt ms) _ b (λ p c d. apart (cc)))
-actionBy-add keyProtocol v f h = bound (objectOf inAction v) _ h (λ ms a b. bound (protocolOf ms) _ b (λ p c d. apart (cc)))
-actionBy-add keyMetaData v f h = bound (objectOf inAction v) _ h (λ ms a b. bound (metaDataOf ms) _ b (λ m c d. apart (cc)))
-actionBy-add keyMergeskip v f h = apart (cc)
-actionBy-add keyOther v f h = apart (cc)
-
-action-add : (line : Text) (f : Facts) → action line ≡ some (add f) → (m : Member) × (lineMember line ≡ some m) × ((ms : List Member) × (objectOf inAction (m .1) ≡ some ms) × (addOf ms ≡ some f))
-unfolding action
-action-add line f e = bound (lineMember line) _ e (λ m a b. (m, a, actionBy-add (keyOf (m .0)) (m .1) f b))
 
 -- what is shown, by the action that the line says
 shown-by : (line : Bytes) (a : Option Action) → isLine line ≡ true → action line ≡ a → (pathShown line ≡ pathIn a line) × (recordsShown line ≡ recordsIn a)
@@ -118,12 +86,24 @@ kind line = go (isLine line) refl (action line) refl
 
 pub path-is-shown : PathIsShown
 path-is-shown line =
-    let p = pathShown-part line in
-    record { before = p .0; behind = p .1; part = p .2; of-add = shown-add line; of-others = others (kind line) }
+    let a = pathPlace line .0 in
+    let n = pathPlace line .1 in
+    let behind : Bytes = drop n (drop a line) in
+    let whole : take a line ++ (take n (drop a line) ++ behind) ≡ line =
+    ap (λ (t : Bytes). take a line ++ t) (take-append-drop n (drop a line)) ∙ take-append-drop a line in
+    record {
+      before = take a line;
+      behind = behind;
+      part = sym (ap (λ (t : Bytes). take a line ++ (t ++ behind)) (sym (place-shown line)) ∙ whole);
+      within = place-within line;
+      place = place-shown line;
+      of-add = shown-add line;
+      of-others = others (kind line);
+    }
   where
-    others : Kind line → ((f : Facts) → IsAdd line f → ⊥) → pathShown line ≡ []
+    others : Kind line → ((f : Facts) → IsAdd line f → ⊥) → (pathShown line ≡ []) × (pathPlace line ≡ (0, 0))
     others (an-add f h) n = absurd (n f h)
-    others (no-add m p r) n = p
+    others (no-add m p r) n = (p, place-nothing line r)
 
 pub records-are-shown : RecordsAreShown
 unfolding recordsIn

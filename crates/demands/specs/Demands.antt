@@ -2,7 +2,7 @@
 -- so that what is said here of `reading`, `keeping`, `cleaning` and of what is shown is said of the code.
 use Rattle.rules.specs.Edges.{Holds}
 use Rattle.demands.specs.Reaching.{ReadFromTheHighest, OtherFromTheHighest, LatestStopsAtAGap}
-use Rattle.demands.specs.Removed.{RemovalKeepsOrder}
+use Rattle.demands.specs.Removed.{RemovalKeepsOrder, RemovalKeepsABundle}
 use Rattle.demands.specs.FullHistory.{TrueIsReadable}
 use Rattle.demands.specs.FirstSentence.{FirstSentence, FullLogIsHistory}
 use Rattle.demands.specs.LastSentence.{LastSentence, StoppedHalfway}
@@ -13,6 +13,7 @@ use Rattle.demands.specs.CleaningExactly.{CleaningRefusesExactly, NamedE
 use Rattle.demands.specs.Replayed.{ReplaysExactly}
 use Rattle.demands.specs.Places.{RowsStandInTheBundle}
 use Rattle.demands.specs.Choosing.{PicksExactly, KeepsExactly, WritableExactly}
+use Rattle.demands.specs.Skipping.{SkippedHeldNothing}
 use Rattle.demands.specs.Showing.{PathIsShown, RecordsAreShown, DirectoryIsShown}
 use Rattle.demands.specs.WrongPrograms.{NoneKeepsThePromise}
 
@@ -39,6 +40,7 @@ pub record Demand2 : Type 0 where
   pub verdict : WritableExactly
   pub picked : PicksExactly
   pub kept : KeepsExactly
+  pub skipped : SkippedHeldNothing
   pub named : NamedExactly
   pub reading : ReadingRefusesExactly
   pub keeping : KeepingRefusesExactly
@@ -51,6 +53,7 @@ pub record Demand3 : Type 1 where
   pub example : Holds answers
   pub readable : TrueIsReadable
   pub removal : RemovalKeepsOrder
+  pub bundled : RemovalKeepsABundle
   pub whole : FullLogIsHistory
   pub first : FirstSentence
   pub last : LastSentence

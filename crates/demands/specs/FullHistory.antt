@@ -18,6 +18,7 @@ use Rattle.demands.specs.Reaching.{There}
 pub record FullHistory (fs : List File) (n : ℕ) : Type 0 where
   pub all : (w : ℕ) → w ≤ n → There (logOf fs .versionFile w)
   pub nothing-above : (w : ℕ) → n < w → (logOf fs .versionFile w ≡ none) × (logOf fs .checkpointFile w ≡ none)
+  -- a name above 2^63-1 is above n: this is part of "nothing above n"
   pub none-too-large : anyTooLarge fs ≡ false
   pub zero-readable : (f : File) → logOf fs .versionFile 0 ≡ some f → (st : State) × (readZero f ≡ accepted st)
   pub others-readable : (w : ℕ) (f : File) → logOf fs .versionFile (suc w) ≡ some f → wellFormed (f .body) ≡ true

@@ -13,5 +13,6 @@ pub mod CleaningExactly
 pub mod Replayed
 pub mod Places
 pub mod Choosing
+pub mod Skipping
 pub mod WrongPrograms
 pub mod Demands

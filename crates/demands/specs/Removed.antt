@@ -4,7 +4,7 @@ use mathlib.Core.Logic.{_⊎_}
 use mathlib.Core.Bool.{false}
 use mathlib.Core.List.{List, [], _∷_}
 use mathlib.Core.Option.{some}
-use Prim.Native.Nat.{ℕ}
+use Prim.Native.Nat.{ℕ, _<_}
 use Rattle.facts.specs.Lists.{All}
 use Rattle.rules.specs.Bytes.{Bytes}
 use Rattle.rules.specs.Bundle.{File, bundle}
@@ -35,6 +35,16 @@ pub record LeftOf (MayGo : File → Type 0) (fs gs : List File) : Type 0 where
 -- names ascend in both bundles, so that it is the same
 abbrev pub RemovalKeepsOrder : Type 1
 RemovalKeepsOrder = (MayGo : File → Type 0) (s t : Bytes) (fs gs : List File) → bundle s ≡ some fs → bundle t ≡ some gs → LeftOf MayGo fs gs → Without MayGo fs gs
+
+-- ---- any choice of files that is left has a bundle
+
+abbrev pub AreBytes : Bytes → Type 0
+AreBytes s = All (λ (b : ℕ). b < 256) s
+
+-- its files are those that are left, but for their entry numbers and places: none of them may go
+abbrev pub RemovalKeepsABundle : Type 1
+RemovalKeepsABundle = (MayGo : File → Type 0) (s : Bytes) (fs gs : List File) → AreBytes s → bundle s ≡ some fs → Without MayGo fs gs
+    → (t : Bytes) × (hs : List File) × AreBytes t × (bundle t ≡ some hs) × Without (λ f. ⊥) gs hs
 
 -- ---- which may go
 

@@ -3,9 +3,11 @@ use mathlib.Core.Path.{_≡_}
 use mathlib.Core.Bool.{true, false}
 use mathlib.Core.Option.{some}
 use mathlib.Core.List.{[], _∷_, _++_}
+use Prim.Native.Nat.{_+_, _≤_}
+use lib.ListN.{length, take, drop}
 use Rattle.rules.specs.Bytes.{Bytes}
 use Rattle.rules.specs.Json.Fields.{stringOf, unquoted}
-use Rattle.rules.specs.Actions.{Facts, add, action, isLine, pathWritten, pathShown, noAdd, recordsOf, recordsShown}
+use Rattle.rules.specs.Actions.{Facts, add, action, isLine, pathWritten, pathShown, pathPlace, noAdd, recordsOf, recordsShown}
 use Rattle.rules.specs.Manifests.{slash, hasSlash, standsAsIs, directory}
 
 -- ---- given one line
@@ -19,8 +21,10 @@ pub record PathShown (line : Bytes) : Type 0 where
   pub before : Bytes
   pub behind : Bytes
   pub part : line ≡ before ++ (pathShown line ++ behind)
+  pub within : pathPlace line .0 + pathPlace line .1 ≤ length line
+  pub place : take (pathPlace line .1) (drop (pathPlace line .0) line) ≡ pathShown line
   pub of-add : (f : Facts) → IsAdd line f → (v : Bytes) × (pathWritten line ≡ some (unquoted v)) × (stringOf v ≡ some (f .path)) × (pathShown line ≡ unquoted v)
-  pub of-others : ((f : Facts) → IsAdd line f → ⊥) → pathShown line ≡ []
+  pub of-others : ((f : Facts) → IsAdd line f → ⊥) → (pathShown line ≡ []) × (pathPlace line ≡ (0, 0))
 
 abbrev pub PathIsShown : Type 0
 PathIsShown = (line : Bytes) → PathShown line

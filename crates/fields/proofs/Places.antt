@@ -81,7 +81,8 @@ length-slots zero names ps = refl
 length-slots (suc n) [] ps = ap suc (length-slots n [] ps)
 length-slots (suc n) (k ∷ ks) ps = ap suc (length-slots n ks ps)
 
-slots-named : (n : ℕ) (names : List Bytes) (ps : List Placed) (k : ℕ) → k < length names → k < n → getD (slotsOf n names ps) k missing ≡ slotOf (getD names k []) ps missing
+pub slots-named : (n : ℕ) (names : List Bytes) (ps : List Placed) (k : ℕ) → k < length names → k < n
+    → getD (slotsOf n names ps) k missing ≡ slotOf (getD names k []) ps missing
 unfolding slotsOf
 slots-named zero names ps k h l = absurd (omega arith)
 slots-named (suc n) [] ps k h l = absurd (omega arith)

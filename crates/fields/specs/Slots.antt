@@ -9,7 +9,7 @@ use lib.ListN.{length, take, drop, getD, replicate}
 use Rattle.rules.specs.Bytes.{Bytes, same}
 use Rattle.rules.specs.Json.Text.{Text}
 use Rattle.rules.specs.Json.Values.{Member}
-use Rattle.rules.specs.Json.Fields.{under, soleOrNone}
+use Rattle.rules.specs.Json.Fields.{under, sole, soleOrNone}
 use Rattle.fields.specs.Places.{Placed, placesIn}
 use Rattle.fields.specs.declared.notes.Slot.{Slot}
 use Rattle.fields.specs.declared.notes.Fields.{Fields}
@@ -44,6 +44,11 @@ pub record Noted (slots : List Slot) (names k v e : ℕ) (r : List Slot) : Type 
 -- each name's values are in its slot
 abbrev pub Each : Text → (names : List Bytes) → List Member → List Slot → Type 0
 Each s names ms slots = (k : ℕ) → k < length names → Holds s (getD slots k missing) (under (getD names k []) ms)
+
+-- a name's value that stands once begins where its slot says, by the places of the members
+abbrev pub EachLeft : Text → (names : List Bytes) → (lefts : List Member) → List Slot → Type 0
+EachLeft s names lefts slots =
+    (k : ℕ) → k < length names → getD slots k missing .seen ≡ 1 → sole (under (getD names k []) lefts) ≡ some (drop (getD slots k missing .start) s)
 
 -- the slot of a name, with one value more for each member that has it
 unfoldable pub slotOf : (name : Bytes) → List Placed → Slot → Slot

@@ -1,14 +1,24 @@
 -- What is shown of a line in numbers.
 use mathlib.Core.Path.{_≡_, refl, sym, ap, _∙_}
+use Prim.Native.Nat.{ℕ, _-_}
 use Rattle.rules.specs.Json.Text.{Text}
-use Rattle.rules.specs.Actions.{Records, records, missing, noAdd, recordsShown}
+use Rattle.rules.specs.Actions.{Records, records, missing, noAdd, pathPlace, recordsShown}
 use Rattle.shown.specs.Shown.{shownIs}
 use Rattle.shown.specs.declared.Shown.{Shown}
 use Rattle.shown.specs.declared.Shown.the-variants.{Number, Missing, NoAdd}
-use Rattle.firmware.specs.Shows.{recordsBy}
+use Rattle.shown.proofs.Lines.{Standing}
+use Rattle.firmware.specs.Shows.{placeBy, recordsBy}
+use Rattle.firmware.specs.declared.shows.Place.{Place}
 use Rattle.firmware.specs.declared.shows.RecordsShown.{RecordsShown}
 
--- as the code answers it
+-- a path by its start and its length
+pub standing-place : {s : Text} {from to : ℕ} → Standing s from to → _≡_ {A = Place} (record { start = from; length = to - from }) (placeBy (pathPlace s))
+unfolding placeBy
+standing-place {s} {from} {to} w =
+    ap (λ (n : ℕ). record { start = n; length = to - from }) (w .start)
+    ∙ ap (λ (n : ℕ). record { start = pathPlace s .0; length = n }) (w .size)
+
+-- records as the code answers them
 abbrev pub recordsFrom : Shown → RecordsShown
 recordsFrom NoAdd = record { stated = 0; number = 0 }
 recordsFrom Missing = record { stated = 1; number = 0 }

@@ -1,15 +1,11 @@
 -- What C gets of one line.
-use mathlib.Core.Path.{_≡_}
-use Prim.Native.Nat.{_+_, _≤_}
-use lib.ListN.{length, take, drop}
-use Rattle.rules.specs.Json.Text.{Text}
-use Rattle.rules.specs.Actions.{Records, records, missing, noAdd, pathShown}
+use Prim.Native.Nat.{ℕ}
+use Rattle.rules.specs.Actions.{Records, records, missing, noAdd}
 use Rattle.firmware.specs.declared.shows.Place.{Place}
 use Rattle.firmware.specs.declared.shows.RecordsShown.{RecordsShown}
 
-pub record PlaceIs (s : Text) (r : Place) : Type 0 where
-  pub within : r .start + r .length ≤ length s
-  pub shows : take (r .length) (drop (r .start) s) ≡ pathShown s
+unfoldable pub placeBy : ℕ × ℕ → Place
+placeBy p = record { start = p .0; length = p .1 }
 
 unfoldable pub recordsBy : Records → RecordsShown
 recordsBy noAdd = record { stated = 0; number = 0 }

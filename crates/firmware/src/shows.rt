@@ -2,8 +2,8 @@
 use shown::Adding;
 use shown::Shown;
 ghost use mathlib.Core.Path.{_≡_};
-ghost use Rattle.rules.specs.Actions.{recordsShown};
-ghost use Rattle.firmware.specs.Shows.{PlaceIs, recordsBy};
+ghost use Rattle.rules.specs.Actions.{pathPlace, recordsShown};
+ghost use Rattle.firmware.specs.Shows.{placeBy, recordsBy};
 
 // Where the path stands in the line.
 #[repr(C)]
@@ -15,7 +15,7 @@ pub struct Place {
 // The raw path between its quotes, as `shown::path_of`, by its place in the line; of length 0 if the line is no well-formed add.
 #[no_mangle]
 pub extern "C" fn kerumpase_path_of(line: &[u8]) -> Place
-    ensures { λ r. ⌜ PlaceIs (now (line .entry)) r ⌝ }
+    ensures { λ r. ⌜ r ≡ placeBy (pathPlace (now (line .entry))) ⌝ }
 {
     match shown::judge(line) {
         Adding::Writes(from, to, _) => Place {

@@ -4,7 +4,7 @@ use Prim.Native.Nat.{ℕ, zero, suc, _+_, _/_, _%_}
 use Rattle.rules.specs.Bytes.{Bytes, ascii}
 use Rattle.rules.specs.Reading.{theLatest}
 use Rattle.rules.specs.Samples.{json, bundleOf}
-use Rattle.rules.specs.Edges.{Question, read, Says, refusal, v0}
+use Rattle.rules.specs.Edges.{Question, read, Says, listed, refusal, v0}
 
 -- four digits
 unfoldable pub digits4 : ℕ → Bytes
@@ -19,6 +19,11 @@ adds (suc n) =
 unfoldable pub manyLive : ℕ → Bytes
 manyLive n = bundleOf (v0 ∷ record { name = ascii "00000000000000000001.json"; time = 1; body = adds n } ∷ [])
 
--- refused at line 1,025, so the 1,024 lines before it were accepted
+-- n paths in their order, from number k on
+unfoldable pub pathsFrom : (k n : ℕ) → List Bytes
+pathsFrom k zero = []
+pathsFrom k (suc n) = digits4 k ∷ pathsFrom (suc k) n
+
+-- 1,024 live are listed; the 1,025th is refused at its line
 unfoldable pub limits : List (Question × Says)
-limits = (read theLatest "[]" (manyLive 1_025), refusal 7 1 1_025) ∷ []
+limits = (read theLatest "[]" (manyLive 1_024), listed 1 (pathsFrom 0 1_024)) ∷ (read theLatest "[]" (manyLive 1_025), refusal 7 1 1_025) ∷ []

@@ -12,7 +12,7 @@ use Rattle.facts.proofs.Rows.{length-rowsOf}
 use Rattle.rules.specs.Bytes.{Bytes}
 use Rattle.rules.specs.Live.{put, takeOut}
 use Rattle.rules.specs.Json.Text.{Text}
-use Rattle.rules.proofs.Ascending.{Ascends}
+use Rattle.rules.specs.Keyed.{Ascends}
 use Rattle.rules.proofs.Live.{All-put, All-takeOut, ascends-put, ascends-takeOut}
 use Rattle.rules.proofs.Searching.{put-found, takeOut-found, bracket-put, bracket-takeOut}
 use Rattle.strings.specs.Decoded.{WellSpelled}

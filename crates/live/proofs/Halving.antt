@@ -7,7 +7,8 @@ use Rattle.facts.proofs.Lists.{All-at}
 use Rattle.facts.proofs.Rows.{length-rowsOf}
 use Rattle.rules.specs.Bytes.{Bytes, Order as rOrder, less, equal, more, order}
 use Rattle.rules.specs.Json.Text.{Text}
-use Rattle.rules.proofs.Searching.{Bracket, bracket-start, bracket-up, bracket-down, bracket-hit}
+use Rattle.rules.specs.Keyed.{Bracket}
+use Rattle.rules.proofs.Searching.{bracket-start, bracket-up, bracket-down, bracket-hit}
 use Rattle.strings.specs.Decoded.{WellSpelled}
 use Rattle.values.specs.Answers.{orderIs, orderOf}
 use Rattle.values.proofs.Back.{order-back}

@@ -7,8 +7,7 @@ use lib.ListN.{length, drop}
 use Rattle.facts.specs.Lists.{All}
 use Rattle.rules.specs.Bytes.{Bytes}
 use Rattle.rules.specs.Json.Text.{Text}
-use Rattle.rules.proofs.Ascending.{Ascends}
-use Rattle.rules.proofs.Searching.{Bracket}
+use Rattle.rules.specs.Keyed.{Ascends, Bracket}
 use Rattle.strings.specs.Decoded.{decoded, WellSpelled}
 use Rattle.table.specs.Table.{row, rows, rowAt, Room, behind}
 use Rattle.table.specs.declared.Cells.{Cells}

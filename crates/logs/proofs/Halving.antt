@@ -2,8 +2,8 @@
 use mathlib.Core.Path.{_≡_, sym, ap, _∙_}
 use Prim.Native.Nat.{ℕ, _+_, _≤_, _<_}
 use Rattle.rules.specs.Bytes.{Bytes, Order, less, equal, more, order}
-use Rattle.rules.proofs.Live.{lookup}
-use Rattle.rules.proofs.Searching.{Bracket, bracket-up, bracket-down, bracket-hit, lookup-found}
+use Rattle.rules.specs.Keyed.{lookup, Bracket}
+use Rattle.rules.proofs.Searching.{bracket-up, bracket-down, bracket-hit, lookup-found}
 use Rattle.values.specs.Answers.{orderIs, orderOf}
 use Rattle.values.specs.declared.Order.the-variants.{Less, Equal, More}
 use Rattle.values.proofs.Back.{order-back}

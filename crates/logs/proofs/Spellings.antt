@@ -16,7 +16,7 @@ use Rattle.rules.specs.Names.{Name, checkpoint, marker, other, numbered, withEn
 use Rattle.rules.specs.Starts.{find}
 use Rattle.rules.proofs.Tests.{apart, by, false-of, tests-equal}
 use Rattle.rules.proofs.Order.{same-true, same-false, eq-same, ne-same}
-use Rattle.rules.proofs.Live.{lookup}
+use Rattle.rules.specs.Keyed.{lookup}
 use Rattle.values.proofs.Decimals.{decimal-start}
 use Rattle.bundle.proofs.Choices.{bind-some, guard-some, some-is}
 use Rattle.logs.specs.Logs.{title, digits}

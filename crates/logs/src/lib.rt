@@ -8,7 +8,7 @@ ghost use Prim.Native.Nat.{_≤_, _<_};
 ghost use lib.ListN.{length, take, drop, getD};
 ghost use Rattle.rules.specs.Bundle.{bundle as rBundle};
 ghost use Rattle.rules.specs.Starts.{logOf};
-ghost use Rattle.rules.proofs.Live.{lookup};
+ghost use Rattle.rules.specs.Keyed.{lookup};
 ghost use Rattle.bundle.specs.Files.{isSome, filesIn};
 ghost use Rattle.logs.specs.Logs.{title, twenty, PlaceIs};
 

@@ -17,9 +17,9 @@ use Rattle.rules.specs.Numbers.{little}
 use Rattle.rules.specs.Bundle.{Entry, File, mostBytes, mostEntries, entryBytes, field, entryOf, entries, unpadded, nameIn, ascending, filesFrom, filesOf, bundle}
 use Rattle.rules.specs.Names.{Name, nameOf, versionIn, checkpointIn, is}
 use Rattle.rules.specs.Starts.{find}
+use Rattle.rules.specs.Keyed.{Ascends}
 use Rattle.rules.proofs.Tests.{apart}
 use Rattle.rules.proofs.Order.{order-trans, order-less-ne}
-use Rattle.rules.proofs.Ascending.{Ascends}
 use Rattle.rules.proofs.SoleNames.{bind-some, guard-some, OneName, one-version, one-checkpoint, unpadded-once, withZeros, unpadded-zeros}
 
 -- ---- files beside their entries

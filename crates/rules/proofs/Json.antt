@@ -13,3 +13,4 @@ pub mod InPlace
 pub mod Places
 pub mod Extends
 pub mod Fields
+pub mod Lefts

@@ -23,4 +23,7 @@ pub mod SoleNames
 pub mod Bundles
 pub mod Readings
 pub mod Telling
-pub mod TextParts
+pub mod Suffixes
+pub mod Adds
+pub mod MemberPlaces
+pub mod PathPlaces

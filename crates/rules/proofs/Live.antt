@@ -2,24 +2,20 @@
 use mathlib.Core.Path.{_≡_, refl, sym, ap, _∙_}
 use mathlib.Core.Logic.{_⊎_, inl, inr}
 use mathlib.Core.Bool.{true, false}
-use mathlib.Core.Option.{Option, none, some}
+use mathlib.Core.Option.{none, some}
 use mathlib.Core.List.{List, [], _∷_, map}
 use Prim.Native.Nat.{suc, _≤_}
 use native.Mathlib.Omega.{arith}
 use lib.ListN.{length}
 use Rattle.facts.specs.Lists.{All}
 use Rattle.facts.proofs.Lists.{All-weaken}
-use Rattle.rules.specs.Bytes.{Bytes, Order, less, equal, more, order, same, holds}
+use Rattle.rules.specs.Bytes.{Bytes, Order, less, equal, more, order, holds}
 use Rattle.rules.specs.Live.{put, putBeside, takeOut, takeIf}
+use Rattle.rules.specs.Keyed.{Below, Ascends, lookup}
 use Rattle.rules.proofs.Tests.{apart, by, true-not-false}
 use Rattle.rules.proofs.Order.{eq-order, order-equal, more-less, order-more-ne, eq-same, ne-same, same-or-not}
 use Rattle.rules.proofs.Holding.{holds-head, holds-past}
-use Rattle.rules.proofs.Ascending.{Below, Ascends, ascends-cons, below-not-held}
-
--- the one whose key is k
-unfoldable pub lookup : {A : Type 0} → (A → Bytes) → Bytes → List A → Option A
-lookup key k [] = none
-lookup key k (x ∷ xs) = elim (same k (key x)) [ true ↦ some x | false ↦ lookup key k xs ]
+use Rattle.rules.proofs.Ascending.{ascends-cons, below-not-held}
 
 module _ {A : Type 0} (key : A → Bytes) where
   -- ---- at the head

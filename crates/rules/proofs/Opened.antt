@@ -72,6 +72,10 @@ unfoldable pub inActions : Unit {0}
 unfolding Actions.inLine Actions.inAction Actions.inField Actions.pathAt Actions.pairs Actions.partitionValuesAt Actions.addOf Actions.unstated Actions.protocolNumberAt Actions.orEmpty Actions.featuresAt Actions.protocolOf Actions.mostColumns Actions.metaDataOf Actions.keyOf Actions.actionBy Actions.onlyOne Actions.lineMember Actions.action Actions.isLine Actions.orNothing Actions.pathWritten Actions.pathIn Actions.pathShown Actions.recordsOf Actions.recordsIn Actions.recordsShown
 inActions = tt
 
+unfoldable pub inPathPlaces : Unit {0}
+unfolding JsonValues.memberLeft JsonValues.membersLeft Actions.pathLeft Actions.startOf Actions.startIn Actions.pathStart Actions.pathPlace Examples.places
+inPathPlaces = tt
+
 unfoldable pub inLive : Unit {0}
 unfolding Live.mostLive Live.pathOf Live.putBeside Live.takeIf Live.put Live.takeOut
 inLive = tt
@@ -136,10 +140,22 @@ unfoldable pub inEdges : Unit {0}
 unfolding Edges.saysState Edges.saysListing Edges.saysNumbers Edges.noTable Edges.rule Edges.addOf Edges.removeOf Edges.v0 Edges.v1 Edges.v3 Edges.c2 Edges.m2 Edges.edges
 inEdges = tt
 
+unfoldable pub inNamesAndNumbers : Unit {0}
+unfolding Edges.beside Edges.comparing
+inNamesAndNumbers = tt
+
 unfoldable pub inExamples : Unit {0}
 unfolding Examples.sized Examples.school Examples.listings Examples.protocolled Examples.reader Examples.cleanable Examples.agreeing Examples.sides Examples.pupil Examples.pupils Examples.tempting Examples.manifestList Examples.countFrom Examples.stateOf Examples.refusals
 inExamples = tt
 
+unfoldable pub inTexts : Unit {0}
+unfolding inBytes inNumbers inBundle inNames inJsonText inJsonNumbers inJsonStrings inJsonValues inJsonFields inLines inActions inPathPlaces
+inTexts = tt
+
+unfoldable pub inTables : Unit {0}
+unfolding inSamples inEdges inNamesAndNumbers inExamples
+inTables = tt
+
 unfoldable pub rules : Unit {0}
-unfolding inBytes inNumbers inBundle inNames inJsonText inJsonNumbers inJsonStrings inJsonValues inJsonFields inLines inActions inLive inHistory inStarts inMarker inGate inQuery inPicking inManifests inRooms inReading inKeeping inAgreement inCleaning inProgram inSamples inEdges inExamples
+unfolding inTexts inLive inHistory inStarts inMarker inGate inQuery inPicking inManifests inRooms inReading inKeeping inAgreement inCleaning inProgram inTables
 rules = tt

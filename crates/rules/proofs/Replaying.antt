@@ -20,8 +20,8 @@ use Rattle.rules.specs.Refusals.{Refusal, Answer, accepted, refused, _>>
 use Rattle.rules.specs.History.{State, Said, effect, withinLimit, readLine, readLines, readFile, saidNothing, zeroLines, orUnstated, readZero}
 use Rattle.rules.specs.Starts.{Log, Way, fromZero, fromCheckpoint, andThen, nothingLive, follow}
 use Rattle.rules.specs.Reading.{stateBy}
+use Rattle.rules.specs.Keyed.{Ascends}
 use Rattle.rules.proofs.Tests.{apart}
-use Rattle.rules.proofs.Ascending.{Ascends}
 use Rattle.rules.proofs.Lines.{lines-part, lines-part-none}
 use Rattle.rules.proofs.Live.{ascends-put, ascends-takeOut}
 

@@ -14,11 +14,12 @@ use Rattle.facts.specs.Rows.{insertAt, removeAt}
 use Rattle.facts.proofs.Lists.{All-at, getD-map}
 use Rattle.rules.specs.Bytes.{Bytes, less, equal, more, order, holds}
 use Rattle.rules.specs.Live.{put, takeOut}
+use Rattle.rules.specs.Keyed.{Below, Ascends, lookup, Bracket}
 use Rattle.rules.proofs.Tests.{by}
 use Rattle.rules.proofs.Order.{order-trans, order-trans-more, order-equal, less-more, more-less, order-less-ne, order-more-ne}
 use Rattle.rules.proofs.Holding.{nowhere-holds}
-use Rattle.rules.proofs.Ascending.{Ascends, Below, ascends-at}
-use Rattle.rules.proofs.Live.{lookup, put-below, put-over, put-past, takeOut-here, takeOut-past, takeOut-none, lookup-here, lookup-past, lookup-none}
+use Rattle.rules.proofs.Ascending.{ascends-at}
+use Rattle.rules.proofs.Live.{put-below, put-over, put-past, takeOut-here, takeOut-past, takeOut-none, lookup-here, lookup-past, lookup-none}
 
 module _ {A : Type 0} (key : A → Bytes) where
   -- ---- at the place m of the key
@@ -51,12 +52,6 @@ module _ {A : Type 0} (key : A → Bytes) where
       ∙ lookup-found k xs m d (s .1) (le-of-suc-le-suc l) e
 
 -- ---- a search by halves: the keys before lo are below k, and those from hi on above
-
-pub record Bracket {A : Type 0} (key : A → Bytes) (k : Bytes) (xs : List A) (d : A) (lo hi : ℕ) : Type 0 where
-  pub lo-le : lo ≤ hi
-  pub hi-le : hi ≤ length xs
-  pub below : (j : ℕ) → j < lo → order (key (getD xs j d)) k ≡ less
-  pub above : (j : ℕ) → hi ≤ j → j < length xs → order (key (getD xs j d)) k ≡ more
 
 module _ {A : Type 0} (key : A → Bytes) where
   -- at the place m where the key would stand

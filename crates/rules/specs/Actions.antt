@@ -2,14 +2,14 @@
 use mathlib.Core.Bool.{Bool, true, false}
 use mathlib.Core.Option.{Option, none, some}
 use mathlib.Core.List.{List, [], _∷_}
-use Prim.Native.Nat.{ℕ}
+use Prim.Native.Nat.{ℕ, _-_}
 use Prim.Native.String.{String}
 use lib.Dec.{eqb, leb}
 use lib.ListN.{length}
 use Rattle.rules.specs.Bytes.{Bytes, ascii, _>>=_, guard, first, among, same, distinct, firsts}
-use Rattle.rules.specs.Json.Text.{Text}
+use Rattle.rules.specs.Json.Text.{Text, byte}
 use Rattle.rules.specs.Json.Numbers.{whole}
-use Rattle.rules.specs.Json.Values.{Member, objectOf}
+use Rattle.rules.specs.Json.Values.{Member, objectOf, membersLeft}
 use Rattle.rules.specs.Json.Fields.{once, optional, ifThere, stringAt, wholeAt, boolOf, stringOrNull, stringsOf, unquoted}
 
 -- JSON nests at most 32 objects and arrays deep, line object included: what stands inside of 1, 2 and 3 of them
@@ -221,6 +221,35 @@ pathIn (some other) line = []
 -- the raw path between its quotes; empty if the line is no well-formed add
 unfoldable pub pathShown : Text → Text
 pathShown line = elim (isLine line) [ true ↦ pathIn (action line) line | false ↦ [] ]
+
+-- all that is left of the line behind the path's opening quote
+unfoldable pub pathLeft : Text → Option Text
+pathLeft line = do
+  ms ← membersLeft inLine line
+  m ← onlyOne ms
+  fs ← membersLeft inAction (m .1)
+  v ← once "path" fs
+  byte 0x22 v
+
+unfoldable pub startOf : Text → (left : Option Text) → ℕ
+startOf line none = 0
+startOf line (some t) = length line - length t
+
+unfoldable pub startIn : Option Action → Text → ℕ
+startIn none line = 0
+startIn (some (add f)) line = startOf line (pathLeft line)
+startIn (some (remove p)) line = 0
+startIn (some (protocol p)) line = 0
+startIn (some (metaData m)) line = 0
+startIn (some mergeskip) line = 0
+startIn (some other) line = 0
+
+unfoldable pub pathStart : Text → ℕ
+pathStart line = elim (isLine line) [ true ↦ startIn (action line) line | false ↦ 0 ]
+
+-- it is shown as a part of that line: where the part starts, and its length; (0, 0) if the line is no well-formed add
+unfoldable pub pathPlace : Text → ℕ × ℕ
+pathPlace line = (pathStart line, length (pathShown line))
 
 pub data Records : Type 0 where
   records : ℕ → Records

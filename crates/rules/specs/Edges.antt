@@ -8,11 +8,12 @@ use lib.IntN.{pos}
 use Rattle.rules.specs.Bytes.{Bytes, ascii}
 use Rattle.rules.specs.Names.{Name, version, checkpoint, tooLarge, nameOf}
 use Rattle.rules.specs.Lines.{lines}
-use Rattle.rules.specs.Actions.{MetaData}
+use Rattle.rules.specs.Actions.{MetaData, pathPlace}
 use Rattle.rules.specs.Live.{mostLive, pathOf}
 use Rattle.rules.specs.History.{State, readLines}
 use Rattle.rules.specs.Starts.{nothingLive}
-use Rattle.rules.specs.Query.{Number, number, outOfRange, numberOf, asText, Op, gt, ge}
+use Rattle.rules.specs.Query.{Number, number, outOfRange, numberOf, asText, asNumber, Op, eq, lt, le, gt, ge}
+use Rattle.rules.specs.Picking.{meetsAs}
 use Rattle.rules.specs.Manifests.{outsideAs}
 use Rattle.rules.specs.Rooms.{rowsRoom, keptRoom, namesRoom}
 use Rattle.rules.specs.Reading.{Asked, theLatest, theVersion, Listing, reading}
@@ -27,12 +28,14 @@ use Rattle.rules.specs.Samples.{Sample, json, bodyOf, file, bundleOf}
 pub data Question : Type 0 where
   name : String → Question
   numeral : String → Question
+  meet : Op → (value bound : String) → Question
   apply : List String → Question
   drops : Op → (bound min max : String) → Question
   read : Asked → (query : String) → (bundle : Bytes) → Question
   keep : (state query : Bytes) → Question
   clean : (now retention : ℕ) → (bundle : Bytes) → Question
   print : (bundle : Bytes) → Question
+  show : (line : String) → Question
 
 pub data Says : Type 0 where
   named : Name → Says
@@ -42,6 +45,7 @@ pub data Says : Type 0 where
   listed : (version : ℕ) (paths : List Bytes) → Says
   numbers : List ℕ → Says
   text : Bytes → Says
+  place : (start length : ℕ) → Says
   refusal : (number entry line : ℕ) → Says
 
 unfoldable pub saysState : Answer State → Says
@@ -62,19 +66,21 @@ noTable = record { id = []; partitionColumns = [] }
 unfoldable pub rule : Question → Says
 rule (name s) = named (nameOf (ascii s))
 rule (numeral s) = value (numberOf (ascii s))
+rule (meet op x b) = test (meetsAs asNumber op (ascii x) (ascii b))
 rule (apply ls) = saysState (readLines mostLive 0 1 0 (lines (bodyOf ls)) (nothingLive noTable))
 rule (drops op b lo hi) = test (outsideAs asText op (ascii b) (ascii lo) (ascii hi))
 rule (read asked q s) = saysListing (reading rowsRoom s (json q) asked)
 rule (keep state q) = saysNumbers (keeping keptRoom state q)
 rule (clean now retention s) = saysNumbers (cleaning (record { names = namesRoom; table₁ = rowsRoom; table₂ = rowsRoom }) s now retention)
 rule (print s) = text (printed s)
+rule (show l) = let p = pathPlace (json l) in place (p .0) (p .1)
 
 -- each question of the table is answered as its row says
 abbrev pub Holds : List (Question × Says) → Type 0
 Holds [] = Unit {0}
 Holds (row ∷ rows) = (rule (row .0) ≡ row .1) × Holds rows
 
--- ---- the files of P10 and P11
+-- ---- the files of P2, P3, P10 and P11
 
 unfoldable pub addOf : (path : String) → String
 addOf p = "{'add':{'path':'" +++ p +++ "','size':1,'modificationTime':1,'dataChange':true,'partitionValues':{}}}"
@@ -86,6 +92,14 @@ unfoldable pub v0 : Sample
 v0 =
     file "00000000000000000000.json" 0
     ("{'protocol':{'minReaderVersion':1,'minWriterVersion':2}}" ∷ "{'metaData':{'id':'t','partitionColumns':[]}}" ∷ [])
+
+-- version 0, and a version file of that name
+unfoldable pub beside : String → Bytes
+beside n = bundleOf (v0 ∷ file n 0 [] ∷ [])
+
+-- a query for values under "number"
+unfoldable pub comparing : (value : String) → String
+comparing v = "[{'column':'n','as':'number','op':'ge','value':'" +++ v +++ "'}]"
 
 unfoldable pub v1 : Sample
 v1 = file "00000000000000000001.json" 1 (addOf "a.split" ∷ [])
@@ -105,10 +119,20 @@ unfoldable pub edges : List (Question × Says)
 edges =
     (name "00000000000000000010.json", named (version 10))  -- P1
     ∷ (name "09223372036854775807.json", named (version 9_223_372_036_854_775_807))  -- P2
+    ∷ (read theLatest "[]" (beside "09223372036854775807.json"), listed 0 [])
     ∷ (name "09223372036854775808.json", named tooLarge)  -- P3
+    ∷ (read theLatest "[]" (beside "09223372036854775808.json"), refusal 3 0 0)
     ∷ (numeral "09", value (number (pos 9)))  -- P4
     ∷ (numeral "-0", value (number (pos 0)))  -- P5
-    ∷ (numeral "9223372036854775808", value outOfRange)  -- P6
+    ∷ (numeral "9223372036854775808", value outOfRange)  -- P6: it meets no condition, and makes a query malformed; one less does not
+    ∷ (meet eq "9223372036854775808" "9223372036854775807", test false)
+    ∷ (meet lt "9223372036854775808" "9223372036854775807", test false)
+    ∷ (meet le "9223372036854775808" "9223372036854775807", test false)
+    ∷ (meet gt "9223372036854775808" "9223372036854775807", test false)
+    ∷ (meet ge "9223372036854775808" "9223372036854775807", test false)
+    ∷ (read theLatest (comparing "9223372036854775808") (bundleOf (v0 ∷ [])), refusal 10 0 0)
+    ∷ (meet ge "9223372036854775807" "9223372036854775807", test true)
+    ∷ (read theLatest (comparing "9223372036854775807") (bundleOf (v0 ∷ [])), refusal 11 0 0)
     ∷ (apply (addOf "a\\u002fb" ∷ addOf "a/b" ∷ []), live (ascii "a/b" ∷ []))  -- P7
     ∷ (apply (removeOf "a" ∷ addOf "a" ∷ []), live (ascii "a" ∷ []))  -- P8
     ∷ (apply (addOf "a" ∷ removeOf "a" ∷ []), live [])  -- P9

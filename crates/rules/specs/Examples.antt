@@ -1,5 +1,5 @@
--- Examples beside P1 to P12, in tables of the same form: the program's listing, both sides of edges, the tempting and wrong readings,
--- and a small case for each refusal number.
+-- Examples beside P1 to P12, in tables of the same form: the program's listing, places of paths, both sides of edges, the tempting and
+-- wrong readings, and a small case for each refusal number.
 use mathlib.Core.List.{List, [], _∷_, _++_}
 use Prim.Native.Nat.{ℕ, zero, suc}
 use Prim.Native.String.{String, _++_ as _+++_}
@@ -9,7 +9,8 @@ use Rattle.rules.specs.Names.{version, other, tooLarge}
 use Rattle.rules.specs.Query.{number}
 use Rattle.rules.specs.Reading.{theLatest, theVersion}
 use Rattle.rules.specs.Samples.{Sample, json, file, bundleOf}
-use Rattle.rules.specs.Edges.{Question, name, numeral, apply, read, keep, clean, print, Says, named, value, live, listed, numbers, text, refusal, addOf, removeOf, v0, v1, v3, c2, m2}
+use Rattle.rules.specs.Edges.{Question, name, numeral, apply, read, keep, clean, print, show, Says, named, value, live, listed, numbers, text, place}
+use Rattle.rules.specs.Edges.{refusal, addOf, removeOf, v0, beside, v1, v3, c2, m2}
 
 -- ---- the Program section's example, down to the printed text
 
@@ -30,6 +31,22 @@ listings =
     (print school, text (ascii "version 3 files 1 reader 1 writer 2 writable yes\n\"b.split\" 60 7 -\n"))
     ∷ (print (bundleOf []), text (ascii "refused 4 entry 0 line 0\n"))
     ∷ (print (bundleOf (v0 ∷ file "00000000000000000001.json" 1 (addOf "a" ∷ "" ∷ "{'add':{}}" ∷ []) ∷ [])), text (ascii "refused 6 entry 1 line 3\n"))
+    ∷ []
+
+-- ---- where the path stands in its line, by start and length
+
+unfoldable pub places : List (Question × Says)
+places =
+    (show (addOf "a"), place 16 1)
+    -- the same bytes stand earlier: in the key; behind white space, in an unknown field
+    ∷ (show (addOf "add"), place 16 3)
+    ∷ (show " { 'add' : {'copy':'a', 'p\\u0061th' : 'a' ,'size':1,'modificationTime':1,'dataChange':true,'partitionValues':{}}}", place 39 1)
+    -- as it is spelled
+    ∷ (show (addOf "a\\u002fb"), place 16 8)
+    -- no well-formed add: a remove, an add without its size, a line feed
+    ∷ (show (removeOf "a"), place 0 0)
+    ∷ (show "{'add':{'path':'a','modificationTime':1,'dataChange':true,'partitionValues':{}}}", place 0 0)
+    ∷ (show (addOf "a" +++ "\n"), place 0 0)
     ∷ []
 
 -- ---- both sides of edges
@@ -120,7 +137,7 @@ refusals =
     ∷ (read theLatest "[]" (bundleOf (v1 ∷ v0 ∷ [])), refusal 2 0 0)
     ∷ (read theLatest "[]" (bundleOf [] ++ 0 ∷ []), refusal 2 0 0)
     -- 3
-    ∷ (read theLatest "[]" (bundleOf (v0 ∷ file "09223372036854775808.json" 0 [] ∷ [])), refusal 3 0 0)
+    ∷ (read theLatest "[]" (beside "99999999999999999999.checkpoint.json"), refusal 3 0 0)
     -- 4
     ∷ (read theLatest "[]" (bundleOf (v1 ∷ [])), refusal 4 0 0)
     -- 5, also over a broken version 0

@@ -25,3 +25,4 @@ pub mod Same
 pub mod Samples
 pub mod Edges
 pub mod Examples
+pub mod Keyed

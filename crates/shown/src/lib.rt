@@ -2,8 +2,8 @@
 use actions::Action;
 use slots::Records;
 ghost use mathlib.Core.Path.{_≡_};
-ghost use Rattle.rules.specs.Actions.{pathShown, recordsShown};
-ghost use Rattle.shown.specs.Shown.{shownIs, AddingIs};
+ghost use Rattle.rules.specs.Actions.{pathShown, pathPlace, recordsShown};
+ghost use Rattle.shown.specs.Shown.{shownIs, addingIs};
 
 // From where to where an add writes its path, and its number of records; or that there is no add.
 pub enum Adding {
@@ -13,7 +13,7 @@ pub enum Adding {
 
 // What is shown of the line's action.
 pub fn judge(line: &[u8]) -> Adding
-    ensures { λ r. ⌜ AddingIs (now (line .entry)) r ⌝ }
+    ensures { λ r. ⌜ r ≡ addingIs (recordsShown (now (line .entry))) (pathPlace (now (line .entry))) ⌝ }
 {
     if !lines::is_line(line) {
         return Adding::Nothing;

@@ -20,6 +20,7 @@ use Rattle.slots.specs.Inside.{Proper, stringIn}
 use Rattle.slots.specs.Texts.{Read, pathOf, idOf, Told}
 use Rattle.slots.proofs.Single.{proper-single, text-single}
 use Rattle.slots.proofs.Strings.{stringOf-none}
+use Rattle.slots.proofs.Begins.{byte-next}
 use Rattle.slots.proofs.Sizes.{quoted-ends, quoted-read, quoted-most, quoted-least}
 
 module _ {o : Option Bytes} {s : Text} {p n : ℕ} (r : Read o s p) (size : n ≡ length (decoded (drop p s))) where
@@ -57,6 +58,9 @@ module _ (s : Text) (x : Slot) (p : Proper s x) (sole : x .seen ≡ 1) where
   module _ (i : ℕ) (l : i ≤ length s) (b : byte 0x22 (drop (x .start) s) ≡ some (drop i s)) where
     pub path-ends : i + 1 ≤ x .end
     path-ends = let q = proper-single s x sole p in quoted-ends inAction s (x .start) (x .end) (q .0) (q .1) (q .2) i l b
+
+    pub path-next : i ≡ x .start + 1
+    path-next = let q = proper-single s x sole p in byte-next s (x .start) i 0x22 (omega (arith, q .0, q .1)) l b
 
     here : Read (stringIn s x) s i
     here =

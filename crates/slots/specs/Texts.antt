@@ -2,7 +2,7 @@
 use mathlib.Core.Path.{_≡_}
 use mathlib.Core.Bool.{Bool, true, false}
 use mathlib.Core.Option.{Option, none, some}
-use Prim.Native.Nat.{ℕ}
+use Prim.Native.Nat.{ℕ, _+_}
 use lib.Dec.{leb}
 use lib.ListN.{length, drop}
 use Rattle.rules.specs.Bytes.{Bytes, _>>=_, guard, among}
@@ -17,9 +17,10 @@ pub record Read (o : Option Bytes) (s : Text) (p : ℕ) : Type 0 where
   pub spelled : WellSpelled s p
   pub says : o ≡ some (decoded (drop p s))
 
-abbrev pub StringIs : Option Bytes → Text → Wording → Type 0
-StringIs o s (Sized p n) = Read o s p × (n ≡ length (decoded (drop p s)))
-StringIs o s NoString = o ≡ none
+-- the string whose text begins at v; two answers of which this is said are the same (proofs/Alone.antt)
+abbrev pub StringIs : Option Bytes → Text → (v : ℕ) → Wording → Type 0
+StringIs o s v (Sized p n) = Read o s p × (n ≡ length (decoded (drop p s))) × (p ≡ v + 1)
+StringIs o s v NoString = o ≡ none
 
 -- 1 to 512 decoded bytes, as the rules ask of a path
 abbrev pub pathOf : Option Bytes → Option Bytes
@@ -38,6 +39,7 @@ abbrev pub Told : {A : Type 0} → Option A → Bool → Type 0
 Told {A} o true = (a : A) × (o ≡ some a)
 Told o false = o ≡ none
 
-abbrev pub PathIs : Option Bytes → Text → Path → Type 0
-PathIs o s (Spelled p) = Read o s p
-PathIs o s NoPath = o ≡ none
+-- the path whose text begins at v; one answer too
+abbrev pub PathIs : Option Bytes → Text → (v : ℕ) → Path → Type 0
+PathIs o s v (Spelled p) = Read o s p × (p ≡ v + 1)
+PathIs o s v NoPath = o ≡ none

@@ -32,7 +32,7 @@ pub enum Wording {
 // The string whose text stands from v to e.
 pub fn string_at(s: &[u8], v: usize, e: usize) -> Wording
     requires { ⌜ (v ≤ e) × (e ≤ length (now s)) ⌝ }
-    ensures { λ r. ⌜ StringIs (stringOf (take (e - v) (drop v (now (s .entry))))) (now (s .entry)) r ⌝ }
+    ensures { λ r. ⌜ StringIs (stringOf (take (e - v) (drop v (now (s .entry))))) (now (s .entry)) v r ⌝ }
 {
     let Next::At(i) = text::skip_byte(s, v, QUOTE) else {
         return Wording::NoString;
@@ -65,7 +65,7 @@ pub enum Path {
 // The path of a field that stands once. A string of some bytes stands for some, and for no more: only a longer one is measured.
 pub fn path_in(s: &[u8], slot: Slot) -> Path
     requires { ⌜ Proper (now s) slot ⌝ }
-    ensures { λ r. ⌜ PathIs (pathOf (stringIn (now (s .entry)) slot)) (now (s .entry)) r ⌝ }
+    ensures { λ r. ⌜ PathIs (pathOf (stringIn (now (s .entry)) slot)) (now (s .entry)) (slot .start) r ⌝ }
 {
     let start = slot.start;
     let end = slot.end;

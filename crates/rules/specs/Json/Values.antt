@@ -82,6 +82,15 @@ member value t = do
   (text, u) ← spelled value v
   some ((name, text), u)
 
+-- the same by its place: in the place of the value's text all that is left from the value on
+unfoldable pub memberLeft : Reader → Taker Member
+memberLeft value t = do
+  n ← byte 0x22 t
+  (name, r) ← string n
+  v ← colon r
+  u ← value v
+  some ((name, v), u)
+
 -- object = begin-object [ member *( value-separator member ) ] end-object: its members, behind the brace
 unfoldable pub contents : Reader → Taker (List Member)
 contents value = list (member value) 0x7D
@@ -151,3 +160,10 @@ unfoldable pub arrayOf : (d : ℕ) → Text → Option (List Text)
 arrayOf d t = do
   r ← byte 0x5B (ws t)
   alone (elements (value d) r)
+
+-- the object that a text begins with: its members by their places
+unfoldable pub membersLeft : (d : ℕ) → Text → Option (List Member)
+membersLeft d t = do
+  r ← byte 0x7B (ws t)
+  (ms, u) ← list (memberLeft (value d)) 0x7D r
+  some ms

@@ -1,8 +1,7 @@
 -- `records_of` meets its contract.
-use mathlib.Core.Path.{subst}
+use mathlib.Core.Path.{sym, ap, _∙_}
 use borrow.Author.Needs.{needs}
-use Rattle.shown.specs.Shown.{WritesIt, AddingIs}
-use Rattle.shown.proofs.Lines.{shown-records, shown-nothing}
+use Rattle.shown.proofs.Lines.{shownBy, writes-shown, nothing-shown}
 use Rattle.shown.proofs.records_of.Statement.{statement}
 use Rattle.shown.proofs.records_of.Tie as tie
 
@@ -25,16 +24,22 @@ enum-told-3 : tie.Need-enum-told-3
 enum-told-3 c = search needs
 
 returns : tie.Need-returns
-returns c = shown-records (c .before .before .before .before .before .before .before .before .args .line .now) _ (subst (WritesIt _ _ _) (c .before .records2 .given .1) (subst (AddingIs _) (c .before .before .before .before .records .given .1) (c .before .before .before .before .before .before .judge .ensures)))
+returns c =
+    let j = c .before .before .before .before .before .before .judge .ensures in
+    ap shownBy (sym (c .before .records2 .given .1)) ∙ writes-shown _ _ (sym (c .before .before .before .before .records .given .1) ∙ j)
 
 returns-2 : tie.Need-returns-2
-returns-2 c = shown-records (c .before .before .before .before .before .before .before .args .line .now) _ (subst (WritesIt _ _ _) (c .enum-told .given .1) (subst (AddingIs _) (c .before .before .before .records .given .1) (c .before .before .before .before .before .judge .ensures)))
+returns-2 c =
+    let j = c .before .before .before .before .before .judge .ensures in
+    ap shownBy (sym (c .enum-told .given .1)) ∙ writes-shown _ _ (sym (c .before .before .before .records .given .1) ∙ j)
 
 returns-3 : tie.Need-returns-3
-returns-3 c = shown-records (c .before .before .before .before .before .before .before .args .line .now) _ (subst (WritesIt _ _ _) (c .enum-told2 .given .1) (subst (AddingIs _) (c .before .before .before .records .given .1) (c .before .before .before .before .before .judge .ensures)))
+returns-3 c =
+    let j = c .before .before .before .before .before .judge .ensures in
+    ap shownBy (sym (c .enum-told2 .given .1)) ∙ writes-shown _ _ (sym (c .before .before .before .records .given .1) ∙ j)
 
 returns-4 : tie.Need-returns-4
-returns-4 c = shown-nothing (c .before .before .before .before .args .line .now) (subst (AddingIs _) (c .enum-told3 .given .1) (c .before .before .judge .ensures))
+returns-4 c = nothing-shown _ (sym (c .enum-told3 .given .1) ∙ c .before .before .judge .ensures)
 
 pub records-of-spec : {M : Type 1} → statement M
 records-of-spec =

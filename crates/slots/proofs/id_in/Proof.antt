@@ -21,16 +21,20 @@ enum-told : tie.Need-enum-told
 enum-told c = search needs
 
 returns-2 : tie.Need-returns-2
-returns-2 c = ap idOf (sym (text-single (c .before .before .before .before .before .before .args .s .now) (c .before .before .before .before .before .before .args .slot) stringOf (c .before .before .before .if1 .left)) ∙ subst (StringIs _ _) (c .enum-told .given .1) (c .before .before .string-at .ensures))
+returns-2 c =
+    let p = c .before .before .before in
+    let o = p .before .before .before in
+    ap idOf (sym (text-single (o .args .s .now) (o .args .slot) stringOf (p .if1 .left))
+    ∙ subst (StringIs _ _ _) (c .enum-told .given .1) (c .before .before .string-at .ensures))
 
 returns-3 : tie.Need-returns-3
 returns-3 c =
-    let q = subst (StringIs _ _) (c .before .before .n .given .1) (c .before .before .before .before .string-at .ensures) in
+    let q = subst (StringIs _ _ _) (c .before .before .n .given .1) (c .before .before .before .before .string-at .ensures) in
     sym (ap idOf (text-single (c .before .before .before .before .before .before .before .before .args .s .now) (c .before .before .before .before .before .before .before .before .args .slot) stringOf (c .before .before .before .before .before .if1 .left))) ∙ id-empty (q .0) (q .1) (c .if2 .taken)
 
 returns-4 : tie.Need-returns-4
 returns-4 c =
-    let q = subst (StringIs _ _) (c .before .before .n .given .1) (c .before .before .before .before .string-at .ensures) in
+    let q = subst (StringIs _ _ _) (c .before .before .n .given .1) (c .before .before .before .before .string-at .ensures) in
     let t = id-good (q .0) (q .1) (c .if2 .left) in
     (t .0, sym (ap idOf (text-single (c .before .before .before .before .before .before .before .before .args .s .now) (c .before .before .before .before .before .before .before .before .args .slot) stringOf (c .before .before .before .before .before .if1 .left))) ∙ t .1)
 

@@ -6,7 +6,7 @@ use Rattle.rules.specs.Bytes.{Bytes}
 use Rattle.rules.specs.Json.Fields.{stringOf}
 use Rattle.slots.specs.Texts.{Read, StringIs, pathOf}
 use Rattle.slots.proofs.Single.{proper-single, text-single, text-not-single}
-use Rattle.slots.proofs.Paths.{path-long, path-no-string, path-ends, path-unspelled, path-short, path-measured}
+use Rattle.slots.proofs.Paths.{path-long, path-no-string, path-ends, path-next, path-unspelled, path-short, path-measured}
 use native.Mathlib.Omega.{arith}
 use borrow.Author.Needs.{needs}
 use Rattle.slots.proofs.path_in.Statement.{statement}
@@ -56,7 +56,11 @@ returns-4 : tie.Need-returns-4
 returns-4 c =
     let o = c .before .before .before .before .before .before .before .before .before in
     let f = subst (Answer _ _ _) (c .before .before .before .q .given .1) (c .before .before .before .before .before .skip-byte .ensures) in
-    path-short (o .args .s .now) (o .args .slot) (o .pre) (c .before .before .before .before .before .before .if1 .left) (c .before .before .before .q .given .0 .0) (f .2) (f .0) (c .before .if2 .left) (c .if3 .taken)
+    let sole = c .before .before .before .before .before .before .if1 .left in
+    let i = c .before .before .before .q .given .0 .0 in (
+      path-short (o .args .s .now) (o .args .slot) (o .pre) sole i (f .2) (f .0) (c .before .if2 .left) (c .if3 .taken),
+      path-next (o .args .s .now) (o .args .slot) (o .pre) sole i (f .2) (f .0),
+    )
 
 string-at-requires : tie.Need-string-at-requires
 string-at-requires c κs =
@@ -74,13 +78,13 @@ returns-5 : tie.Need-returns-5
 returns-5 c =
     let a = c .before .before .before .before .before .before .before .before .before .before .before .before .args in
     let t = text-single (a .s .now) (a .slot) stringOf (c .before .before .before .before .before .before .before .before .before .if1 .left) in
-    ap pathOf (sym t ∙ subst (StringIs _ _) (c .enum-told2 .given .1) (c .before .before .string-at .ensures))
+    ap pathOf (sym t ∙ subst (StringIs _ _ _) (c .enum-told2 .given .1) (c .before .before .string-at .ensures))
 
 returns-6 : tie.Need-returns-6
 returns-6 c =
     let a = c .before .before .before .before .before .before .before .before .before .before .before .before .before .before .args in
     let t = text-single (a .s .now) (a .slot) stringOf (c .before .before .before .before .before .before .before .before .before .before .before .if1 .left) in
-    let q = subst (StringIs _ _) (c .before .before .p .given .1) (c .before .before .before .before .string-at .ensures) in
+    let q = subst (StringIs _ _ _) (c .before .before .p .given .1) (c .before .before .before .before .string-at .ensures) in
     ap pathOf (sym t) ∙ path-long (q .0) (q .1) (c .if4 .taken)
 
 returns-7 : tie.Need-returns-7
@@ -89,10 +93,13 @@ returns-7 c =
     let sole = c .before .before .before .before .before .before .before .before .before .before .before .if1 .left in
     let t = text-single (o .args .s .now) (o .args .slot) stringOf sole in
     let f = subst (Answer _ _ _) (c .before .before .before .before .before .before .before .before .q .given .1) (c .before .before .before .before .before .before .before .before .before .before .skip-byte .ensures) in
-    let q = subst (StringIs _ _) (c .before .before .p .given .1) (c .before .before .before .before .string-at .ensures) in
+    let q = subst (StringIs _ _ _) (c .before .before .p .given .1) (c .before .before .before .before .string-at .ensures) in
     let j = c .before .before .p .given .0 .0 in
-    path-measured (o .args .s .now) (o .args .slot) (o .pre) sole (c .before .before .before .before .before .before .before .before .q .given .0 .0) (f .2) (f .0) (c .before .before .before .before .before .before .if2 .left) j _
-    (subst (λ (w : Option Bytes). Read w (o .args .s .now) j) t (q .0)) (q .1) (c .if4 .left)
+    let i = c .before .before .before .before .before .before .before .before .q .given .0 .0 in (
+      path-measured (o .args .s .now) (o .args .slot) (o .pre) sole i (f .2) (f .0) (c .before .before .before .before .before .before .if2 .left) j _
+          (subst (λ (w : Option Bytes). Read w (o .args .s .now) j) t (q .0)) (q .1) (c .if4 .left),
+      q .2,
+    )
 
 pub path-in-spec : {M : Type 1} → statement M
 path-in-spec =

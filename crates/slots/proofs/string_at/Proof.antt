@@ -7,6 +7,7 @@ use Rattle.rules.specs.Json.Strings.{string}
 use Rattle.text.specs.Answers.{Answer}
 use Rattle.spellings.specs.Scanned.{Scanned}
 use Rattle.slots.proofs.Strings.{stringOf-none, stringOf-ends, string-read, plain-size}
+use Rattle.slots.proofs.Begins.{byte-next}
 use native.Mathlib.Omega.{arith}
 use borrow.Author.Needs.{needs}
 use Rattle.slots.proofs.string_at.Statement.{statement}
@@ -117,8 +118,11 @@ returns-4 c =
     let f = subst (Scanned _ _) (c .before .before .end .given .1) (c .before .before .before .before .scan-string .ensures) in
     let i = c .before .before .before .before .before .before .i .given .0 .0 in
     let j = c .before .before .end .given .0 .0 in
-    let pre = c .before .before .before .before .before .before .before .before .before .before .pre in
-    (string-read (a .s .now) (a .v) (a .e) (pre .0) (pre .1) i j (c .if1 .left) (q .1) (f .1) (q .0) (ap behind (f .0)), plain-size (a .s .now) i j (f .1) (f .2) (f .0))
+    let pre = c .before .before .before .before .before .before .before .before .before .before .pre in (
+      string-read (a .s .now) (a .v) (a .e) (pre .0) (pre .1) i j (c .if1 .left) (q .1) (f .1) (q .0) (ap behind (f .0)),
+      plain-size (a .s .now) i j (f .1) (f .2) (f .0),
+      byte-next (a .s .now) (a .v) i 0x22 (omega (arith, pre .0, pre .1)) (q .2) (q .0),
+    )
 
 -- src/lib.rt:30:1
 returns-5 : tie.Need-returns-5
@@ -128,8 +132,11 @@ returns-5 c =
     let f = subst (Scanned _ _) (c .before .before .before .end2 .given .1) (c .before .before .before .before .before .scan-string .ensures) in
     let i = c .before .before .before .before .before .before .before .i .given .0 .0 in
     let j = c .before .before .before .end2 .given .0 .0 in
-    let pre = c .before .before .before .before .before .before .before .before .before .before .before .pre in
-    (string-read (a .s .now) (a .v) (a .e) (pre .0) (pre .1) i j (c .before .if2 .left) (q .1) (f .1) (q .0) (f .0), c .decoded-size .ensures)
+    let pre = c .before .before .before .before .before .before .before .before .before .before .before .pre in (
+      string-read (a .s .now) (a .v) (a .e) (pre .0) (pre .1) i j (c .before .if2 .left) (q .1) (f .1) (q .0) (f .0),
+      c .decoded-size .ensures,
+      byte-next (a .s .now) (a .v) i 0x22 (omega (arith, pre .0, pre .1)) (q .2) (q .0),
+    )
 
 -- src/lib.rt:30:1
 returns-6 : tie.Need-returns-6

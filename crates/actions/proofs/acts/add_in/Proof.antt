@@ -30,7 +30,9 @@ enum-told-2 : tie.Need-enum-told-2
 enum-told-2 c = search needs
 
 returns : tie.Need-returns
-returns c = add-no-path (c .before .before .before .before .before .args .s .now) (c .before .before .before .before .before .args .t2) (c .before .before .before .before .before .pre) (subst (PathIs _ _) (c .enum-told2 .given .1) (c .before .before .path-in .ensures))
+returns c =
+    let o = c .before .before .before .before .before in
+    add-no-path (o .args .s .now) (o .args .t2) (o .pre) (subst (PathIs _ _ _) (c .enum-told2 .given .1) (c .before .before .path-in .ensures))
 
 element-copy-out-whole-in : tie.Need-element-copy-out-whole-in
 element-copy-out-whole-in c = search needs
@@ -103,30 +105,55 @@ is-known-requires c κs = search needs
 add-t32 : tie.Need-add-t32
 unfolding namesOf
 add-t32 c =
-    let r = subst (PathIs _ _) (c .before .before .before .before .before .before .before .before .before .before .before .before .before .before .before .before .before .before .before .before .before .before .before .enum-told .given .1) (c .before .before .before .before .before .before .before .before .before .before .before .before .before .before .before .before .before .before .before .before .before .before .before .before .before .path-in .ensures) in
-    let p = path-placed (c .before .before .before .before .before .before .before .before .before .before .before .before .before .before .before .before .before .before .before .before .before .before .before .before .before .before .before .before .args .s .now) (slot (c .before .before .before .before .before .before .before .before .before .before .before .before .before .before .before .before .before .before .before .before .before .before .before .before .before .before .before .before .args .t2) 0) _ (each-inside (c .before .before .before .before .before .before .before .before .before .before .before .before .before .before .before .before .before .before .before .before .before .before .before .before .before .before .before .before .args .s .now) (namesOf Add) (c .before .before .before .before .before .before .before .before .before .before .before .before .before .before .before .before .before .before .before .before .before .before .before .before .before .before .before .before .pre .ms) (c .before .before .before .before .before .before .before .before .before .before .before .before .before .before .before .before .before .before .before .before .before .before .before .before .before .before .before .before .args .t2 .slots) 0 (omega arith) (c .before .before .before .before .before .before .before .before .before .before .before .before .before .before .before .before .before .before .before .before .before .before .before .before .before .before .before .before .pre .each)) (r .says) in
-    let far : slot (c .before .before .before .before .before .before .before .before .before .before .before .before .before .before .before .before .before .before .before .before .before .before .before .before .before .before .before .before .args .t2) 0 .start + 2 ≤ slot (c .before .before .before .before .before .before .before .before .before .before .before .before .before .before .before .before .before .before .before .before .before .before .before .before .before .before .before .before .args .t2) 0 .end = p .further in
-    let fits : slot (c .before .before .before .before .before .before .before .before .before .before .before .before .before .before .before .before .before .before .before .before .before .before .before .before .before .before .before .before .args .t2) 0 .end ≤ length (c .before .before .before .before .before .before .before .before .before .before .before .before .before .before .before .before .before .before .before .before .before .before .before .before .before .before .before .before .args .s .now) = p .within in
+    let w = c .before .before .before .before .before .before .before .before .before .before in
+    let u = w .before .before .before .before .before .before .before .before .before .before .before .before .before in
+    let q = u .before .before in
+    let o = q .before .before .before in
+    let r = subst (PathIs _ _ _) (u .enum-told .given .1) (q .path-in .ensures) in
+    let i = each-inside (o .args .s .now) (namesOf Add) (o .pre .ms) (o .args .t2 .slots) 0 (omega arith) (o .pre .each) in
+    let p = path-placed (o .args .s .now) (slot (o .args .t2) 0) _ i (r .0 .says) in
+    let far : slot (o .args .t2) 0 .start + 2 ≤ slot (o .args .t2) 0 .end = p .further in
+    let fits : slot (o .args .t2) 0 .end ≤ length (o .args .s .now) = p .within in
     search needs
 
 sub-t33 : tie.Need-sub-t33
 unfolding namesOf
 sub-t33 c =
-    let r = subst (PathIs _ _) (c .before .before .before .before .before .before .before .before .before .before .before .before .before .before .before .before .before .before .before .before .before .before .before .enum-told .given .1) (c .before .before .before .before .before .before .before .before .before .before .before .before .before .before .before .before .before .before .before .before .before .before .before .before .before .path-in .ensures) in
-    let p = path-placed (c .before .before .before .before .before .before .before .before .before .before .before .before .before .before .before .before .before .before .before .before .before .before .before .before .before .before .before .before .args .s .now) (slot (c .before .before .before .before .before .before .before .before .before .before .before .before .before .before .before .before .before .before .before .before .before .before .before .before .before .before .before .before .args .t2) 0) _ (each-inside (c .before .before .before .before .before .before .before .before .before .before .before .before .before .before .before .before .before .before .before .before .before .before .before .before .before .before .before .before .args .s .now) (namesOf Add) (c .before .before .before .before .before .before .before .before .before .before .before .before .before .before .before .before .before .before .before .before .before .before .before .before .before .before .before .before .pre .ms) (c .before .before .before .before .before .before .before .before .before .before .before .before .before .before .before .before .before .before .before .before .before .before .before .before .before .before .before .before .args .t2 .slots) 0 (omega arith) (c .before .before .before .before .before .before .before .before .before .before .before .before .before .before .before .before .before .before .before .before .before .before .before .before .before .before .before .before .pre .each)) (r .says) in
-    let far : slot (c .before .before .before .before .before .before .before .before .before .before .before .before .before .before .before .before .before .before .before .before .before .before .before .before .before .before .before .before .args .t2) 0 .start + 2 ≤ slot (c .before .before .before .before .before .before .before .before .before .before .before .before .before .before .before .before .before .before .before .before .before .before .before .before .before .before .before .before .args .t2) 0 .end = p .further in
+    let w = c .before .before .before .before .before .before .before .before .before .before in
+    let u = w .before .before .before .before .before .before .before .before .before .before .before .before .before in
+    let q = u .before .before in
+    let o = q .before .before .before in
+    let r = subst (PathIs _ _ _) (u .enum-told .given .1) (q .path-in .ensures) in
+    let i = each-inside (o .args .s .now) (namesOf Add) (o .pre .ms) (o .args .t2 .slots) 0 (omega arith) (o .pre .each) in
+    let p = path-placed (o .args .s .now) (slot (o .args .t2) 0) _ i (r .0 .says) in
+    let far : slot (o .args .t2) 0 .start + 2 ≤ slot (o .args .t2) 0 .end = p .further in
     omega arith
 
 returns-5 : tie.Need-returns-5
 unfolding namesOf
 returns-5 c =
-    let r = subst (PathIs _ _) (c .before .before .before .before .before .before .before .before .before .before .before .before .before .before .before .before .before .before .before .before .before .before .before .enum-told .given .1) (c .before .before .before .before .before .before .before .before .before .before .before .before .before .before .before .before .before .before .before .before .before .before .before .before .before .path-in .ensures) in
-    let vs = subst (ValuesIs _ _) (c .before .before .before .before .before .values .given .1) (c .before .before .before .before .before .before .before .values-in .ensures) in
-    let b = subst (Told _) (c .before .before .before .before .before .before .before .before .before .if1 .taken) (truth-told _ (c .before .before .before .before .before .before .before .before .before .before .is-bool .result) (c .before .before .before .before .before .before .before .before .before .before .is-bool .ensures ∙ ap isBool (c .before .before .before .before .before .before .before .before .before .before .before .truth-in .ensures))) in
-    let n = subst (Told _) (c .if2 .taken) (records-told _ (c .before .is-known .result) (c .before .is-known .ensures ∙ ap isKnown (c .before .before .records-in .ensures))) in
-    add-there (c .before .before .before .before .before .before .before .before .before .before .before .before .before .before .before .before .before .before .before .before .before .before .before .before .before .before .before .before .args .s .now) (c .before .before .before .before .before .before .before .before .before .before .before .before .before .before .before .before .before .before .before .before .before .before .before .before .before .before .before .before .args .t2) (c .before .before .before .before .before .before .before .before .before .before .before .before .before .before .before .before .before .before .before .before .before .before .before .before .before .before .before .before .pre) _ (c .before .before .before .before .before .before .before .before .before .before .before .before .before .before .before .before .before .before .before .size .given .0 .0) (c .before .before .before .before .before .before .before .before .before .before .before .before .before .before .time .given .0 .0) (c .before .before .before .before .before .values .given .0 .0) (b .0) (vs .0) (n .0) (c .before .before .records-in .result)
-    (each-inside (c .before .before .before .before .before .before .before .before .before .before .before .before .before .before .before .before .before .before .before .before .before .before .before .before .before .before .before .before .args .s .now) (namesOf Add) (c .before .before .before .before .before .before .before .before .before .before .before .before .before .before .before .before .before .before .before .before .before .before .before .before .before .before .before .before .pre .ms) (c .before .before .before .before .before .before .before .before .before .before .before .before .before .before .before .before .before .before .before .before .before .before .before .before .before .before .before .before .args .t2 .slots) 0 (omega arith) (c .before .before .before .before .before .before .before .before .before .before .before .before .before .before .before .before .before .before .before .before .before .before .before .before .before .before .before .before .pre .each)) (r .says)
-    (whole-number _ (sym (c .before .before .before .before .before .before .before .before .before .before .before .before .before .before .before .before .before .before .before .size .given .1) ∙ c .before .before .before .before .before .before .before .before .before .before .before .before .before .before .before .before .before .before .before .before .before .whole-in .ensures)) (whole-number _ (sym (c .before .before .before .before .before .before .before .before .before .before .before .before .before .before .time .given .1) ∙ c .before .before .before .before .before .before .before .before .before .before .before .before .before .before .before .before .whole-in2 .ensures)) (b .1) (vs .1) (vs .2) (n .1) (c .before .before .records-in .ensures ∙ ap recordsIs (n .1))
+    let known = c .before .is-known in
+    let stated = c .before .before .records-in in
+    let valued = c .before .before .before .before .before in
+    let tested = valued .before .before .before .before in
+    let asked = tested .before .is-bool in
+    let z = tested .before .before in
+    let y = z .before .before .before in
+    let x = y .before .before in
+    let w = x .before .before .before in
+    let u = w .before .before in
+    let q = u .before .before in
+    let p = q .before .before in
+    let o = p .before .before .before in
+    let r = subst (PathIs _ _ _) (q .enum-told .given .1) (p .path-in .ensures) in
+    let vs = subst (ValuesIs _ _) (valued .values .given .1) (valued .before .before .values-in .ensures) in
+    let b = subst (Told _) (tested .if1 .taken) (truth-told _ (asked .result) (asked .ensures ∙ ap isBool (z .truth-in .ensures))) in
+    let n = subst (Told _) (c .if2 .taken) (records-told _ (known .result) (known .ensures ∙ ap isKnown (stated .ensures))) in
+    add-there (o .args .s .now) (o .args .t2) (o .pre) _ (w .size .given .0 .0) (y .time .given .0 .0)
+    (valued .values .given .0 .0) (b .0) (vs .0) (n .0) (stated .result)
+    (each-inside (o .args .s .now) (namesOf Add) (o .pre .ms) (o .args .t2 .slots) 0 (omega arith) (o .pre .each)) (r .0 .says)
+    (whole-number _ (sym (w .size .given .1) ∙ u .whole-in .ensures))
+    (whole-number _ (sym (y .time .given .1) ∙ x .whole-in2 .ensures)) (b .1) (vs .1) (vs .2) (n .1) (stated .ensures ∙ ap recordsIs (n .1))
 
 returns-6 : tie.Need-returns-6
 returns-6 c =

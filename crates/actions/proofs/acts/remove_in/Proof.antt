@@ -24,10 +24,15 @@ enum-told : tie.Need-enum-told
 enum-told c = search needs
 
 returns : tie.Need-returns
-returns c = remove-no-path (c .before .before .before .before .before .args .s .now) (c .before .before .before .before .before .args .t2) (c .before .before .before .before .before .pre) (subst (PathIs _ _) (c .enum-told .given .1) (c .before .before .path-in .ensures))
+returns c =
+    let o = c .before .before .before .before .before in
+    remove-no-path (o .args .s .now) (o .args .t2) (o .pre) (subst (PathIs _ _ _) (c .enum-told .given .1) (c .before .before .path-in .ensures))
 
 returns-2 : tie.Need-returns-2
-returns-2 c = remove-there (c .before .before .before .before .before .before .args .s .now) (c .before .before .before .before .before .before .args .t2) (c .before .before .before .before .before .before .pre) (c .before .p .given .0 .0) (subst (PathIs _ _) (c .before .p .given .1) (c .before .before .before .path-in .ensures))
+returns-2 c =
+    let q = c .before .before .before in
+    let o = q .before .before .before in
+    remove-there (o .args .s .now) (o .args .t2) (o .pre) (c .before .p .given .0 .0) (subst (PathIs _ _ _) (c .before .p .given .1) (q .path-in .ensures))
 
 pub remove-in-spec : {M : Type 1} → statement M
 remove-in-spec =

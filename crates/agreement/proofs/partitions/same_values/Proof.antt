@@ -19,7 +19,12 @@ enum-known-j : tie.Need-enum-known-j
 enum-known-j c = search needs
 
 same-strings-requires : tie.Need-same-strings-requires
-same-strings-requires c κs = (subst (StringIs _ _) (c .before .before .before .before .before .i .given .1) (c .before .before .before .before .before .before .before .string-at .ensures) .0 .spelled, subst (StringIs _ _) (c .before .j .given .1) (c .before .before .before .string-at2 .ensures) .0 .spelled)
+same-strings-requires c κs =
+    let q = c .before .before .before in
+    let p = q .before .before in
+    let o = p .before .before in
+    let here = subst (StringIs _ _ _) (p .i .given .1) (o .string-at .ensures) in
+    (here .0 .spelled, subst (StringIs _ _ _) (c .before .j .given .1) (q .string-at2 .ensures) .0 .spelled)
 
 enum-told : tie.Need-enum-told
 enum-told c = search needs
@@ -38,18 +43,34 @@ enum-told-4 c = search needs
 
 returns : tie.Need-returns
 returns c =
+    let q = c .before .before .before .before in
+    let p = q .before .before in
+    let o = p .before .before in
     λ x y f g.
     c .same-strings .ensures
-    ∙ sym (strings-agree _ _ f g (subst (StringIs _ _) (c .before .before .before .before .before .before .i .given .1) (c .before .before .before .before .before .before .before .before .string-at .ensures) .0 .says) (subst (StringIs _ _) (c .before .before .j .given .1) (c .before .before .before .before .string-at2 .ensures) .0 .says))
+    ∙ sym (strings-agree _ _ f g (subst (StringIs _ _ _) (p .i .given .1) (o .string-at .ensures) .0 .says)
+    (subst (StringIs _ _ _) (c .before .before .j .given .1) (q .string-at2 .ensures) .0 .says))
 
 returns-2 : tie.Need-returns-2
-returns-2 c = λ x y f g. sym (string-null-differ _ _ f g (subst (StringIs _ _) (c .before .before .before .before .i .given .1) (c .before .before .before .before .before .before .string-at .ensures) .0 .says) (subst (StringIs _ _) (c .enum-told .given .1) (c .before .before .string-at2 .ensures)))
+returns-2 c =
+    let p = c .before .before .before .before in
+    let o = p .before .before in
+    λ x y f g. sym (string-null-differ _ _ f g (subst (StringIs _ _ _) (p .i .given .1) (o .string-at .ensures) .0 .says)
+    (subst (StringIs _ _ _) (c .enum-told .given .1) (c .before .before .string-at2 .ensures)))
 
 returns-3 : tie.Need-returns-3
-returns-3 c = λ x y f g. sym (null-string-differ _ _ f g (subst (StringIs _ _) (c .before .before .before .enum-told2 .given .1) (c .before .before .before .before .before .string-at .ensures)) (subst (StringIs _ _) (c .enum-told3 .given .1) (c .before .before .string-at3 .ensures) .0 .says))
+returns-3 c =
+    let p = c .before .before .before in
+    let o = p .before .before in
+    λ x y f g. sym (null-string-differ _ _ f g (subst (StringIs _ _ _) (p .enum-told2 .given .1) (o .string-at .ensures))
+    (subst (StringIs _ _ _) (c .enum-told3 .given .1) (c .before .before .string-at3 .ensures) .0 .says))
 
 returns-4 : tie.Need-returns-4
-returns-4 c = λ x y f g. sym (nulls-agree _ _ f g (subst (StringIs _ _) (c .before .before .before .enum-told2 .given .1) (c .before .before .before .before .before .string-at .ensures)) (subst (StringIs _ _) (c .enum-told4 .given .1) (c .before .before .string-at3 .ensures)))
+returns-4 c =
+    let p = c .before .before .before in
+    let o = p .before .before in
+    λ x y f g. sym (nulls-agree _ _ f g (subst (StringIs _ _ _) (p .enum-told2 .given .1) (o .string-at .ensures))
+    (subst (StringIs _ _ _) (c .enum-told4 .given .1) (c .before .before .string-at3 .ensures)))
 
 pub same-values-spec : {M : Type 1} → statement M
 same-values-spec =

@@ -22,11 +22,15 @@ enum-told : tie.Need-enum-told
 enum-told c = search needs
 
 returns-2 : tie.Need-returns-2
-returns-2 c = sym (text-single (c .before .before .before .before .before .before .args .q .now) (c .before .before .before .before .before .before .args .slot) stringOf (c .before .before .before .if1 .left)) ∙ subst (StringIs _ _) (c .enum-told .given .1) (c .before .before .string-at .ensures)
+returns-2 c =
+    let p = c .before .before .before in
+    let o = p .before .before .before in
+    sym (text-single (o .args .q .now) (o .args .slot) stringOf (p .if1 .left))
+    ∙ subst (StringIs _ _ _) (c .enum-told .given .1) (c .before .before .string-at .ensures)
 
 returns-3 : tie.Need-returns-3
 returns-3 c =
-    let w = subst (StringIs _ _) (c .before .p .given .1) (c .before .before .before .string-at .ensures) in
+    let w = subst (StringIs _ _ _) (c .before .p .given .1) (c .before .before .before .string-at .ensures) in
     subst (λ (o : Option Bytes). Read o (c .before .before .before .before .before .before .before .args .q .now) (c .before .p .given .0 .0)) (text-single (c .before .before .before .before .before .before .before .args .q .now) (c .before .before .before .before .before .before .before .args .slot) stringOf (c .before .before .before .before .if1 .left)) (w .0)
 
 pub string-in-spec : {M : Type 1} → statement M

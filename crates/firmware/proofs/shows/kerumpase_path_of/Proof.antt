@@ -1,9 +1,9 @@
 -- `kerumpase_path_of` meets its contract.
-use mathlib.Core.Path.{subst}
-use Rattle.facts.specs.Parts.{part}
-use Rattle.shown.specs.Shown.{AddingIs}
-use native.Mathlib.Omega.{arith}
+use mathlib.Core.Path.{sym, ap, _∙_}
 use borrow.Author.Needs.{needs}
+use Rattle.shown.proofs.Lines.{writes-standing, nothing-place}
+use Rattle.firmware.specs.Shows.{placeBy}
+use Rattle.firmware.proofs.Showing.{standing-place}
 use Rattle.firmware.proofs.shows.kerumpase_path_of.Statement.{statement}
 use Rattle.firmware.proofs.shows.kerumpase_path_of.Tie as tie
 
@@ -14,18 +14,17 @@ enum-known-from : tie.Need-enum-known-from
 enum-known-from c = search needs
 
 sub-t6 : tie.Need-sub-t6
-sub-t6 c = (subst (AddingIs _) (c .before .from .given .1) (c .before .before .before .judge .ensures)) .ordered
+sub-t6 c = (writes-standing _ (sym (c .before .from .given .1) ∙ c .before .before .before .judge .ensures)) .ordered
 
 enum-told : tie.Need-enum-told
 enum-told c = search needs
 
 returns : tie.Need-returns
-unfolding part
-returns c = let w = subst (AddingIs _) (c .before .from .given .1) (c .before .before .before .judge .ensures) in
-    record { within = omega (arith, w .ordered, w .within); shows = w .path }
+returns c = standing-place (writes-standing _ (sym (c .before .from .given .1) ∙ c .before .before .before .judge .ensures))
 
 returns-2 : tie.Need-returns-2
-returns-2 c = record { within = omega arith; shows = (subst (AddingIs _) (c .enum-told .given .1) (c .before .before .judge .ensures)) .0 }
+unfolding placeBy
+returns-2 c = sym (ap placeBy (nothing-place _ (sym (c .enum-told .given .1) ∙ c .before .before .judge .ensures)))
 
 pub kerumpase-path-of-spec : {M : Type 1} → statement M
 kerumpase-path-of-spec =

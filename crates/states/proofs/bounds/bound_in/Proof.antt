@@ -41,13 +41,13 @@ returns-2 c = there-missing stringOf (subst (OptionalIs _ _) (c .enum-told2 .giv
 returns-3 : tie.Need-returns-3
 returns-3 c =
     let o = subst (OptionalIs _ _) (c .before .before .before .before .before .v .given .1) (c .before .before .before .before .before .before .before .optional-in .ensures) in
-    let r = subst (StringIs _ _) (c .before .p .given .1) (c .before .before .before .string-at .ensures) in
+    let r = subst (StringIs _ _ _) (c .before .p .given .1) (c .before .before .before .string-at .ensures) in
     bound-spelled (c .before .before .before .before .before .before .before .before .before .args .t .now) (c .before .p .given .0 .0) (o .0) (r .0)
 
 returns-4 : tie.Need-returns-4
 returns-4 c =
     let o = subst (OptionalIs _ _) (c .before .before .before .before .v .given .1) (c .before .before .before .before .before .before .optional-in .ensures) in
-    there-none stringOf (o .0) (subst (StringIs _ _) (c .enum-told3 .given .1) (c .before .before .string-at .ensures))
+    there-none stringOf (o .0) (subst (StringIs _ _ _) (c .enum-told3 .given .1) (c .before .before .string-at .ensures))
 
 pub bound-in-spec : {M : Type 1} → statement M
 bound-in-spec =

@@ -22,16 +22,20 @@ enum-told : tie.Need-enum-told
 enum-told c = search needs
 
 returns-2 : tie.Need-returns-2
-returns-2 c = sym (ap isPath (subst (StringIs _ _) (c .enum-told .given .1) (c .before .before .string-at .ensures))) ∙ ap isPath (text-single (c .before .before .before .before .before .before .args .t .now) (c .before .before .before .before .before .before .args .slot) stringOf (c .before .before .before .if1 .left))
+returns-2 c =
+    let p = c .before .before .before in
+    let o = p .before .before .before in
+    sym (ap isPath (subst (StringIs _ _ _) (c .enum-told .given .1) (c .before .before .string-at .ensures)))
+    ∙ ap isPath (text-single (o .args .t .now) (o .args .slot) stringOf (p .if1 .left))
 
 returns-3 : tie.Need-returns-3
 returns-3 c =
-    let r = subst (StringIs _ _) (c .before .before .n .given .1) (c .before .before .before .before .string-at .ensures) in
+    let r = subst (StringIs _ _ _) (c .before .before .n .given .1) (c .before .before .before .before .string-at .ensures) in
     sym (path-empty (r .0) (r .1) (c .if2 .taken)) ∙ ap isPath (text-single (c .before .before .before .before .before .before .before .before .args .t .now) (c .before .before .before .before .before .before .before .before .args .slot) stringOf (c .before .before .before .before .before .if1 .left))
 
 returns-4 : tie.Need-returns-4
 returns-4 c =
-    let r = subst (StringIs _ _) (c .before .before .n .given .1) (c .before .before .before .before .string-at .ensures) in
+    let r = subst (StringIs _ _ _) (c .before .before .n .given .1) (c .before .before .before .before .string-at .ensures) in
     sym (path-there (r .0) (r .1) (c .if2 .left)) ∙ ap isPath (text-single (c .before .before .before .before .before .before .before .before .args .t .now) (c .before .before .before .before .before .before .before .before .args .slot) stringOf (c .before .before .before .before .before .if1 .left))
 
 pub is-path-spec : {M : Type 1} → statement M
