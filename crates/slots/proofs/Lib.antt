@@ -5,3 +5,4 @@ pub mod Sizes
 pub mod Paths
 pub mod Versioned
 pub mod Stated
+pub mod Alone
