@@ -11,3 +11,4 @@ pub mod Naming
 pub mod Answering
 pub mod Large
 pub mod Titles
+pub mod Alone

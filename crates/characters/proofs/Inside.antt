@@ -14,7 +14,7 @@ use Rattle.rules.proofs.Json.StringReads.{string-bound}
 use Rattle.text.specs.Answers.{Answer}
 use Rattle.text.specs.declared.Next.the-variants.{At}
 use Rattle.text.proofs.Places.{here, here-is, ended}
-use Rattle.characters.specs.Runs.{Plains, Closes}
+use Rattle.characters.specs.Runs.{Plains, Closing, Closes}
 use Rattle.characters.proofs.Runs.{plains-keep}
 
 pub spelled-behind : (read : Reader) (t : Text) → behind (spelled read t) ≡ read t
@@ -42,7 +42,7 @@ chars-behind n b t q = rw (chars, ne-eqb b 0x22 q) (each (char (b ∷ t)))
 plain-other : {b k : ℕ} → isPlain b ≡ true → isPlain k ≡ false → b ≡ k → ⊥
 plain-other p f e = false≢true (sym f ∙ ap isPlain (sym e) ∙ p)
 
-plain-quote : {b : ℕ} → isPlain b ≡ true → b ≡ 0x22 → ⊥
+pub plain-quote : {b : ℕ} → isPlain b ≡ true → b ≡ 0x22 → ⊥
 unfolding isPlain first among
 plain-quote p = plain-other p refl
 
@@ -124,7 +124,7 @@ pub closes-answer : (s : Text) (at r : ℕ) → at ≤ length s → Closes s at 
 closes-answer s at r h c l =
     let i : ℕ = r - 1 in
     let same : r ≡ i + 1 = omega arith in
-    let x : (at ≤ i) × (i < length s) × Plains s at i × (getD s i 0 ≡ 0x22) = c i same in
+    let x : Closing s at i = c .0 i same in
     let low : at ≤ i = x .0 in
     let high : i < length s = x .1 in
     let inside : Inside s at i = inside-run (inside-start h) (low, omega arith, x .2) in

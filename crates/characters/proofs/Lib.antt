@@ -1,3 +1,4 @@
 pub mod Tails
 pub mod Inside
 pub mod Runs
+pub mod Alone

@@ -1,6 +1,6 @@
 -- Laws of runs of plain bytes: how eight at a time find them, and that what holds over each plain byte holds over a run.
 use mathlib.Core.Path.{_≡_, sym, ap, _∙_, subst}
-use mathlib.Core.Bool.{true}
+use mathlib.Core.Bool.{true, false}
 use Prim.Native.Nat.{ℕ, zero, suc, _+_, _-_, _≤_, _<_}
 use native.Mathlib.Omega.{arith}
 use lib.Dec.{leb}
@@ -9,8 +9,8 @@ use borrow.Author.Tests.{leb-true, leb-false}
 use Rattle.rules.specs.Json.Text.{Text}
 use Rattle.rules.specs.Json.Strings.{isPlain}
 use Rattle.rules.proofs.Tests.{by}
-use Rattle.octets.specs.Words.{Eight, Plain}
-use Rattle.characters.specs.Runs.{Plains}
+use Rattle.octets.specs.Words.{Eight, Plain, PlainTo}
+use Rattle.characters.specs.Runs.{Plains, Run}
 
 pub plains-none : (s : Text) (a : ℕ) → Plains s a a
 plains-none s a j h m = absurd (omega arith)
@@ -28,6 +28,15 @@ pub plains-eight : (s : Text) (i w n : ℕ) → Eight w s i → n ≤ 8 → Plai
 plains-eight s i w n f l p j h m =
     let q : i + (j - i) ≡ j = omega arith in
     subst (λ (k : ℕ). isPlain (getD s k 0) ≡ true) q (ap isPlain (sym (f (j - i) (omega arith))) ∙ p (j - i) (omega arith))
+
+-- a run that ends within a number of eight
+pub run-eight : (s : Text) (at i w n : ℕ) → at ≤ i → Plains s at i → i + 8 ≤ length s → Eight w s i → n < 8 → PlainTo w n → Run s at (i + n)
+run-eight s at i w n h p l f m t = (
+  omega arith,
+  omega arith,
+  plains-joined s at i (i + n) p (plains-eight s i w n f (omega arith) (t .0)),
+  λ k. ap isPlain (sym (f n m)) ∙ t .1 m,
+)
 
 -- what each plain byte keeps, a run keeps
 pub plains-keep : (P : ℕ → Type 0) (s : Text) → ((i : ℕ) → P i → i < length s → isPlain (getD s i 0) ≡ true → P (i + 1))

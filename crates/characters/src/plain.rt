@@ -3,12 +3,12 @@ use crate::utf8::QUOTE;
 use crate::utf8::is_plain;
 ghost use Prim.Native.Nat.{_≤_};
 ghost use lib.ListN.{length};
-ghost use Rattle.characters.specs.Runs.{Plains, Closes};
+ghost use Rattle.characters.specs.Runs.{Run, Closes};
 
 // One by one.
 fn skip_few(s: &[u8], at: usize) -> usize
     requires { ⌜ at ≤ length (now s) ⌝ }
-    ensures { λ r. ⌜ (at ≤ r) × (r ≤ length (now (s .entry))) × Plains (now (s .entry)) at r ⌝ }
+    ensures { λ r. ⌜ Run (now (s .entry)) at r ⌝ }
 {
     let mut i = at;
     while i < s.len() {
@@ -21,10 +21,10 @@ fn skip_few(s: &[u8], at: usize) -> usize
     i
 }
 
-// Passes plain bytes from `at` on.
+// Passes plain bytes from `at` on: the place of the first that is none, or the end.
 pub fn skip_plain(s: &[u8], at: usize) -> usize
     requires { ⌜ at ≤ length (now s) ⌝ }
-    ensures { λ r. ⌜ (at ≤ r) × (r ≤ length (now (s .entry))) × Plains (now (s .entry)) at r ⌝ }
+    ensures { λ r. ⌜ Run (now (s .entry)) at r ⌝ }
 {
     let mut i = at;
     while 8 <= s.len() - i {

@@ -1,11 +1,9 @@
--- Answers of a scanner that reads a number: seen from an earlier position, and that there is one alone.
-use mathlib.Core.Path.{_≡_, refl, sym, ap, _∙_}
+-- Answers of a scanner that reads a number, seen from an earlier position.
+use mathlib.Core.Path.{_≡_, _∙_}
 use mathlib.Core.Option.{Option}
 use Prim.Native.Nat.{ℕ, _≤_}
 use native.Mathlib.Nat.{le-trans}
 use Rattle.rules.specs.Json.Text.{Text}
-use Rattle.rules.proofs.Json.Suffix.{value-same, left-same, answered-none}
-use Rattle.text.proofs.Alone.{left-alone}
 use Rattle.escapes.specs.Codes.{Taken}
 use Rattle.escapes.specs.declared.Code.{Code}
 use Rattle.escapes.specs.declared.Code.the-variants.{Point, NoCode}
@@ -13,11 +11,3 @@ use Rattle.escapes.specs.declared.Code.the-variants.{Point, NoCode}
 pub taken-from : (o o′ : Option (ℕ × Text)) (s : Text) (lo lo′ hi : ℕ) (r : Code) → Taken o s lo hi r → lo′ ≤ lo → o′ ≡ o → Taken o′ s lo′ hi r
 taken-from o o′ s lo lo′ hi (Point x i) a h e = (e ∙ a .0, le-trans h (a .1), a .2, a .3)
 taken-from o o′ s lo lo′ hi NoCode a h e = e ∙ a
-
-pub taken-alone : (o : Option (ℕ × Text)) (s : Text) (lo hi : ℕ) (r q : Code) → Taken o s lo hi r → Taken o s lo hi q → r ≡ q
-taken-alone o s lo hi (Point c i) (Point d j) h k =
-    let both = sym (h .0) ∙ k .0 in
-    ap (λ (n : ℕ). Point n i) (value-same both) ∙ ap (Point d) (left-alone s i j (h .2) (k .2) (left-same both))
-taken-alone o s lo hi (Point c i) NoCode h k = answered-none (h .0) k
-taken-alone o s lo hi NoCode (Point d j) h k = answered-none (k .0) h
-taken-alone o s lo hi NoCode NoCode h k = refl

@@ -1,18 +1,47 @@
--- A scan of an object has one answer: the rules fix the members and what is left, and these the places.
-use mathlib.Core.Path.{_≡_, sym, ap, _∙_}
+-- A member that is read and a scan of an object have one answer: the rules fix the members and what is left, and these the places.
+use mathlib.Core.Path.{_≡_, refl, sym, ap, _∙_}
 use mathlib.Core.Bool.{Bool, true, false}
 use mathlib.Core.Option.{Option}
 use mathlib.Core.List.{List}
 use Prim.Native.Nat.{ℕ}
-use Rattle.rules.specs.Bytes.{Bytes}
+use native.Mathlib.Omega.{arith}
+use Rattle.rules.specs.Bytes.{Bytes, distinct}
 use Rattle.rules.specs.Json.Text.{Text}
 use Rattle.rules.specs.Json.Values.{Member}
-use Rattle.rules.proofs.Json.Suffix.{value-same, left-same, answered-none}
+use Rattle.rules.proofs.Json.Suffix.{some-same, value-same, left-same, answered-none}
 use Rattle.text.proofs.Alone.{left-alone}
+use Rattle.keys.specs.Spelled.{Quoted}
+use Rattle.keys.specs.declared.Spell.{Spell}
+use Rattle.keys.specs.declared.Name.{Name}
+use Rattle.keys.specs.declared.Name.the-variants.{Of}
+use Rattle.keys.proofs.Alone.{name-alone}
+use Rattle.fields.specs.Standing.{Stands, MetIs}
+use Rattle.fields.specs.Namings.{Object, IsObject}
 use Rattle.fields.specs.Places.{placesIn}
 use Rattle.fields.specs.Slots.{slotsOf, ScannedBy, Scanned}
 use Rattle.fields.specs.declared.notes.Slot.{Slot}
 use Rattle.fields.specs.declared.notes.Fields.{Fields}
+use Rattle.fields.specs.declared.objects.Met.{Met}
+use Rattle.fields.specs.declared.objects.Met.the-variants.{Member as Read, NoMember}
+
+-- ---- a member
+
+module _ (o : Option (Member × Text)) (s : Text) (at : ℕ) where
+  quoted : {n : Spell} {v e : ℕ} → Stands o s at n v e → Quoted s at n
+  quoted f = record { quote = f .quote; from = f .first; named = f .named }
+
+  pub met-alone : (r q : Met) → MetIs o s at r → MetIs o s at q → r ≡ q
+  met-alone (Read n v e) (Read m w d) f k =
+      let names : Of n ≡ Of m = name-alone s at (Of n) (Of m) (quoted f) (quoted k) in
+      let name : n ≡ m = cc names in
+      let value : v ≡ w = left-alone s v w (omega (arith, f .ordered, f .within)) (omega (arith, k .ordered, k .within)) (some-same (sym (f .value) ∙ k .value)) in
+      let end : e ≡ d = left-alone s e d (f .within) (k .within) (left-same (sym (f .read) ∙ k .read)) in
+      ap (λ (x : Spell). Read x v e) name ∙ ap (λ (i : ℕ). Read m i e) value ∙ ap (Read m w) end
+  met-alone (Read n v e) NoMember f k = answered-none (f .read) k
+  met-alone NoMember (Read m w d) f k = answered-none (k .read) f
+  met-alone NoMember NoMember f k = refl
+
+-- ---- a scan
 
 module _ (o : Option (List Member × Text)) (s : Text) (at : ℕ) (names : List Bytes) where
   abbrev answer : Bool → ℕ → List Slot → Fields
@@ -36,3 +65,7 @@ module _ (o : Option (List Member × Text)) (s : Text) (at : ℕ) (names : List 
 pub asked-alone : (Whole : List Bytes → Type 0) (f : List Bytes → Bool) (names : List Bytes) → Whole names → (r q : Bool)
     → ((names : List Bytes) → Whole names → r ≡ f names) → ((names : List Bytes) → Whole names → q ≡ f names) → r ≡ q
 asked-alone Whole f names w r q g h = g names w ∙ sym (h names w)
+
+pub distinct-alone : (depth : ℕ) (s : Text) (at : ℕ) → IsObject depth s at → (r q : Bool)
+    → ((names : List Bytes) → Object depth s at names → r ≡ distinct names) → ((names : List Bytes) → Object depth s at names → q ≡ distinct names) → r ≡ q
+distinct-alone depth s at o = asked-alone (Object depth s at) distinct (o .names) (o .object)

@@ -45,6 +45,8 @@ member-stands read s i n v e q h k w c d =
     let low : n .at + 1 ≤ n .end = q .named .from in
     let lower : i + 1 ≤ n .at = q .from in
     record {
+      quote = q .quote;
+      first = lower;
       named = q .named;
       read = member-place read s i v e (omega arith) w (q .quote) (named-string s n (q .named)) c d;
       value = rw (valueIn, q .quote, named-string s n (q .named)) c;

@@ -3,7 +3,7 @@ use mathlib.Core.Path.{_≡_}
 use mathlib.Core.Option.{Option, none, some}
 use Prim.Native.Nat.{ℕ, _+_, _-_, _≤_}
 use lib.ListN.{length, take, drop}
-use Rattle.rules.specs.Json.Text.{Text}
+use Rattle.rules.specs.Json.Text.{Text, byte}
 use Rattle.rules.specs.Json.Values.{Member as Pair}
 use Rattle.keys.specs.Spelled.{nameIn, Named}
 use Rattle.keys.specs.declared.Spell.{Spell}
@@ -11,8 +11,10 @@ use Rattle.fields.specs.Places.{valueIn}
 use Rattle.fields.specs.declared.objects.Met.{Met}
 use Rattle.fields.specs.declared.objects.Met.the-variants.{Member, NoMember}
 
--- o is what the rules say of the member at `at`: its value stands from v to e
+-- o is what the rules say of the member at `at`: its name stands behind the quote there, its value from v to e
 pub record Stands (o : Option (Pair × Text)) (s : Text) (at : ℕ) (n : Spell) (v e : ℕ) : Type 0 where
+  pub quote : byte 0x22 (drop at s) ≡ some (drop (n .at) s)
+  pub first : at + 1 ≤ n .at
   pub named : Named s n
   pub read : o ≡ some ((nameIn s n, take (e - v) (drop v s)), drop e s)
   pub value : valueIn (drop at s) ≡ some (drop v s)

@@ -3,3 +3,4 @@ pub mod Showing
 pub mod Listing
 pub mod Counting
 pub mod Standing
+pub mod Alone

@@ -3,7 +3,7 @@ use mathlib.Core.Path.{_≡_, refl, sym, ap, _∙_, subst}
 use mathlib.Core.Bool.{true}
 use mathlib.Core.Option.{Option, none, some}
 use mathlib.Core.List.{List}
-use Prim.Native.Nat.{ℕ, _≤_, _<_}
+use Prim.Native.Nat.{ℕ, _<_}
 use native.Mathlib.Omega.{arith}
 use lib.ListN.{length}
 use lib.Dec.{ltb}
@@ -32,10 +32,10 @@ use Rattle.replay.specs.declared.State.{State}
 use Rattle.replay.specs.declared.Outcome.{Outcome}
 use Rattle.replay.specs.declared.Outcome.the-variants.{Done, Malformed, TooMany}
 use Rattle.replay.specs.declared.begin.Zero.the-variants.{Says, Malformed as NoZero}
-use Rattle.history.specs.Ends.{Reaches, OnwardIs, FollowIs, ReadIs, ReachedIs}
+use Rattle.history.specs.Ends.{Reaches, GoesOn, OnwardIs, FollowIs, ReadIs, ReachedIs}
 use Rattle.history.specs.declared.Reached.{Reached}
 use Rattle.history.specs.declared.Reached.the-variants.{At, Refused}
-use Rattle.history.proofs.Leading.{leads-up, leads-refused}
+use Rattle.history.proofs.Leading.{leads-refused}
 use Rattle.history.proofs.Walking.{left-same, left-join, carried-join}
 
 -- positions in a well-formed bundle fit into the head of a row
@@ -50,10 +50,14 @@ some-same p = cc
 
 -- ---- from a start
 
-pub reaches-checkpoint : (src : Bytes) (v : ℕ) (start : Start) {k : ℕ} {s : Version} → start ≡ Checkpoint k s → Reaches src v start → (k < length (filesIn src)) × (s .0 ≤ v)
-reaches-checkpoint src v start e r =
+pub zero-goes-on : (src : Bytes) (v : ℕ) (start : Start) → start ≡ Zero → Reaches src v start → GoesOn src 0 v
+zero-goes-on src v start e r = let h = subst (StartIs src v (some (r .0))) e (r .1) in (fromZero, h .0, h .2)
+
+pub reaches-checkpoint : (src : Bytes) (v : ℕ) (start : Start) {k : ℕ} {s : Version} → start ≡ Checkpoint k s → Reaches src v start
+    → (k < length (filesIn src)) × GoesOn src (s .0) v
+reaches-checkpoint src v start {k} e r =
     let h = subst (StartIs src v (some (r .0))) e (r .1) in
-    (h .0, leads-up (h .4))
+    (h .0, (fromCheckpoint (fileIn src k), h .2, h .4))
 
 -- what was read from a table that had been changed before
 outcome-join : (src : Bytes) (limit : ℕ) (o : Answer rState) (t t₁ t′ : List ℕ) (r : Outcome) → Left limit t t₁ → OutcomeIs src limit o t₁ t′ r → OutcomeIs src limit o t t′ r

@@ -25,6 +25,10 @@ use Rattle.history.specs.declared.Reached.the-variants.{At, Refused}
 abbrev pub Reaches : Bytes → (v : ℕ) → Start → Type 0
 Reaches src v start = (w : Way) × StartIs src v (some w) start
 
+-- the version files behind s up to v are all there: a way to s, whichever it is, goes on by them
+abbrev pub GoesOn : Bytes → (s v : ℕ) → Type 0
+GoesOn src s v = (w₀ w : Way) × Leads (logOf (filesIn src)) w₀ s v w
+
 -- of the version files behind s up to v: whatever way came to s with the state st, this is how it ends at v
 abbrev pub OnwardIs : Bytes → (limit s v : ℕ) → State → List ℕ → List ℕ → Outcome → Type 0
 OnwardIs src limit s v st t t′ r =

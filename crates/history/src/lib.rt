@@ -9,7 +9,7 @@ use replay::Zero;
 use starts::Start;
 ghost use mathlib.Core.Path.{_≡_};
 ghost use mathlib.Core.Bool.{true};
-ghost use Prim.Native.Nat.{_≤_, _<_};
+ghost use Prim.Native.Nat.{_<_};
 ghost use lib.ListN.{length};
 ghost use Rattle.rules.specs.Bundle.{bundle as rBundle};
 ghost use Rattle.rules.specs.Live.{mostLive};
@@ -18,7 +18,7 @@ ghost use Rattle.rules.specs.Reading.{stateBy};
 ghost use Rattle.bundle.specs.Files.{isSome, filesIn, fileIn};
 ghost use Rattle.table.specs.Table.{Room};
 ghost use Rattle.replay.specs.Views.{Carries};
-ghost use Rattle.history.specs.Ends.{Reaches, OnwardIs, FollowIs, ReadIs, ReachedIs};
+ghost use Rattle.history.specs.Ends.{Reaches, GoesOn, OnwardIs, FollowIs, ReadIs, ReachedIs};
 
 // More than so many live after a line is refused.
 const MOST_LIVE: usize = 1024;
@@ -35,7 +35,7 @@ pub fn onward(
     t: &mut [u64],
     limit: usize,
 ) -> Outcome
-    requires { ⌜ (isSome (rBundle (now src)) ≡ true) × Carries (now src) limit st (now t) × (s .0 ≤ v .0) ⌝ }
+    requires { ⌜ (isSome (rBundle (now src)) ≡ true) × Carries (now src) limit st (now t) × GoesOn (now src) (s .0) (v .0) ⌝ }
     ensures { λ r. ⌜ OnwardIs (now (src .entry)) limit (s .0) (v .0) st (now (t .entry)) (now (t .exit)) r ⌝ }
 {
     let mut w = s.0;
@@ -44,7 +44,7 @@ pub fn onward(
     while w < v.0 {
         let next = w + 1;
         let Place::At(k) = logs::version_file(src, Version(next), place) else {
-            return Outcome::Done(state); // never: no start reaches v over a gap
+            return Outcome::Done(state); // never: they are all there
         };
         match replay::read_file(src, k, state, t, limit) {
             Outcome::Done(after) => {

@@ -1,6 +1,5 @@
 -- The checkpoint that the marker names, once its lines are read: the latest version is above it, and the way there may go on from it.
 use mathlib.Core.Path.{_≡_, sym, ap, _∙_, subst}
-use mathlib.Core.Bool.{true}
 use mathlib.Core.List.{List}
 use mathlib.Core.Option.{some}
 use Prim.Native.Nat.{ℕ}
@@ -15,14 +14,14 @@ use Rattle.rules.specs.Marker.{climb, latest}
 use Rattle.rules.specs.Reading.{stateBy}
 use Rattle.bundle.specs.Files.{filesIn, fileIn}
 use Rattle.refusals.specs.Numbered.{numbered}
-use Rattle.starts.specs.Ways.{PassesIs}
 use Rattle.starts.proofs.Starting.{start-good, marked-at, latest-at, way-start}
+use Rattle.starts.proofs.Passing.{Through}
 use Rattle.replay.specs.Views.{stateOf}
 use Rattle.replay.specs.Answers.{Left, OutcomeIs, Renewed}
 use Rattle.replay.specs.declared.State.{State}
 use Rattle.replay.specs.declared.Outcome.{Outcome}
 use Rattle.replay.specs.declared.Outcome.the-variants.{Done, Malformed, TooMany}
-use Rattle.history.specs.Ends.{OnwardIs, ReachedIs}
+use Rattle.history.specs.Ends.{GoesOn, OnwardIs, ReachedIs}
 use Rattle.history.specs.declared.Reached.{Reached}
 use Rattle.history.specs.declared.Reached.the-variants.{At, Refused}
 use Rattle.history.proofs.Walking.{left-join, carried-join}
@@ -52,8 +51,13 @@ module _ {src : Bytes} {k n : ℕ} {st : State} {t : List ℕ} (b : Begun src k 
   pub begun-latest : climb most (logOf (filesIn src)) n ≡ latest (logOf (filesIn src))
   begun-latest = latest-at (logOf (filesIn src)) (marked-at (logOf (filesIn src)) n (b .marker) begun-start)
 
+  pub begun-goes-on : (v : ℕ) → Through (logOf (filesIn src)) n v → GoesOn src n v
+  begun-goes-on v p =
+      let q = p (fromCheckpoint (fileIn src k)) (way-start (logOf (filesIn src)) n begun-start) in
+      (fromCheckpoint (fileIn src k), q .0, q .2)
+
   -- where the way to v goes through n, it goes on from here
-  pub begun-onward : (v : ℕ) (t′ : List ℕ) (x : Outcome) → PassesIs (logOf (filesIn src)) n v true → OnwardIs src mostLive n v st t t′ x
+  pub begun-onward : (v : ℕ) (t′ : List ℕ) (x : Outcome) → Through (logOf (filesIn src)) n v → OnwardIs src mostLive n v st t t′ x
       → OutcomeIs src mostLive (stateBy (logOf (filesIn src)) (wayTo (logOf (filesIn src)) v)) t t′ x
   unfolding stateBy follow
   begun-onward v t′ x p on =

@@ -1,15 +1,17 @@
--- A count of strings has one answer: the rules fix the strings and what is left, and that the place.
+-- A count of strings has one answer: the rules fix the strings and what is left, and that the place. So has what is asked of the strings.
 use mathlib.Core.Path.{_≡_, refl, sym, ap, _∙_}
+use mathlib.Core.Bool.{Bool}
 use mathlib.Core.Option.{Option, some}
 use mathlib.Core.List.{List}
 use Prim.Native.Nat.{ℕ}
 use lib.ListN.{length}
-use Rattle.rules.specs.Bytes.{_>>=_}
+use Rattle.rules.specs.Bytes.{Bytes, _>>=_}
 use Rattle.rules.specs.Json.Text.{Text}
 use Rattle.rules.specs.Json.Fields.{strings}
 use Rattle.rules.proofs.Json.Suffix.{some-same, left-same, answered-none}
 use Rattle.text.proofs.Alone.{left-alone}
-use Rattle.lists.specs.Strung.{Strung, StringsIs}
+use Rattle.fields.proofs.Alone.{asked-alone}
+use Rattle.lists.specs.Strung.{Strung, StringsIs, Listed, IsList}
 use Rattle.lists.specs.declared.Strings.{Strings}
 use Rattle.lists.specs.declared.Strings.the-variants.{Good, NotStrings}
 
@@ -25,3 +27,7 @@ module _ (o : Option (List Text × Text)) (s : Text) (at : ℕ) where
   strings-alone (Good n a) NotStrings f k = answered-none (strung-some f) k
   strings-alone NotStrings (Good m b) f k = answered-none (strung-some k) f
   strings-alone NotStrings NotStrings f k = refl
+
+pub listed-alone : (f : List Bytes → Bool) (s : Text) (at : ℕ) → IsList s at → (r q : Bool)
+    → ((ss : List Bytes) → Listed s at ss → r ≡ f ss) → ((ss : List Bytes) → Listed s at ss → q ≡ f ss) → r ≡ q
+listed-alone f s at o = asked-alone (Listed s at) f (o .ss) (o .listed)

@@ -2,3 +2,4 @@
 pub mod Baring
 pub mod Halving
 pub mod Becoming
+pub mod Alone

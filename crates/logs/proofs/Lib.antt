@@ -3,4 +3,4 @@ pub mod Digits
 pub mod Spellings
 pub mod Writing
 pub mod Halving
-pub mod Places
+pub mod Alone

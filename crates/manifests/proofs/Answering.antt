@@ -1,4 +1,4 @@
--- What is answered for a state manifest, a query and a room, by what was read; and that the promise fixes the answer and the room.
+-- What is answered for a state manifest, a query and a room, by what was read.
 use mathlib.Core.Path.{_≡_, refl, sym, ap, _∙_, subst}
 use mathlib.Core.Bool.{Bool, true, false}
 use mathlib.Core.Option.{none, some}
@@ -15,14 +15,12 @@ use Rattle.rules.specs.Manifests.{Manifest, manifests, mostManifests, keptFrom}
 use Rattle.rules.specs.Rooms.{Room, keptRoom, counted}
 use Rattle.rules.specs.Refusals.{Answer, accepted, refused, roomTooShort, queryMalformed, stateMalformed, tooManyManifests}
 use Rattle.rules.specs.Keeping.{keeping, roomAfterKeeping}
-use Rattle.rules.proofs.Tests.{apart}
 use Rattle.rules.proofs.Rooms.{zeroed-filled, zeroed-none-filled, leaves-accepted, leaves-untouched, leaves-zeros}
 use Rattle.query.specs.Reading.{Accepted, QueryBy, QueryIs}
 use Rattle.query.specs.declared.reading.Query.{Query}
 use Rattle.refusals.specs.Numbered.{numbered}
 use Rattle.refusals.specs.declared.Refusal.{Refusal}
 use Rattle.refusals.specs.declared.Refusal.the-variants.{RoomTooShort}
-use Rattle.refusals.proofs.Alone.{numbered-alone}
 use Rattle.noting.specs.Walks.{Beyond, Noted}
 use Rattle.manifests.specs.Rooms.{refusedBy, keptIs, KeepIs}
 use Rattle.manifests.specs.declared.keeping.Kept.{Kept}
@@ -93,20 +91,6 @@ module _ (state q : Bytes) (room after : Room) where
           holds = f ∙ zeroed-filled n 256 (keptFrom 0 cs ms) between room size (g .least) long (g .numbers l) (b .beyond)
               ∙ sym (ap (λ (a : Answer (List ℕ)). roomAfterKeeping a room) k ∙ leaves-accepted 256 (λ ks. ks) room (keptFrom 0 cs ms));
         }
-
--- ---- the promise fixes the answer and the room
-
-keptIs-alone : (r s : Kept) → keptIs r ≡ keptIs s → r ≡ s
-unfolding keptIs
-keptIs-alone (Numbers n) (Numbers m) e = cc
-keptIs-alone (Numbers n) (Refused y) e = apart (cc)
-keptIs-alone (Refused x) (Numbers m) e = apart (cc)
-keptIs-alone (Refused x) (Refused y) e =
-    let same : numbered x ≡ numbered y = cc in
-    ap Refused (numbered-alone x y same)
-
-pub keep-alone : (state q : Bytes) (room after later : Room) (r s : Kept) → KeepIs state q room after r → KeepIs state q room later s → (r ≡ s) × (after ≡ later)
-keep-alone state q room after later r s a b = (keptIs-alone r s (a .answer ∙ sym (b .answer)), a .holds ∙ sym (b .holds))
 
 -- ---- what is said of the query
 

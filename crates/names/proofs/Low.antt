@@ -6,14 +6,17 @@ use mathlib.Core.List.{[], _∷_}
 use Prim.Native.Nat.{ℕ, suc, _+_, _-_, _*_, _^_, _≤_, _<_}
 use native.Mathlib.Nat.{add-zero, pow-le-pow-right}
 use native.Mathlib.Omega.{arith}
-use borrow.Author.Tests.{le-leb}
+use lib.Dec.{eqb}
+use borrow.Author.Tests.{eqb-true, eqb-false, le-leb}
 use lib.ListN.{length, take, drop, getD, length-take}
-use Rattle.rules.specs.Bytes.{Bytes, ascii, same, among}
+use Rattle.rules.specs.Bytes.{Bytes, ascii, same, begins, among}
 use Rattle.rules.specs.Numbers.{isDigit, decimal, decimalFrom, most}
 use Rattle.rules.specs.Names.{nameOf, withEnding, numbered, isTooLarge, marker}
-use Rattle.rules.proofs.Order.{among-true}
-use Rattle.rules.proofs.Tests.{apart}
+use Rattle.rules.proofs.Order.{among-true, begins-cons, begins-cons-ne, begins-true}
+use Rattle.rules.proofs.Tests.{apart, by, true-not-false}
 use Rattle.values.proofs.Decimals.{decimal-digit, decimal-other, grown}
+use Rattle.values.proofs.Words.{begins-longer}
+use Rattle.names.specs.Names.{twoZeros}
 
 -- ---- digits
 
@@ -52,12 +55,30 @@ low t n e =
     let l : 10 ^ (0 + length (take 18 t)) ≤ 10 ^ 18 = pow-le-pow-right (omega arith) {i = 0 + length (take 18 t)} {j = 18} (omega (arith, length-take 18 t)) in
     omega (arith, d, l)
 
-pub low-name : (s : Bytes) → 2 ≤ length s → getD s 0 0 ≡ 48 → getD s 1 0 ≡ 48 → isTooLarge (nameOf s) ≡ false
+pub low-name : (s : Bytes) → begins twoZeros s ≡ true → isTooLarge (nameOf s) ≡ false
 unfolding isTooLarge nameOf
-low-name [] h p q = absurd (omega arith)
-low-name (a ∷ []) h p q = absurd (omega arith)
-low-name (a ∷ b ∷ t) h p q = rw (p, q) (go (same (48 ∷ 48 ∷ t) (ascii "_last_checkpoint")))
+low-name [] e = absurd (true-not-false e (begins-longer twoZeros [] (omega arith)))
+low-name (a ∷ []) e = absurd (true-not-false e (begins-longer twoZeros (a ∷ []) (omega arith)))
+low-name (a ∷ b ∷ t) e =
+    let both : a ∷ b ∷ [] ≡ 48 ∷ 48 ∷ [] = begins-true twoZeros (a ∷ b ∷ t) e in
+    let p : a ≡ 48 = cc both in
+    let q : b ≡ 48 = cc both in
+    rw (p, q) (go (same (48 ∷ 48 ∷ t) (ascii "_last_checkpoint")))
   where
     go : (m : Bool) → isTooLarge (elim m [ true ↦ marker | false ↦ withEnding (decimal (take 20 (48 ∷ 48 ∷ t))) (drop 20 (48 ∷ 48 ∷ t)) ]) ≡ false
     go true = refl
     go false = not-large (decimal (take 20 (48 ∷ 48 ∷ t))) (drop 20 (48 ∷ 48 ∷ t)) (low t)
+
+-- ---- its first two bytes
+
+pub zeros-first : (s : Bytes) → 2 ≤ length s → (getD s 0 0 ≡ 48 → ⊥) → begins twoZeros s ≡ false
+zeros-first [] h n = absurd (omega arith)
+zeros-first (a ∷ t) h n = begins-cons-ne 48 a (48 ∷ []) t (λ e. n (sym e))
+
+pub zeros-second : (s : Bytes) → 2 ≤ length s → getD s 0 0 ≡ 48 → begins twoZeros s ≡ eqb (getD s 1 0) 48
+unfolding begins
+zeros-second [] h e = absurd (omega arith)
+zeros-second (a ∷ []) h e = absurd (omega arith)
+zeros-second (a ∷ b ∷ t) h e =
+    begins-cons 48 a (48 ∷ []) (b ∷ t) (sym e)
+    ∙ by (eqb b 48) (λ y. begins-cons 48 b [] t (sym (eqb-true b 48 y)) ∙ sym y) (λ y. begins-cons-ne 48 b [] t (λ f. eqb-false b 48 y (sym f)) ∙ sym y)

@@ -1,8 +1,10 @@
 -- What each answer of the crate is in the rules' terms.
 use mathlib.Core.Bool.{Bool, true, false}
 use mathlib.Core.Option.{Option, none, some}
+use mathlib.Core.List.{[], _∷_}
 use Prim.Native.Nat.{ℕ}
 use lib.Dec.{leb}
+use Rattle.rules.specs.Bytes.{Bytes}
 use Rattle.rules.specs.Numbers.{most}
 use Rattle.rules.specs.Names.{Name as rName, version, checkpoint, marker, other, tooLarge}
 use Rattle.names.specs.declared.Name.{Name}
@@ -25,3 +27,7 @@ numberIs false n = Above
 unfoldable pub digitsIs : Option ℕ → Digits
 digitsIs none = NotDigits
 digitsIs (some n) = numberIs (leb n most) n
+
+-- what a name begins with whose version is not too large, whatever follows
+abbrev pub twoZeros : Bytes
+twoZeros = 0x30 ∷ 0x30 ∷ []

@@ -1,14 +1,13 @@
 // What a name in the bundle says: a version file, a checkpoint, the marker, or nothing that is read.
 // Every byte string has an answer.
 ghost use mathlib.Core.Path.{_≡_};
-ghost use mathlib.Core.Bool.{true, false};
 ghost use Prim.Native.Nat.{_≤_};
 ghost use lib.ListN.{length, take};
 ghost use mathlib.Core.List.{[], _∷_};
 ghost use Rattle.rules.specs.Numbers.{decimal, decimalFrom};
-ghost use Rattle.rules.specs.Bytes.{ascii};
-ghost use Rattle.rules.specs.Names.{withEnding, nameOf, isTooLarge};
-ghost use Rattle.names.specs.Names.{nameIs, digitsIs};
+ghost use Rattle.rules.specs.Bytes.{ascii, begins};
+ghost use Rattle.rules.specs.Names.{withEnding, nameOf};
+ghost use Rattle.names.specs.Names.{nameIs, digitsIs, twoZeros};
 
 // The number of a version. It is never compared with a time.
 pub struct Version(pub u64);
@@ -131,9 +130,9 @@ pub fn name_of(n: &[u8]) -> Name
     Name::Other
 }
 
-// Whether the name begins with two zeros: a version in twenty digits is then not too large.
+// Whether the name begins with two zeros: a version in twenty digits is then not too large (`low-name`).
 pub fn begins_low(n: &[u8]) -> bool
-    ensures { λ r. ⌜ (r ≡ true → isTooLarge (nameOf (now (n .entry))) ≡ false) ⌝ }
+    ensures { λ r. ⌜ r ≡ begins twoZeros (now (n .entry)) ⌝ }
 {
     if n.len() < 2 {
         return false;

@@ -1,16 +1,16 @@
 -- Bytes that are no digits, marked by arithmetic: in a byte by itself, and in all eight of a number at once.
 use mathlib.Core.Path.{_≡_, refl, sym, ap, ap₂, _∙_}
-use mathlib.Core.Bool.{Bool, true, _||_, not}
+use mathlib.Core.Bool.{Bool, true, false, _||_, not}
 use Prim.Native.Nat.{ℕ, zero, suc, _+_, _/_, _%_, _≤_, _<_}
 use native.Mathlib.Omega.{arith}
 use lib.Dec.{eqb, lit<}
 use lib.Bits.{bitAnd, bitOr, bitXor, and-le-r}
-use borrow.Author.Tests.{eq-eqb}
+use borrow.Author.Tests.{eq-eqb, ne-eqb}
 use Rattle.rules.specs.Bytes.{among}
 use Rattle.rules.specs.Numbers.{isDigit}
-use Rattle.octets.specs.Words.{byte, zeros, Digits}
-use Rattle.octets.proofs.Words.{byte-lt, byte-and, byte-or, byte-xor, byte-zeros, zeros-le}
-use Rattle.octets.proofs.Marks.{allBelow, all-below, eight, byte-eight}
+use Rattle.octets.specs.Words.{byte, zeros, DigitsTo}
+use Rattle.octets.proofs.Words.{byte-lt, byte-and, byte-or, byte-xor, byte-zeros, byte-first, zeros-le}
+use Rattle.octets.proofs.Marks.{allBelow, all-below, not-true, eight, byte-eight}
 
 -- what is not zero where w is no digit: high bits h, low bits l, the digit zero z and what lifts a ten t, for one byte or for many
 abbrev marks : (h l z t : ℕ) → ℕ → ℕ
@@ -31,6 +31,17 @@ all-fine = refl
 digit-unmarked : (x : ℕ) → x < 256 → mark x ≡ 0 → isDigit x ≡ true
 unfolding fine
 digit-unmarked x h e = sym (rw (fine, eq-eqb (mark x) 0 e)) ∙ all-below 256 fine all-fine x h
+
+unfoldable marksNone : ℕ → Bool
+marksNone x = eqb (mark x) 0 || not (isDigit x)
+
+all-marksNone : allBelow 256 marksNone ≡ true
+unfolding allBelow marksNone isDigit among
+all-marksNone = refl
+
+no-digit-marked : (x : ℕ) → x < 256 → (mark x ≡ 0 → ⊥) → isDigit x ≡ false
+unfolding marksNone
+no-digit-marked x h n = not-true (isDigit x) (sym (rw (marksNone, ne-eqb (mark x) 0 n)) ∙ all-below 256 marksNone all-marksNone x h)
 
 -- ---- eight bytes
 
@@ -64,6 +75,8 @@ module _ (w : ℕ) where
       (byte-or k _ _ ∙ ap₂ bitOr (lifted k h) (other k h))
       (byte-eight 0x80 (lit< tt) k h)
 
-  pub digits-marked : Digits w (zeros marked)
-  digits-marked k h =
-      digit-unmarked (byte k w) (byte-lt k w) (sym (byte-marked k (omega (arith, zeros-le marked))) ∙ byte-zeros k marked h)
+  pub digits-marked : DigitsTo w (zeros marked)
+  digits-marked = (
+    λ k h. digit-unmarked (byte k w) (byte-lt k w) (sym (byte-marked k (omega (arith, zeros-le marked))) ∙ byte-zeros k marked h),
+    λ h. no-digit-marked (byte (zeros marked) w) (byte-lt (zeros marked) w) (λ e. byte-first marked h (byte-marked (zeros marked) h ∙ e)),
+  )

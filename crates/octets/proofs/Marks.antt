@@ -1,18 +1,18 @@
 -- Bytes that are no plain characters, marked by arithmetic: in a byte by itself, and in all eight of a number at once.
 use mathlib.Core.Path.{_≡_, refl, sym, ap, ap₂, _∙_}
-use mathlib.Core.Bool.{Bool, true, _&&_, _||_, not}
+use mathlib.Core.Bool.{Bool, true, false, _&&_, _||_, not}
 use Prim.Native.Nat.{ℕ, zero, suc, _+_, _%_, _^_, _≤_, _<_}
 use native.Mathlib.Nat.{le-of-suc-le-suc}
 use native.Mathlib.Omega.{arith}
 use lib.Arith.{lt-of-le-ne}
 use lib.Dec.{eqb, leb, lit<}
 use lib.Bits.{bitAnd, bitOr, bitXor}
-use borrow.Author.Tests.{eqb-true, eqb-false, eq-eqb, leb-true}
+use borrow.Author.Tests.{eqb-true, eqb-false, eq-eqb, ne-eqb, leb-true}
 use Rattle.rules.specs.Bytes.{among, first}
 use Rattle.rules.specs.Json.Strings.{isPlain}
 use Rattle.rules.proofs.Tests.{by, and-left, and-right}
-use Rattle.octets.specs.Words.{byte, zeros, Plain}
-use Rattle.octets.proofs.Words.{joined, byte-lt, byte-joined, byte-and, byte-or, byte-xor, less, byte-less, byte-zeros, zeros-le}
+use Rattle.octets.specs.Words.{byte, zeros, PlainTo}
+use Rattle.octets.proofs.Words.{joined, byte-lt, byte-joined, byte-and, byte-or, byte-xor, less, byte-less, byte-zeros, byte-first, zeros-le}
 
 -- the highest bit of a byte x is set in one of three: where x is the quote, the backslash, a control, or past ASCII
 abbrev mark : ℕ → ℕ
@@ -45,6 +45,21 @@ all-fine = refl
 clear-unmarked : (x : ℕ) → x < 256 → mark x ≡ 0 → clear x ≡ true
 unfolding fine
 clear-unmarked x h e = sym (rw (fine, eq-eqb (mark x) 0 e)) ∙ all-below 256 fine all-fine x h
+
+unfoldable marksNone : ℕ → Bool
+marksNone x = eqb (mark x) 0 || not (isPlain x)
+
+all-marksNone : allBelow 256 marksNone ≡ true
+unfolding allBelow marksNone isPlain first among
+all-marksNone = refl
+
+pub not-true : (b : Bool) → not b ≡ true → b ≡ false
+not-true true e = cc
+not-true false e = refl
+
+not-plain-marked : (x : ℕ) → x < 256 → (mark x ≡ 0 → ⊥) → isPlain x ≡ false
+unfolding marksNone
+not-plain-marked x h n = not-true (isPlain x) (sym (rw (marksNone, ne-eqb (mark x) 0 n)) ∙ all-below 256 marksNone all-marksNone x h)
 
 module _ (x : ℕ) (c : clear x ≡ true) where
   clear-plain : isPlain x ≡ true
@@ -116,5 +131,9 @@ module _ (w q b c : ℕ)
       clear-unmarked (byte k w) (byte-lt k w)
       (sym (byte-marked k (omega (arith, zeros-le marked)) (λ j m. clear-below n (omega arith) j (omega arith))) ∙ byte-zeros k marked (omega arith))
 
-  pub plain-marked : Plain w (zeros marked)
-  plain-marked k h = clear-plain (byte k w) (clear-below (zeros marked) (omega arith) k h)
+  pub plain-marked : PlainTo w (zeros marked)
+  plain-marked = (
+    λ k h. clear-plain (byte k w) (clear-below (zeros marked) (omega arith) k h),
+    λ h. not-plain-marked (byte (zeros marked) w) (byte-lt (zeros marked) w)
+        (λ e. byte-first marked h (byte-marked (zeros marked) h (clear-below (zeros marked) (omega arith)) ∙ e)),
+  )

@@ -4,11 +4,13 @@ use mathlib.Core.List.{List}
 use Prim.Native.Nat.{ℕ, zero, suc, _+_, _-_, _*_, _/_, _%_, _^_, _≤_, _<_}
 use native.Mathlib.Nat.{mod-lt, mod-one, pow-suc, le-of-suc-le-suc}
 use native.Mathlib.Omega.{arith}
-use lib.Dec.{lit<}
+use lib.Dec.{ltb, lit<}
 use lib.Arith.{mod-mul, digits-div, digits-mod}
 use lib.Pow.{pow-pos, mod-pow-add}
 use lib.ListN.{getD}
-use lib.Bits.{bitAnd, bitOr, bitXor, and-shr, or-shr, xor-shr, and-mod, or-mod, xor-mod, and-le-l, and-le-r, xor-add-and}
+use borrow.Author.Tests.{ltb-true, ltb-false}
+use Rattle.rules.proofs.Tests.{by}
+use lib.Bits.{bitAnd, bitOr, bitXor, and-shr, or-shr, xor-shr, and-mod, or-mod, xor-mod, and-le-l, and-le-r, xor-add-and, xor-self}
 use lib.Count.{under, trailingZeros, trailing-of-zero, trailing-le}
 use Rattle.octets.specs.Words.{byte, Eight, zeros, Same}
 
@@ -133,6 +135,52 @@ pub byte-zeros : (k x : ℕ) → k < zeros x → byte k x ≡ 0
 unfolding zeros
 byte-zeros k x h = byte-zero k x (zeros-mod (k * 8 + 8) 64 x (omega arith))
 
+mod-zeros : (m k x : ℕ) → x % 2 ^ m ≡ 0 → m ≤ k → m ≤ trailingZeros k x
+unfolding trailingZeros
+mod-zeros zero k x e h = omega arith
+mod-zeros (suc m) zero x e h = absurd (omega arith)
+mod-zeros (suc m) (suc k) x e h = go (x % 2) refl (mod-zeros m k (x / 2) (omega (arith, halves)) (le-of-suc-le-suc h))
+  where
+    place : suc m ≡ m + 1
+    place = omega arith
+
+    halves : x / 2 % 2 ^ m * 2 + x % 2 ≡ 0
+    halves = sym (mod-pow-add x m 1) ∙ ap (λ (n : ℕ). x % 2 ^ n) (sym place) ∙ e
+
+    go : (d : ℕ) → x % 2 ≡ d → m ≤ trailingZeros k (x / 2) → suc m ≤ under d (trailingZeros k (x / 2))
+    go zero f l = omega arith
+    go (suc d) f l = absurd (omega (arith, halves))
+
+bytes-zero : (n x : ℕ) → ((k : ℕ) → k < n → byte k x ≡ 0) → x % 2 ^ (n * 8) ≡ 0
+unfolding byte
+bytes-zero zero x f = mod-one x
+bytes-zero (suc n) x f =
+    let p : suc n * 8 ≡ n * 8 + 8 = omega arith in
+    let low : x % 256 ≡ 0 = f 0 (omega arith) in
+    let high : x / 256 % 2 ^ (n * 8) ≡ 0 = bytes-zero n (x / 256) (λ k h. f (suc k) (omega arith)) in
+    let both : x % 2 ^ (n * 8 + 8) ≡ x / 256 % 2 ^ (n * 8) * 256 + x % 256 = mod-pow-add x (n * 8) 8 in
+    ap (λ (m : ℕ). x % 2 ^ m) p ∙ omega arith
+
+-- behind the bytes that are zero stands one that is not
+pub byte-first : (x : ℕ) → zeros x < 8 → byte (zeros x) x ≡ 0 → ⊥
+unfolding zeros
+byte-first x h e =
+    let z : ℕ = trailingZeros 64 x / 8 in
+    let all : x % 2 ^ (suc z * 8) ≡ 0 = bytes-zero (suc z) x each in
+    omega (arith, mod-zeros (suc z * 8) 64 x all (omega arith))
+  where
+    each : (k : ℕ) → k < suc (trailingZeros 64 x / 8) → byte k x ≡ 0
+    each k l = by (ltb k (zeros x)) (λ t. byte-zeros k x (ltb-true k (zeros x) t)) (λ u. at k (ltb-false k (zeros x) u) l)
+      where
+        at : (k : ℕ) → zeros x ≤ k → k < suc (zeros x) → byte k x ≡ 0
+        at k a b = let q : k ≡ zeros x = omega arith in ap (λ (j : ℕ). byte j x) q ∙ e
+
+pub zeros-few : (x : ℕ) → x < 2 ^ 64 → (x ≡ 0 → ⊥) → zeros x < 8
+zeros-few x h n = by (ltb (zeros x) 8) (λ t. ltb-true (zeros x) 8 t) (λ u. absurd (n (none (ltb-false (zeros x) 8 u))))
+  where
+    none : 8 ≤ zeros x → x ≡ 0
+    none l = let z : x % 2 ^ 64 ≡ 0 = bytes-zero 8 x (λ k m. byte-zeros k x (omega arith)) in omega arith
+
 pub zeros-le : (x : ℕ) → zeros x ≤ 8
 unfolding zeros
 zeros-le x = omega (arith, trailing-le 64 x)
@@ -148,3 +196,8 @@ xor-equal a b e = omega (arith, xor-add-and a b, and-le-l a b, and-le-r a b)
 
 pub same-xor : (a b : ℕ) → Same a b (zeros (bitXor a b))
 same-xor a b k h = xor-equal (byte k a) (byte k b) (sym (byte-xor k a b) ∙ byte-zeros k (bitXor a b) h)
+
+pub xor-differs : (a b k : ℕ) → k ≡ zeros (bitXor a b) → k < 8 → byte k a ≡ byte k b → ⊥
+xor-differs a b k z h e =
+    let same : byte k (bitXor a b) ≡ 0 = byte-xor k a b ∙ ap (bitXor (byte k a)) (sym e) ∙ xor-self (byte k a) in
+    byte-first (bitXor a b) (omega arith) (ap (λ (j : ℕ). byte j (bitXor a b)) (sym z) ∙ same)

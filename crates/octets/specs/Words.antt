@@ -1,6 +1,6 @@
 -- Numbers of 64 bits as eight bytes.
 use mathlib.Core.Path.{_≡_}
-use mathlib.Core.Bool.{true}
+use mathlib.Core.Bool.{true, false}
 use mathlib.Core.List.{List}
 use Prim.Native.Nat.{ℕ, zero, suc, _+_, _/_, _%_, _<_}
 use lib.ListN.{getD}
@@ -29,6 +29,14 @@ Same a b n = (k : ℕ) → k < n → byte k a ≡ byte k b
 abbrev pub Plain : ℕ → ℕ → Type 0
 Plain w n = (k : ℕ) → k < n → isPlain (byte k w) ≡ true
 
+-- these n, and of eight bytes the next is none
+abbrev pub PlainTo : ℕ → ℕ → Type 0
+PlainTo w n = Plain w n × (n < 8 → isPlain (byte n w) ≡ false)
+
 -- the first n bytes are digits
 abbrev pub Digits : ℕ → ℕ → Type 0
 Digits w n = (k : ℕ) → k < n → isDigit (byte k w) ≡ true
+
+-- these n, and of eight bytes the next is none
+abbrev pub DigitsTo : ℕ → ℕ → Type 0
+DigitsTo w n = Digits w n × (n < 8 → isDigit (byte n w) ≡ false)

@@ -2,7 +2,8 @@
 ghost use mathlib.Core.Path.{_≡_};
 ghost use Prim.Native.Nat.{_≤_, _+_};
 ghost use lib.ListN.{length};
-ghost use Rattle.octets.specs.Words.{Eight, zeros, Same, Plain, Digits};
+ghost use lib.Bits.{bitXor};
+ghost use Rattle.octets.specs.Words.{Eight, zeros, PlainTo, DigitsTo};
 
 const HIGHS: u64 = 0x8080808080808080;
 
@@ -43,16 +44,16 @@ pub fn zero_bytes(m: u64) -> usize
     (u64::trailing_zeros(m) / 8) as usize
 }
 
-// Zero in the first bytes that two have in common.
+// Zero in each byte that two have in common.
 pub fn differ(a: u64, b: u64) -> u64
-    ensures { λ r. ⌜ Same a b (zeros r) ⌝ }
+    ensures { λ r. ⌜ r ≡ bitXor a b ⌝ }
 {
     a ^ b
 }
 
 // So many first bytes two have in common.
 pub fn common_in(a: u64, b: u64) -> usize
-    ensures { λ r. ⌜ (r ≤ 8) × Same a b r ⌝ }
+    ensures { λ r. ⌜ (r ≤ 8) × (r ≡ zeros (bitXor a b)) ⌝ }
 {
     zero_bytes(differ(a, b))
 }
@@ -60,7 +61,7 @@ pub fn common_in(a: u64, b: u64) -> usize
 // Zero in the first bytes that are plain characters: from 0x20 on, below 0x80, and neither the quote nor the backslash. What a byte is not shows
 // in the highest bit of a difference. One below zero takes from the byte above, so that only the marks up to the first tell something.
 pub fn stops(w: u64) -> u64
-    ensures { λ r. ⌜ Plain w (zeros r) ⌝ }
+    ensures { λ r. ⌜ PlainTo w (zeros r) ⌝ }
 {
     let quotes = std::num::wrapping_sub_u64(w ^ QUOTES, ONES);
     let backslashes = std::num::wrapping_sub_u64(w ^ BACKSLASHES, ONES);
@@ -70,7 +71,7 @@ pub fn stops(w: u64) -> u64
 
 // Zero in the first bytes that are digits. Without the bits of the digit zero these are below 10; what a byte is not shows in its highest bit.
 pub fn non_digits(w: u64) -> u64
-    ensures { λ r. ⌜ Digits w (zeros r) ⌝ }
+    ensures { λ r. ⌜ DigitsTo w (zeros r) ⌝ }
 {
     let x = w ^ ZEROS;
     (((x & LOWS) + TENS) | x) & HIGHS

@@ -9,12 +9,12 @@ pub use eights::word_at;
 pub use eights::zero_bytes;
 ghost use Prim.Native.Nat.{_≤_, _+_};
 ghost use lib.ListN.{length};
-ghost use Rattle.octets.specs.Alike.{Alike};
+ghost use Rattle.octets.specs.Alike.{Common};
 
 // Of eight bytes.
 fn common_eight(s: &[u8], i: usize, t: &[u8], j: usize) -> usize
     requires { ⌜ (i + 8 ≤ length (now s)) × (j + 8 ≤ length (now t)) ⌝ }
-    ensures { λ r. ⌜ (r ≤ 8) × Alike (now (s .entry)) i (now (t .entry)) j r ⌝ }
+    ensures { λ r. ⌜ Common (now (s .entry)) i (now (t .entry)) j 8 r ⌝ }
 {
     common_in(word_at(s, i), word_at(t, j))
 }
@@ -22,7 +22,7 @@ fn common_eight(s: &[u8], i: usize, t: &[u8], j: usize) -> usize
 // By single bytes.
 fn common_few(s: &[u8], i: usize, t: &[u8], j: usize, room: usize) -> usize
     requires { ⌜ (i + room ≤ length (now s)) × (j + room ≤ length (now t)) ⌝ }
-    ensures { λ r. ⌜ (r ≤ room) × Alike (now (s .entry)) i (now (t .entry)) j r ⌝ }
+    ensures { λ r. ⌜ Common (now (s .entry)) i (now (t .entry)) j room r ⌝ }
 {
     let mut n = 0;
     while n < room {
@@ -37,7 +37,7 @@ fn common_few(s: &[u8], i: usize, t: &[u8], j: usize, room: usize) -> usize
 // By eights, of which the last may begin among those before.
 fn common_long(s: &[u8], i: usize, t: &[u8], j: usize, room: usize) -> usize
     requires { ⌜ (8 ≤ room) × (i + room ≤ length (now s)) × (j + room ≤ length (now t)) ⌝ }
-    ensures { λ r. ⌜ (r ≤ room) × Alike (now (s .entry)) i (now (t .entry)) j r ⌝ }
+    ensures { λ r. ⌜ Common (now (s .entry)) i (now (t .entry)) j room r ⌝ }
 {
     let last = room - 8;
     let mut n = 0;
@@ -51,10 +51,10 @@ fn common_long(s: &[u8], i: usize, t: &[u8], j: usize, room: usize) -> usize
     last + common_eight(s, i + last, t, j + last)
 }
 
-// So many bytes, at most `room`, the text s from i on and the text t from j on have in common.
+// So many bytes, at most `room`, the text s from i on and the text t from j on have in common, and no more.
 pub fn common(s: &[u8], i: usize, t: &[u8], j: usize, room: usize) -> usize
     requires { ⌜ (i + room ≤ length (now s)) × (j + room ≤ length (now t)) ⌝ }
-    ensures { λ r. ⌜ (r ≤ room) × Alike (now (s .entry)) i (now (t .entry)) j r ⌝ }
+    ensures { λ r. ⌜ Common (now (s .entry)) i (now (t .entry)) j room r ⌝ }
 {
     if room < 8 {
         return common_few(s, i, t, j, room);

@@ -1,10 +1,11 @@
--- A refusal's number, entry and line fix its case: two refusals that say the same are equal.
+-- A refusal's number, entry and line fix its case, and it fixes them: two refusals that say the same are equal.
 use mathlib.Core.Path.{_≡_, refl, sym, ap, _∙_}
 use mathlib.Core.List.{List, [], _∷_}
 use Prim.Native.Nat.{_-_}
 use lib.ListN.{getD}
 use Rattle.rules.specs.Refusals as Rules
-use Rattle.refusals.specs.Numbered.{numbered}
+use Rattle.refusals.specs.Numbered.{numbered, said}
+use Rattle.refusals.specs.declared.Numbers.{Numbers}
 use Rattle.refusals.specs.declared.Refusal.{Refusal}
 use Rattle.refusals.specs.declared.Refusal.the-variants.{RoomTooShort, BundleMalformed, VersionTooLarge, NoVersionZero, NotKept, Malformed, TooManyLive, ReaderTooHigh, UnknownFeature, QueryMalformed, NoSuchColumn, NotWritable, CheckpointDisagrees, StateMalformed, TooManyManifests}
 
@@ -39,3 +40,7 @@ caseOf-numbered TooManyManifests = refl
 
 pub numbered-alone : (x y : Refusal) → numbered x ≡ numbered y → x ≡ y
 numbered-alone x y e = sym (caseOf-numbered x) ∙ ap caseOf e ∙ caseOf-numbered y
+
+pub said-alone : (x : Refusal) (r q : Numbers) → said r ≡ numbered x → said q ≡ numbered x → r ≡ q
+said-alone x r q h k =
+    ap (λ (s : Rules.Refusal). record { number = s .number; entry = s .entry; line = s .line }) (h ∙ sym k)

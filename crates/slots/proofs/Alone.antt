@@ -1,5 +1,7 @@
--- A string and a path in their places have one answer: the place of the text fixes that of the string.
+-- A string and a path in their places have one answer: the place of the text fixes that of the string. Whether there is an answer is
+-- told in one way.
 use mathlib.Core.Path.{_≡_, refl, sym, ap, _∙_}
+use mathlib.Core.Bool.{Bool, true, false}
 use mathlib.Core.Option.{Option}
 use Prim.Native.Nat.{ℕ}
 use lib.ListN.{length, drop}
@@ -7,7 +9,7 @@ use Rattle.rules.specs.Bytes.{Bytes}
 use Rattle.rules.specs.Json.Text.{Text}
 use Rattle.rules.proofs.Json.Suffix.{answered-none}
 use Rattle.strings.specs.Decoded.{decoded}
-use Rattle.slots.specs.Texts.{StringIs, PathIs}
+use Rattle.slots.specs.Texts.{Told, StringIs, PathIs}
 use Rattle.slots.specs.declared.Wording.{Wording}
 use Rattle.slots.specs.declared.Wording.the-variants.{Sized, NoString}
 use Rattle.slots.specs.declared.Path.{Path}
@@ -28,3 +30,9 @@ module _ (o : Option Bytes) (s : Text) (v : ℕ) where
   path-alone (Spelled p) NoPath a b = answered-none (a .0 .says) b
   path-alone NoPath (Spelled t) a b = answered-none (b .0 .says) a
   path-alone NoPath NoPath a b = refl
+
+pub told-alone : {A : Type 0} (o : Option A) (r q : Bool) → Told o r → Told o q → r ≡ q
+told-alone o true true h k = refl
+told-alone o true false h k = answered-none (h .1) k
+told-alone o false true h k = answered-none (k .1) h
+told-alone o false false h k = refl

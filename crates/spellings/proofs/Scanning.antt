@@ -20,7 +20,7 @@ use Rattle.rules.proofs.Json.TextReads.{spelled-none}
 use Rattle.rules.proofs.Json.Steps.{char-plain, string-end, string-quote, string-none, string-char}
 use Rattle.text.specs.Answers.{Answer}
 use Rattle.text.specs.declared.Next.the-variants.{At}
-use Rattle.characters.specs.Runs.{Plains, Closes}
+use Rattle.characters.specs.Runs.{Plains, Closing, Closes}
 use Rattle.characters.proofs.Runs.{plains-keep}
 use Rattle.strings.specs.Decoded.{decoded}
 use Rattle.spellings.specs.Scanned.{Scanned}
@@ -142,6 +142,6 @@ pub closes-scanned : (s : Text) (at r : ℕ) → at ≤ length s → Closes s at
 closes-scanned s at r h c l =
     let i : ℕ = r - 1 in
     let same : i + 1 ≡ r = omega arith in
-    let x : (at ≤ i) × (i < length s) × Plains s at i × (getD s i 0 ≡ 0x22) = c i (sym same) in
+    let x : Closing s at i = c .0 i (sym same) in
     let high : i < length s = x .1 in
     subst (λ (k : ℕ). Scanned s at (Plain k)) same (scanning-quote (scanning-run (scanning-start h) (x .0, omega arith, x .2)) high (x .3))

@@ -4,3 +4,5 @@ pub mod Markers
 pub mod Judging
 pub mod Climbing
 pub mod Starting
+pub mod Passing
+pub mod Alone

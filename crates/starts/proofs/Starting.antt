@@ -2,7 +2,7 @@
 use mathlib.Core.Path.{_≡_, refl, sym, ap, _∙_, subst}
 use mathlib.Core.Bool.{true, false}
 use mathlib.Core.Option.{Option, none, some}
-use Prim.Native.Nat.{ℕ, zero, suc, _-_, _≤_}
+use Prim.Native.Nat.{ℕ, zero, suc, _-_}
 use native.Mathlib.Omega.{arith}
 use Rattle.rules.specs.Bytes.{Bytes, _>>=_}
 use Rattle.rules.specs.Numbers.{most}
@@ -14,7 +14,7 @@ use Rattle.bundle.specs.Files.{filesIn}
 use Rattle.names.specs.declared.Version.{Version}
 use Rattle.starts.specs.Marks.{namedBy, markIs}
 use Rattle.starts.specs.declared.Mark.the-variants.{At, Nothing}
-use Rattle.starts.specs.Ways.{Leads, here, next, StartIs, PassesIs}
+use Rattle.starts.specs.Ways.{Leads, here, next, StartIs}
 use Rattle.starts.specs.declared.Start.{Start}
 use Rattle.starts.specs.declared.Start.the-variants.{Zero, Checkpoint, NoStart}
 
@@ -114,7 +114,7 @@ module _ (log : Log) where
   unfolding wayTo byStart
   way-zero e = ap (λ (o : Option File). byStart o (λ _. some fromZero)) e
 
-  way-file : (w : ℕ) → startAt log (suc w) ≡ none → wayTo log (suc w) ≡ byFile (log .versionFile (suc w)) (λ _. wayTo log w)
+  pub way-file : (w : ℕ) → startAt log (suc w) ≡ none → wayTo log (suc w) ≡ byFile (log .versionFile (suc w)) (λ _. wayTo log w)
   unfolding wayTo byStart
   way-file w e = ap (λ (o : Option File). byStart o (λ _. byFile (log .versionFile (suc w)) (λ _. wayTo log w))) e
 
@@ -170,11 +170,6 @@ module _ (log : Log) where
 
     pub falling-checkpoint : {f : File} → startAt log w ≡ some f → (x : Way) × (o ≡ some x) × Leads log (fromCheckpoint f) w v x
     falling-checkpoint {f} s = h .on (fromCheckpoint f) (way-start w s)
-
-  pub falling-through : {v w n : ℕ} → Falling v (wayTo log v) w → n ≤ w → w ≤ n → PassesIs log n v true
-  falling-through {v} {w} {n} h a b =
-      let z : w ≡ n = omega arith in
-      subst (λ (i : ℕ). PassesIs log i v true) z (h .on)
 
   -- ---- the way that is not from the checkpoint at c
 

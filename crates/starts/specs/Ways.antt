@@ -1,13 +1,13 @@
 -- From a start up to a version, one version file after the other, so that a caller can read them in that order.
 use mathlib.Core.Path.{_≡_}
-use mathlib.Core.Bool.{Bool, true, false}
+use mathlib.Core.Bool.{Bool, true, not, _&&_}
 use mathlib.Core.Option.{Option, none, some}
-use Prim.Native.Nat.{ℕ, suc, _<_}
+use Prim.Native.Nat.{ℕ, zero, suc, _+_, _<_}
 use lib.ListN.{length}
 use Rattle.rules.specs.Bytes.{Bytes}
 use Rattle.rules.specs.Bundle.{File}
-use Rattle.rules.specs.Starts.{Log, logOf, startAt, Way, fromZero, fromCheckpoint, andThen, wayTo}
-use Rattle.bundle.specs.Files.{filesIn, fileIn}
+use Rattle.rules.specs.Starts.{Log, logOf, startAt, Way, fromZero, fromCheckpoint, andThen}
+use Rattle.bundle.specs.Files.{isSome, filesIn, fileIn}
 use Rattle.starts.specs.declared.Start.{Start}
 use Rattle.starts.specs.declared.Start.the-variants.{Zero, Checkpoint, NoStart}
 
@@ -27,7 +27,11 @@ StartIs src v o (Checkpoint k s) =
     × Leads (logOf (filesIn src)) (fromCheckpoint (fileIn src k)) (s .0) v w
 StartIs src v o NoStart = o ≡ none
 
--- where the answer is true, the way to v goes on from the way to n
-abbrev pub PassesIs : (log : Log) (n v : ℕ) → Bool → Type 0
-PassesIs log n v true = (x : Way) → wayTo log n ≡ some x → (y : Way) × (wayTo log v ≡ some y) × Leads log x n v y
-PassesIs log n v false = Unit {0}
+-- the way to w, if there is one, comes to it by its version file, and no start is there
+unfoldable pub byItsFile : Log → ℕ → Bool
+byItsFile log w = not (isSome (startAt log w)) && isSome (log .versionFile w)
+
+-- so it is of each of the d versions above n
+unfoldable pub passing : Log → (n d : ℕ) → Bool
+passing log n zero = true
+passing log n (suc d) = byItsFile log (suc (n + d)) && passing log n d

@@ -9,7 +9,7 @@ use text::Next;
 use values::Whole;
 ghost use mathlib.Core.Path.{_≡_};
 ghost use mathlib.Core.Bool.{true};
-ghost use Prim.Native.Nat.{_≤_};
+ghost use Prim.Native.Nat.{_-_, _≤_};
 ghost use Rattle.rules.specs.Numbers.{most};
 ghost use Rattle.rules.specs.Bundle.{bundle as rBundle};
 ghost use Rattle.rules.specs.Starts.{logOf, startAt, wayTo, otherWayTo, wellFormed};
@@ -21,7 +21,7 @@ ghost use Rattle.bundle.specs.Files.{isSome, filesIn};
 ghost use Rattle.logs.specs.Logs.{PlaceIs};
 ghost use Rattle.slots.specs.Inside.{Inside};
 ghost use Rattle.starts.specs.Marks.{ObjectIs, formatIn, fits, namedBy, markIs};
-ghost use Rattle.starts.specs.Ways.{StartIs, PassesIs};
+ghost use Rattle.starts.specs.Ways.{StartIs, passing};
 
 // 2^63 - 1, the highest version.
 const MOST: u64 = 9223372036854775807;
@@ -193,7 +193,7 @@ pub fn other_start_for(s: &[u8], c: Version) -> Start
 // Whether the way to v goes through version n: no start is above n, and no version file is missing from there up to v.
 pub fn passes(s: &[u8], n: Version, v: Version, near: usize) -> bool
     requires { ⌜ (isSome (rBundle (now s)) ≡ true) × (n .0 ≤ v .0) ⌝ }
-    ensures { λ r. ⌜ PassesIs (logOf (filesIn (now (s .entry)))) (n .0) (v .0) r ⌝ }
+    ensures { λ r. ⌜ r ≡ passing (logOf (filesIn (now (s .entry)))) (n .0) (v .0 - n .0) ⌝ }
 {
     let mut w = v.0;
     let mut place = near;

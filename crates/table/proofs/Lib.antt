@@ -5,3 +5,4 @@ pub mod Zeroing
 pub mod Moving
 pub mod Standing
 pub mod Settling
+pub mod Alone

@@ -6,6 +6,7 @@ use mathlib.Core.Path.{sym, ap, _∙_}
 use Rattle.bundle.proofs.Large.{tellsLarge, tells-large}
 use Rattle.rules.specs.Bytes.{Bytes}
 use Rattle.rules.specs.Names.{nameOf, isTooLarge}
+use Rattle.names.proofs.Low.{low-name}
 use Rattle.bundle.specs.Files.{fileIn}
 
 name-in-requires : tie.Need-name-in-requires
@@ -15,7 +16,9 @@ begins-low-requires : tie.Need-begins-low-requires
 begins-low-requires c κs = search needs
 
 returns : tie.Need-returns
-returns c = sym (ap (λ (n : Bytes). isTooLarge (nameOf n)) (sym (c .before .before .name-in .ensures)) ∙ c .before .begins-low .ensures (c .if1 .taken))
+returns c =
+    let low = low-name _ (sym (c .before .begins-low .ensures) ∙ c .if1 .taken) in
+    sym (ap (λ (n : Bytes). isTooLarge (nameOf n)) (sym (c .before .before .name-in .ensures)) ∙ low)
 
 kind-requires : tie.Need-kind-requires
 kind-requires c κs = search needs

@@ -3,7 +3,7 @@ use denote.Ref.{now}
 use mathlib.Core.Path.{subst}
 use Rattle.replay.specs.Answers.{OutcomeIs}
 use Rattle.replay.specs.declared.Outcome.the-variants.{Done}
-use Rattle.history.proofs.Reaching.{reaches-checkpoint, follow-zero, follow-nowhere, follow-checkpoint, follow-malformed, follow-many}
+use Rattle.history.proofs.Reaching.{zero-goes-on, reaches-checkpoint, follow-zero, follow-nowhere, follow-checkpoint, follow-malformed, follow-many}
 use borrow.Author.Needs.{needs}
 use Rattle.history.proofs.follow.Statement.{statement}
 use Rattle.history.proofs.follow.Tie as tie
@@ -12,7 +12,10 @@ enum-told : tie.Need-enum-told
 enum-told c = search needs
 
 onward-requires : tie.Need-onward-requires
-onward-requires c κs = search needs
+onward-requires c κs =
+    let a = c .before .before .before .before .before .args in
+    let p = c .before .before .before .before .before .pre in
+    (p .0, p .1, zero-goes-on (now (a .src)) (a .v .0) (a .start) (c .before .enum-told .given .1) (p .2))
 
 enum-known-start : tie.Need-enum-known-start
 enum-known-start c = search needs

@@ -4,6 +4,7 @@ use Prim.Native.Nat.{_-_}
 use Rattle.bundle.proofs.Reading.{found}
 use Rattle.logs.specs.Logs.{PlaceIs}
 use Rattle.replay.specs.Answers.{OutcomeIs}
+use Rattle.history.proofs.Leading.{leads-up}
 use Rattle.history.proofs.Walking.{Onward, onward-start, onward-done, onward-gap, onward-next, onward-malformed, onward-many}
 use borrow.Author.Needs.{needs}
 use native.Mathlib.Omega.{arith}
@@ -17,7 +18,7 @@ abbrev μ-loop : tie.MeasureT-loop
 μ-loop src v near t₀ limit w₀ state₀ place₀ t w state place = v .0 - w
 
 loop-holds : tie.Need-loop-holds Inv-loop μ-loop
-loop-holds c = onward-start _ _ _ _ _ _ (c .before .before .pre .2) (c .before .before .pre .1)
+loop-holds c = onward-start _ _ _ _ _ _ (leads-up (c .before .before .pre .2 .2)) (c .before .before .pre .1)
 
 add-next : tie.Need-add-next Inv-loop μ-loop
 add-next c = omega (arith, c .if1 .taken)

@@ -6,10 +6,10 @@ use Rattle.rules.specs.Numbers.{most}
 use Rattle.rules.specs.Live.{mostLive}
 use Rattle.rules.specs.Starts.{logOf}
 use Rattle.bundle.specs.Files.{filesIn}
-use Rattle.starts.specs.Ways.{PassesIs}
 use Rattle.starts.proofs.Climbing.{climb-above}
+use Rattle.starts.proofs.Passing.{Through, passing-through}
 use Rattle.history.specs.Ends.{ReachedIs}
-use Rattle.latest.proofs.Beginning.{begun-latest, begun-onward, reached-outcome, latest-is}
+use Rattle.latest.proofs.Beginning.{begun-latest, begun-goes-on, begun-onward, reached-outcome, latest-is}
 use borrow.Author.Needs.{needs}
 use Rattle.latest.proofs.from_checkpoint.Statement.{statement}
 use Rattle.latest.proofs.from_checkpoint.Tie as tie
@@ -22,11 +22,21 @@ passes-requires c κs =
     let a = c .before .before .before .args in
     (c .before .before .before .pre .0, subst (λ (v : ℕ). a .n .0 ≤ v) (sym (c .climb .ensures)) (climb-above most (logOf (filesIn (now (a .src)))) (a .n .0)))
 
+-- the way to the version that the climb ends at goes through n
+through : (c : tie.Then1)
+    → let s = c .before .before in let a = s .before .before .before .args in Through (logOf (filesIn (now (a .src)))) (a .n .0) (s .climb .result .0)
+through c =
+    let a = c .before .before .before .before .before .args in
+    let v = c .before .before .climb in
+    passing-through (logOf (filesIn (now (a .src)))) (a .n .0) (v .result .0)
+    (subst (λ (v : ℕ). a .n .0 ≤ v) (sym (v .ensures)) (climb-above most (logOf (filesIn (now (a .src)))) (a .n .0)))
+    (sym (c .before .passes .ensures) ∙ c .if1 .taken)
+
 onward-requires : tie.Need-onward-requires
 unfolding mostLive
 onward-requires c κs =
-    let a = c .before .before .before .before .before .before .args in
-    (c .before .before .before .before .before .before .pre .0, c .before .before .before .before .before .before .pre .1 .carries, subst (λ (v : ℕ). a .n .0 ≤ v) (sym (c .before .before .before .climb .ensures)) (climb-above most (logOf (filesIn (now (a .src)))) (a .n .0)))
+    let p = c .before .before .before .before .before .before .pre in
+    (p .0, p .1 .carries, begun-goes-on (p .1) (c .before .before .before .climb .result .0) (through (c .before)))
 
 reached-by-requires : tie.Need-reached-by-requires
 reached-by-requires c κs = search needs
@@ -39,7 +49,7 @@ unfolding mostLive
 returns c =
     let a = c .before .before .before .before .before .before .before .before .before .before .args in
     let b = c .before .before .before .before .before .before .before .before .before .before .pre .1 in
-    let p = subst (PassesIs (logOf (filesIn (now (a .src)))) (a .n .0) (c .before .before .before .before .before .before .before .climb .result .0)) (c .before .before .before .before .before .if1 .taken) (c .before .before .before .before .before .before .passes .ensures) in
+    let p = through (c .before .before .before .before .before) in
     let d = begun-onward b (c .before .before .before .before .before .before .before .climb .result .0) _ (c .before .before .before .onward .result) p (c .before .before .before .onward .ensures) in
     latest-is _ _ _ _ (c .before .before .before .before .before .before .before .climb .ensures ∙ begun-latest b) (subst (ReachedIs _ _ _ _) (sym (c .reached-by .ensures)) (reached-outcome _ _ _ _ (c .before .before .before .onward .result) d))
 

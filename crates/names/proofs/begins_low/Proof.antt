@@ -1,29 +1,27 @@
--- `begins_low` meets its contract: it answers true only where the first two bytes are zeros.
-use mathlib.Core.Bool.{true}
+-- `begins_low` meets its contract: the two bytes are looked at one after the other.
+use mathlib.Core.Path.{sym}
 use native.Mathlib.Omega.{arith}
-use borrow.Author.Tests.{eqb-true}
 use borrow.Author.Needs.{needs}
-use Rattle.rules.proofs.Tests.{apart}
-use Rattle.names.proofs.Low.{low-name}
+use Rattle.values.proofs.Words.{begins-longer}
+use Rattle.names.specs.Names.{twoZeros}
+use Rattle.names.proofs.Low.{zeros-first, zeros-second}
 use Rattle.names.proofs.begins_low.Statement.{statement}
 use Rattle.names.proofs.begins_low.Tie as tie
 
 returns : tie.Need-returns
-returns c e = apart (cc)
+returns c = sym (begins-longer twoZeros (c .before .args .n .now) (c .if1 .taken))
 
 shared-slice-read-if2 : tie.Need-shared-slice-read-if2
 shared-slice-read-if2 c = search needs
 
 returns-2 : tie.Need-returns-2
-returns-2 c e = apart (cc)
+returns-2 c = let n = c .before .before .before .args .n .now in sym (zeros-first n (omega arith) (c .if2 .taken))
 
 shared-slice-read-result : tie.Need-shared-slice-read-result
 shared-slice-read-result c = search needs
 
 returns-3 : tie.Need-returns-3
-returns-3 c e =
-    let n = c .before .before .before .before .args .n .now in
-    low-name n (omega arith) (c .before .if2 .left) (eqb-true _ 48 e)
+returns-3 c = let n = c .before .before .before .before .args .n .now in sym (zeros-second n (omega arith) (c .before .if2 .left))
 
 pub begins-low-spec : {M : Type 1} → statement M
 begins-low-spec =

@@ -43,7 +43,7 @@ returns c =
     let e = c .zero-bytes .ensures in
     running-passed
     (running-eight (a .s .now) (a .at) _ _ _ l (omega (arith, room, l .within, e .0)) (c .before .before .before .word-at .ensures) (e .0)
-    (subst (Digits _) (sym (e .1)) (c .before .before .non-digits .ensures)))
+    (subst (Digits _) (sym (e .1)) (c .before .before .non-digits .ensures .0)))
 
 add-i : tie.Need-add-i Inv-loop μ-loop
 add-i c = omega arith
@@ -57,7 +57,7 @@ loop-again c =
     let l = c .before .before .before .before .loop .inv in
     let room = c .before .before .before .loop-test .taken in
     running-eight (a .s .now) (a .at) _ _ 8 l (omega (arith, room, l .within)) (c .before .before .word-at .ensures) (omega arith)
-    (subst (Digits _) (zeros-all _ (c .if1 .left)) (c .before .non-digits .ensures))
+    (subst (Digits _) (zeros-all _ (c .if1 .left)) (c .before .non-digits .ensures .0))
 
 returns-2 : tie.Need-returns-2 Inv-loop μ-loop
 returns-2 c = running-passed (c .before .loop .inv)

@@ -1,6 +1,6 @@
 -- `common_eight` meets its contract: the two numbers are the bytes of the two texts.
 use borrow.Author.Needs.{needs}
-use Rattle.octets.proofs.Sides.{alike-eight}
+use Rattle.octets.proofs.Sides.{common-eight}
 use Rattle.octets.proofs.common_eight.Statement.{statement}
 use Rattle.octets.proofs.common_eight.Tie as tie
 
@@ -16,8 +16,7 @@ common-in-requires c κs = search needs
 returns : tie.Need-returns
 returns c =
     let a = c .before .before .before .before .before .args in
-    let e = c .common-in .ensures in
-    (e .0, alike-eight (a .s .now) (a .i) (a .t .now) (a .j) _ _ _ (c .before .before .word-at .ensures) (c .before .word-at2 .ensures) (e .0) (e .1))
+    common-eight (a .s .now) (a .i) (a .t .now) (a .j) _ _ _ (c .before .before .word-at .ensures) (c .before .word-at2 .ensures) (c .common-in .ensures .1)
 
 pub common-eight-spec : {M : Type 1} → statement M
 common-eight-spec =

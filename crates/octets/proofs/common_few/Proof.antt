@@ -1,4 +1,4 @@
--- `common_few` meets its contract: each byte that it passes is the same in both.
+-- `common_few` meets its contract: each byte that it passes is the same in both, and one that ends it is not.
 use Prim.Native.Nat.{_+_, _-_, _≤_}
 use lib.ListN.{length}
 use native.Mathlib.Omega.{arith}
@@ -29,7 +29,7 @@ shared-slice-read-if1-2 : tie.Need-shared-slice-read-if1-2 Inv-loop μ-loop
 shared-slice-read-if1-2 c = omega arith
 
 returns : tie.Need-returns Inv-loop μ-loop
-returns c = let v = c .before .before .before .before .loop .inv in (v .0, v .3)
+returns c = let v = c .before .before .before .before .loop .inv in (v .0, v .3, λ h. c .if1 .taken)
 
 add-n : tie.Need-add-n Inv-loop μ-loop
 add-n c = omega arith
@@ -44,7 +44,7 @@ loop-again c =
     (omega arith, v .1, v .2, alike-joined (a .s .now) (a .i) (a .t .now) (a .j) _ 1 (v .3) (alike-one (a .s .now) _ (a .t .now) _ (c .if1 .left)))
 
 returns-2 : tie.Need-returns-2 Inv-loop μ-loop
-returns-2 c = let v = c .before .loop .inv in (v .0, v .3)
+returns-2 c = let v = c .before .loop .inv in (v .0, v .3, λ h e. absurd (omega arith))
 
 pub common-few-spec : {M : Type 1} → statement M
 common-few-spec =

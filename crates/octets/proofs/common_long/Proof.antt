@@ -1,11 +1,12 @@
 -- `common_long` meets its contract: eights that are the same in both, up to the first that are not or to the last.
-use mathlib.Core.Path.{sym}
-use Prim.Native.Nat.{_+_, _-_, _≤_}
+use mathlib.Core.Path.{_≡_, sym, ap, _∙_}
+use Prim.Native.Nat.{_+_, _-_, _^_, _≤_, _<_}
 use lib.ListN.{length}
 use native.Mathlib.Omega.{arith}
 use Rattle.octets.specs.Alike.{Alike}
-use Rattle.octets.proofs.Words.{zeros-all}
-use Rattle.octets.proofs.Sides.{alike-none, alike-less, alike-differ, alike-joined}
+use Rattle.octets.specs.Words.{zeros}
+use Rattle.octets.proofs.Words.{zeros-all, zeros-few}
+use Rattle.octets.proofs.Sides.{alike-none, alike-less, alike-joined, common-eight, common-joined}
 use Rattle.octets.proofs.common_long.Statement.{statement}
 use Rattle.octets.proofs.common_long.Tie as tie
 
@@ -48,9 +49,15 @@ returns : tie.Need-returns Inv-loop μ-loop
 returns c =
     let a = c .before .before .before .before .before .before .before .before .before .args in
     let v = c .before .before .before .before .before .before .loop .inv in
-    let e = c .zero-bytes .ensures in
-    let same = alike-differ (a .s .now) _ (a .t .now) _ _ _ _ _ (c .before .before .before .before .word-at .ensures) (c .before .before .before .word-at2 .ensures) (c .before .before .differ .ensures) (sym (e .1)) in
-    (omega (arith, c .before .before .before .before .before .loop-test .taken, e .0), alike-joined (a .s .now) (a .i) (a .t .now) (a .j) _ _ (v .3) same)
+    let d = c .before .before .differ in
+    let f = c .before .before .before .before .word-at .ensures in
+    let g = c .before .before .before .word-at2 .ensures in
+    let room = c .before .before .before .before .before .loop-test .taken in
+    let below : d .result < 2 ^ 64 = omega (arith, d .ok) in
+    let few = zeros-few (d .result) below (c .before .if1 .taken) in
+    let e = c .zero-bytes .ensures .1 in
+    let eight = common-eight (a .s .now) _ (a .t .now) _ _ _ _ f g (e ∙ ap zeros (d .ensures)) in
+    common-joined (a .s .now) (a .i) (a .t .now) (a .j) _ _ 8 (a .room) (v .3) eight (omega (arith, room)) (λ h. omega (arith, few, e))
 
 add-n : tie.Need-add-n Inv-loop μ-loop
 add-n c = omega arith
@@ -62,8 +69,12 @@ loop-again : tie.Need-loop-again Inv-loop μ-loop
 loop-again c =
     let a = c .before .before .before .before .before .before .before .before .args in
     let v = c .before .before .before .before .before .loop .inv in
-    let same = alike-differ (a .s .now) _ (a .t .now) _ _ _ _ 8 (c .before .before .before .word-at .ensures) (c .before .before .word-at2 .ensures) (c .before .differ .ensures) (zeros-all _ (c .if1 .left)) in
-    (omega (arith, c .before .before .before .before .loop-test .taken), v .1, v .2, alike-joined (a .s .now) (a .i) (a .t .now) (a .j) _ 8 (v .3) same)
+    let d = c .before .differ in
+    let f = c .before .before .before .word-at .ensures in
+    let g = c .before .before .word-at2 .ensures in
+    let all : 8 ≡ zeros (d .result) = sym (zeros-all (d .result) (c .if1 .left)) in
+    let eight = common-eight (a .s .now) _ (a .t .now) _ _ _ 8 f g (all ∙ ap zeros (d .ensures)) in
+    (omega (arith, c .before .before .before .before .loop-test .taken), v .1, v .2, alike-joined (a .s .now) (a .i) (a .t .now) (a .j) _ 8 (v .3) (eight .1))
 
 add-common-eight : tie.Need-add-common-eight Inv-loop μ-loop
 add-common-eight c = omega arith
@@ -83,7 +94,7 @@ returns-2 c =
     let v = c .before .before .loop .inv in
     let e = c .common-eight .ensures in
     let before = alike-less (a .s .now) (a .i) (a .t .now) (a .j) _ (a .room - 8) (c .before .loop-test .left) (v .3) in
-    (omega (arith, e .0), alike-joined (a .s .now) (a .i) (a .t .now) (a .j) _ _ before (e .1))
+    common-joined (a .s .now) (a .i) (a .t .now) (a .j) _ _ 8 (a .room) before e (omega arith) (λ h. omega arith)
 
 pub common-long-spec : {M : Type 1} → statement M
 common-long-spec =

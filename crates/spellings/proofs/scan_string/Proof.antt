@@ -22,7 +22,9 @@ skip-plain-requires : tie.Need-skip-plain-requires Inv-loop μ-loop
 skip-plain-requires c κs = search needs
 
 returns : tie.Need-returns Inv-loop μ-loop
-returns c = scanning-ended (scanning-run (scanning-start (c .before .before .before .pre)) (c .before .skip-plain .ensures)) (c .if1 .taken)
+returns c =
+    let run = c .before .skip-plain .ensures in
+    scanning-ended (scanning-run (scanning-start (c .before .before .before .pre)) (run .0, run .1, run .2)) (c .if1 .taken)
 
 shared-slice-read-if2 : tie.Need-shared-slice-read-if2 Inv-loop μ-loop
 shared-slice-read-if2 c = search needs
@@ -31,10 +33,15 @@ add-t11 : tie.Need-add-t11 Inv-loop μ-loop
 add-t11 c = search needs
 
 returns-2 : tie.Need-returns-2 Inv-loop μ-loop
-returns-2 c = scanning-quote (scanning-run (scanning-start (c .before .before .before .before .before .pre)) (c .before .before .before .skip-plain .ensures)) (c .before .before .if1 .left) (c .if2 .taken)
+returns-2 c =
+    let run = c .before .before .before .skip-plain .ensures in
+    let scanned = scanning-run (scanning-start (c .before .before .before .before .before .pre)) (run .0, run .1, run .2) in
+    scanning-quote scanned (c .before .before .if1 .left) (c .if2 .taken)
 
 loop-holds : tie.Need-loop-holds Inv-loop μ-loop
-loop-holds c = scanning-run (scanning-start (c .before .before .before .before .before .pre)) (c .before .before .before .skip-plain .ensures)
+loop-holds c =
+    let run = c .before .before .before .skip-plain .ensures in
+    scanning-run (scanning-start (c .before .before .before .before .before .pre)) (run .0, run .1, run .2)
 
 shared-slice-read-b : tie.Need-shared-slice-read-b Inv-loop μ-loop
 shared-slice-read-b c = omega arith
@@ -111,7 +118,11 @@ loop-less c =
 loop-again : tie.Need-loop-again Inv-loop μ-loop
 loop-again c =
     let e = subst (Answer _ _ _) (c .before .before .k .given .1) (char-answer (c .before .before .before .before)) in
-    scanning-run (scanning-more (c .before .before .before .before .before .before .before .before .before .before .loop .inv) (c .before .before .before .before .before .before .before .before .before .loop-test .taken) (c .before .before .before .before .before .before .before .if3 .left) (c .before .before .before .before .before .before .if4 .left) _ (e .0) (e .1) (e .2)) (c .skip-plain2 .ensures)
+    let run = c .skip-plain2 .ensures in
+    let here = c .before .before .before .before .before .before in
+    let test = here .before .before .before in
+    let more = scanning-more (test .before .loop .inv) (test .loop-test .taken) (here .before .if3 .left) (here .if4 .left) _ (e .0) (e .1) (e .2) in
+    scanning-run more (run .0, run .1, run .2)
 
 returns-7 : tie.Need-returns-7 Inv-loop μ-loop
 returns-7 c = scanning-ended (c .before .loop .inv) (c .loop-test .left)

@@ -1,4 +1,4 @@
--- The invariant: what has been passed is plain. The measure is what is left.
+-- The invariant: what has been passed is plain. The measure is what is left. What ends it is not plain, or the end.
 use mathlib.Core.Path.{sym, _∙_}
 use native.Mathlib.Omega.{arith}
 use Prim.Native.Nat.{_≤_, _-_}
@@ -39,10 +39,14 @@ loop-again c =
     )
 
 returns : tie.Need-returns Inv-loop μ-loop
-returns c = c .before .before .before .before .loop .inv
+returns c =
+    let l = c .before .before .before .before .loop .inv in
+    (l .0, l .1, l .2, λ h. sym (c .before .is-plain .ensures) ∙ c .if1 .left)
 
 returns-2 : tie.Need-returns-2 Inv-loop μ-loop
-returns-2 c = c .before .loop .inv
+returns-2 c =
+    let l = c .before .loop .inv in
+    (l .0, l .1, l .2, λ h. absurd (omega (arith, c .loop-test .left)))
 
 pub skip-few-spec : {M : Type 1} → statement M
 skip-few-spec =

@@ -1,12 +1,12 @@
 -- The invariant: what has been passed is plain. The measure is what is left. A number that is not plain as a whole ends the run within it.
 use mathlib.Core.Path.{sym, subst}
 use native.Mathlib.Omega.{arith}
-use Prim.Native.Nat.{_≤_, _-_}
+use Prim.Native.Nat.{_≤_, _<_, _-_, _^_}
 use lib.ListN.{length}
-use Rattle.octets.specs.Words.{Plain}
-use Rattle.octets.proofs.Words.{zeros-all}
+use Rattle.octets.specs.Words.{Plain, PlainTo}
+use Rattle.octets.proofs.Words.{zeros-all, zeros-few}
 use Rattle.characters.specs.Runs.{Plains}
-use Rattle.characters.proofs.Runs.{plains-none, plains-joined, plains-eight}
+use Rattle.characters.proofs.Runs.{plains-none, plains-joined, plains-eight, run-eight}
 use Rattle.characters.proofs.plain.skip_plain.Statement.{statement}
 use Rattle.characters.proofs.plain.skip_plain.Tie as tie
 
@@ -38,11 +38,13 @@ returns : tie.Need-returns Inv-loop μ-loop
 returns c =
     let s = c .before .before .before .before .before .before .before .args .s .now in
     let l = c .before .before .before .before .before .loop .inv in
-    let e = c .zero-bytes .ensures in (
-      omega (arith, l .0),
-      omega (arith, l .1, c .before .before .before .before .loop-test .taken, e .0),
-      plains-joined s _ _ _ (l .2) (plains-eight s _ _ _ (c .before .before .before .word-at .ensures) (e .0) (subst (Plain _) (sym (e .1)) (c .before .before .stops .ensures))),
-    )
+    let room = c .before .before .before .before .loop-test .taken in
+    let bad = c .before .before .stops in
+    let below : bad .result < 2 ^ 64 = omega (arith, bad .ok) in
+    let few = zeros-few (bad .result) below (c .before .if1 .taken) in
+    let e = c .zero-bytes .ensures in
+    let w = c .before .before .before .word-at .ensures in
+    run-eight s _ _ _ _ (l .0) (l .2) (omega (arith, l .1, room)) w (omega (arith, few, e .1)) (subst (PlainTo _) (sym (e .1)) (bad .ensures))
 
 add-i : tie.Need-add-i Inv-loop μ-loop
 add-i c = omega arith
@@ -56,7 +58,7 @@ loop-again c =
     let l = c .before .before .before .before .loop .inv in (
       omega (arith, l .0),
       omega (arith, l .1, c .before .before .before .loop-test .taken),
-      plains-joined s _ _ _ (l .2) (plains-eight s _ _ 8 (c .before .before .word-at .ensures) (omega arith) (subst (Plain _) (zeros-all _ (c .if1 .left)) (c .before .stops .ensures))),
+      plains-joined s _ _ _ (l .2) (plains-eight s _ _ 8 (c .before .before .word-at .ensures) (omega arith) (subst (Plain _) (zeros-all _ (c .if1 .left)) (c .before .stops .ensures .0))),
     )
 
 skip-few-requires : tie.Need-skip-few-requires Inv-loop μ-loop
@@ -66,7 +68,7 @@ returns-2 : tie.Need-returns-2 Inv-loop μ-loop
 returns-2 c =
     let l = c .before .before .loop .inv in
     let e = c .skip-few .ensures in
-    (omega (arith, l .0, e .0), e .1, plains-joined (c .before .before .before .before .args .s .now) _ _ _ (l .2) (e .2))
+    (omega (arith, l .0, e .0), e .1, plains-joined (c .before .before .before .before .args .s .now) _ _ _ (l .2) (e .2), e .3)
 
 pub skip-plain-spec : {M : Type 1} → statement M
 skip-plain-spec =

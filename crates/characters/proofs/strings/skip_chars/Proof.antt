@@ -44,7 +44,9 @@ loop-less c =
 loop-again : tie.Need-loop-again Inv-loop μ-loop
 loop-again c =
     let e = c .before .before .is-literal-escape .ensures (c .before .if2 .taken) in
-    inside-run (inside-more (c .before .before .before .before .before .before .loop .inv) (c .before .before .before .before .before .loop-test .taken) (c .before .before .before .if1 .left) (e .0) (e .1) (e .2)) (c .skip-plain .ensures)
+    let run = c .skip-plain .ensures in
+    let test = c .before .before .before .before .before in
+    inside-run (inside-more (test .before .loop .inv) (test .loop-test .taken) (c .before .before .before .if1 .left) (e .0) (e .1) (e .2)) (run .0, run .1, run .2)
 
 skip-char-requires : tie.Need-skip-char-requires Inv-loop μ-loop
 skip-char-requires c κs = c .before .before .before .before .before .loop .inv .within
@@ -71,7 +73,10 @@ loop-less-2 c =
 loop-again-2 : tie.Need-loop-again-2 Inv-loop μ-loop
 loop-again-2 c =
     let e = subst (Answer _ _ _) (c .before .before .j .given .1) (c .before .before .before .before .skip-char .ensures) in
-    inside-run (inside-more (c .before .before .before .before .before .before .before .before .before .before .loop .inv) (c .before .before .before .before .before .before .before .before .before .loop-test .taken) (c .before .before .before .before .before .before .before .if1 .left) (e .0) (e .1) (e .2)) (c .skip-plain2 .ensures)
+    let run = c .skip-plain2 .ensures in
+    let quote = c .before .before .before .before .before .before .before in
+    let test = quote .before .before in
+    inside-run (inside-more (test .before .loop .inv) (test .loop-test .taken) (quote .if1 .left) (e .0) (e .1) (e .2)) (run .0, run .1, run .2)
 
 returns-3 : tie.Need-returns-3 Inv-loop μ-loop
 returns-3 c = inside-ended (c .before .loop .inv) (c .loop-test .left)

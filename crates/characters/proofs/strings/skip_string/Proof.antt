@@ -16,7 +16,9 @@ skip-plain-requires : tie.Need-skip-plain-requires
 skip-plain-requires c κs = search needs
 
 returns : tie.Need-returns
-returns c = inside-ended (inside-run (inside-start (c .before .before .before .pre)) (c .before .skip-plain .ensures)) (c .if1 .taken)
+returns c =
+    let run = c .before .skip-plain .ensures in
+    inside-ended (inside-run (inside-start (c .before .before .before .pre)) (run .0, run .1, run .2)) (c .if1 .taken)
 
 shared-slice-read-if2 : tie.Need-shared-slice-read-if2
 shared-slice-read-if2 c = search needs
@@ -27,7 +29,8 @@ add-t9 c = search needs
 returns-2 : tie.Need-returns-2
 returns-2 c =
     let run = c .before .before .before .skip-plain .ensures in
-    (inside-quote (inside-run (inside-start (c .before .before .before .before .before .pre)) run) (c .before .before .if1 .left) (c .if2 .taken), omega (arith, run .0), omega arith)
+    let inside = inside-run (inside-start (c .before .before .before .before .before .pre)) (run .0, run .1, run .2) in
+    (inside-quote inside (c .before .before .if1 .left) (c .if2 .taken), omega (arith, run .0), omega arith)
 
 sub-skip-chars : tie.Need-sub-skip-chars
 sub-skip-chars c = search needs
@@ -53,7 +56,9 @@ rest-answer c =
     let s = c .before .before .before .before .before .before .before .args .s .now in
     let run = c .before .before .before .before .before .skip-plain in
     let e = answer-anew (λ t. behind (string t)) s (run .result) (c .skip-chars .result) (c .skip-chars .ensures) in
-    answer-from _ _ s _ _ (c .skip-chars .result) e (omega (arith, run .ensures .0)) (sym (inside-rest (inside-run (inside-start (c .before .before .before .before .before .before .before .pre)) (run .ensures))))
+    let p = run .ensures in
+    let inside = inside-run (inside-start (c .before .before .before .before .before .before .before .pre)) (p .0, p .1, p .2) in
+    answer-from _ _ s _ _ (c .skip-chars .result) e (omega (arith, p .0)) (sym (inside-rest inside))
 
 returns-3 : tie.Need-returns-3
 returns-3 c = subst (Answer _ _ _) (c .enum-told .given .1) (rest-answer (c .before .before))

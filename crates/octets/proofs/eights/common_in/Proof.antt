@@ -1,6 +1,6 @@
 -- `common_in` meets its contract.
-use mathlib.Core.Path.{sym, subst}
-use Rattle.octets.specs.Words.{Same}
+use mathlib.Core.Path.{ap, _∙_}
+use Rattle.octets.specs.Words.{zeros}
 use Rattle.octets.proofs.eights.common_in.Statement.{statement}
 use Rattle.octets.proofs.eights.common_in.Tie as tie
 
@@ -13,7 +13,7 @@ zero-bytes-requires c κs = tt
 returns : tie.Need-returns
 returns c =
     let e = c .zero-bytes .ensures in
-    (e .0, subst (Same _ _) (sym (e .1)) (c .before .differ .ensures))
+    (e .0, e .1 ∙ ap zeros (c .before .differ .ensures))
 
 pub common-in-spec : {M : Type 1} → statement M
 common-in-spec = tie.close (tie.spec differ-requires zero-bytes-requires returns)

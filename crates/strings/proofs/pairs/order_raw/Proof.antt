@@ -16,7 +16,9 @@ passed : (c : tie.After-whole)
     → let a = c .before .before .before .before .before .before .args in Common (now (a .s)) (a .i) (now (a .t)) (a .j) (c .whole .result)
 passed c =
     let a = c .before .before .before .before .before .before in
-    common-whole (now (a .args .s)) (a .args .i) (a .pre .2) (well-within (a .pre .0)) (c .before .before .before .lesser .ensures) (c .before .before .common .ensures) (c .whole .ensures)
+    let e = c .before .before .common .ensures in
+    let least = c .before .before .before .lesser .ensures in
+    common-whole (now (a .args .s)) (a .args .i) (a .pre .2) (well-within (a .pre .0)) least (e .0, e .1) (c .whole .ensures)
 
 sub-lesser : tie.Need-sub-lesser
 sub-lesser c = search needs

@@ -15,7 +15,9 @@ passed : (c : tie.After-whole)
     → let a = c .before .before .before .before .before .before .args in Common (now (a .s)) (a .i) (now (a .t)) (a .j) (c .whole .result)
 passed c =
     let a = c .before .before .before .before .before .before in
-    common-whole (now (a .args .s)) (a .args .i) (c .before .before .before .raw-end .ensures) (well-within (a .pre .0)) (c .before .before .lesser .ensures) (c .before .common .ensures) (c .whole .ensures)
+    let e = c .before .common .ensures in
+    let raw = c .before .before .before .raw-end .ensures in
+    common-whole (now (a .args .s)) (a .args .i) raw (well-within (a .pre .0)) (c .before .before .lesser .ensures) (e .0, e .1) (c .whole .ensures)
 
 raw-end-requires : tie.Need-raw-end-requires
 raw-end-requires c κs = omega (arith, well-within (c .before .before .pre .1))

@@ -13,11 +13,11 @@ use Rattle.logs.specs.Logs.{PlaceIs}
 use Rattle.logs.specs.declared.Place.{Place}
 use Rattle.logs.specs.declared.Place.the-variants.{At, Nowhere}
 
-pub number-unique : (s : Bytes) (j k : ℕ) → j < length (filesIn s) → k < length (filesIn s) → fileIn s j ≡ fileIn s k → j ≡ k
-number-unique s j k l m e = sym (found s j l .file .number) ∙ ap (λ (f : File). f .entry) e ∙ found s k m .file .number
+pub number-alone : (s : Bytes) (j k : ℕ) → j < length (filesIn s) → k < length (filesIn s) → fileIn s j ≡ fileIn s k → j ≡ k
+number-alone s j k l m e = sym (found s j l .file .number) ∙ ap (λ (f : File). f .entry) e ∙ found s k m .file .number
 
-pub place-unique : (s : Bytes) (o : Option File) (p q : Place) → PlaceIs s o p → PlaceIs s o q → p ≡ q
-place-unique s o (At j) (At k) h g = ap At (number-unique s j k (h .0) (g .0) (some-is (sym (h .1) ∙ g .1)))
-place-unique s o (At j) Nowhere h g = apart (cc)
-place-unique s o Nowhere (At k) h g = apart (cc)
-place-unique s o Nowhere Nowhere h g = refl
+pub place-alone : (s : Bytes) (o : Option File) (p q : Place) → PlaceIs s o p → PlaceIs s o q → p ≡ q
+place-alone s o (At j) (At k) h g = ap At (number-alone s j k (h .0) (g .0) (some-is (sym (h .1) ∙ g .1)))
+place-alone s o (At j) Nowhere h g = apart (cc)
+place-alone s o Nowhere (At k) h g = apart (cc)
+place-alone s o Nowhere Nowhere h g = refl
