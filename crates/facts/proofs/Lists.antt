@@ -8,7 +8,7 @@ use native.Mathlib.Numerals.{add-one}
 use native.Mathlib.Omega.{arith}
 use mathlib.Core.List.{List, [], _∷_, _++_, map}
 use lib.ListN.{length, take, drop, getD, set, replicate, length-drop, take-append-drop, replicate-append-replicate}
-use lib.Seq.{drop-cons, drop-drop, take-suc, drop-nil, take-nil, take-take, set-split, take-suc-set, getD-append-add, drop-append-add, take-append-add, take-append-seam, drop-append-seam, take-at, drop-at, set-at, append-snoc, getD-drop, getD-take}
+use lib.Seq.{drop-cons, drop-drop, take-suc, drop-nil, take-nil, set-split, take-suc-set, drop-append-add, getD-drop, getD-take}
 use Rattle.facts.specs.Lists.{All}
 
 module _ {A : Type 0} where
@@ -20,20 +20,6 @@ module _ {A : Type 0} where
   -- the same where the element is known
   pub drop-is : (s : List A) (i : ℕ) (d x : A) → i < length s → getD s i d ≡ x → drop i s ≡ x ∷ drop (i + 1) s
   drop-is s i d x h e = rw (drop-here s i d h, e)
-
-  pub drop-empty : (s : List A) (i : ℕ) → drop i s ≡ [] → length s ≤ i
-  drop-empty s i e = omega (arith, length-drop i s, ap length e)
-
-  -- what a suffix that begins with x says of its place
-  module _ (s : List A) (i : ℕ) {x : A} {t : List A} (e : drop i s ≡ x ∷ t) where
-    pub drop-cons-lt : i < length s
-    drop-cons-lt = omega (arith, length-drop i s, ap length e)
-
-    pub drop-cons-first : (d : A) → getD s i d ≡ x
-    drop-cons-first d = let f : getD s i d ∷ drop (i + 1) s ≡ x ∷ t = sym (drop-here s i d drop-cons-lt) ∙ e in cc
-
-    pub drop-cons-rest : drop (i + 1) s ≡ t
-    drop-cons-rest = let f : getD s i x ∷ drop (i + 1) s ≡ x ∷ t = sym (drop-here s i x drop-cons-lt) ∙ e in cc
 
   -- ---- the place of a suffix
 
@@ -48,18 +34,12 @@ module _ {A : Type 0} where
       let e : suc (length s) - length (drop i s) ≡ suc (length s - length (drop i s)) = simp length-drop (omega arith) in
       rw e (drop-by-length s i)
 
-  pub drop-same-length : (s : List A) (i j : ℕ) → length (drop i s) ≡ length (drop j s) → drop i s ≡ drop j s
-  drop-same-length s i j e = rw (← drop-by-length s i, ← drop-by-length s j, e)
-
   -- ---- lists that agree from a place on, or up to it
 
   pub drop-later : (a b : ℕ) (t u : List A) → a ≤ b → drop a t ≡ drop a u → drop b t ≡ drop b u
   drop-later a b t u h e =
       let q : b ≡ a + (b - a) = omega arith in
       rw (q, ← drop-drop (b - a) a t, ← drop-drop (b - a) a u, e)
-
-  pub take-earlier : (a b : ℕ) (t u : List A) → a ≤ b → take b t ≡ take b u → take a t ≡ take a u
-  take-earlier a b t u h e = rw (← take-take a b t h, ← take-take a b u h, e)
 
   pub getD-behind : (a i : ℕ) (d : A) (t u : List A) → a ≤ i → drop a t ≡ drop a u → getD t i d ≡ getD u i d
   getD-behind a i d t u h e =
@@ -88,24 +68,12 @@ module _ {A : Type 0} where
   drop-take (suc i) (suc m) [] = rw (take-nil (suc m - suc i))
   drop-take (suc i) (suc m) (x ∷ s) = rw suc-sub-suc (drop-take i m s)
 
-  pub getD-past : (p q : List A) (n i : ℕ) (d : A) → length p ≡ n → getD (p ++ q) (n + i) d ≡ getD q i d
-  getD-past p q n i d e = rw (← e) (getD-append-add p q i d)
-
   pub drop-past : (p q : List A) (n i : ℕ) → length p ≡ n → drop (n + i) (p ++ q) ≡ drop i q
   drop-past p q n i e = rw (← e) (drop-append-add p q i)
-
-  pub take-past : (p q : List A) (n i : ℕ) → length p ≡ n → take (n + i) (p ++ q) ≡ p ++ take i q
-  take-past p q n i e = rw (← e) (take-append-add p q i)
 
   pub set-past : (p q : List A) (n i : ℕ) (v : A) → length p ≡ n → set (p ++ q) (n + i) v ≡ p ++ set q i v
   set-past [] q n i v e = rw (← e, zero-add)
   set-past (x ∷ p) q n i v e = rw (← e, suc-add) (ap (λ (l : List A). x ∷ l) (set-past p q (length p) i v refl))
-
-  pub append-same-length : (p q s t : List A) → length p ≡ length q → p ++ s ≡ q ++ t → (p ≡ q) × (s ≡ t)
-  append-same-length p q s t l e = (
-    sym (take-append-seam p s) ∙ ap (take (length p)) e ∙ take-at q t (length p) (sym l),
-    sym (drop-append-seam p s) ∙ ap (drop (length p)) e ∙ drop-at q t (length p) (sym l),
-  )
 
   -- ---- one element repeated
 
@@ -121,10 +89,6 @@ module _ {A : Type 0} where
 
   pub replicate-one-more : (n : ℕ) (a : A) → replicate (n + 1) a ≡ replicate n a ++ (a ∷ [])
   replicate-one-more n a = sym (replicate-append-replicate n 1 a)
-
-  -- the first of the repeated elements behind p is written
-  pub set-replicate : (p : List A) (n m : ℕ) (a v : A) → length p ≡ n → set (p ++ replicate (m + 1) a) n v ≡ (p ++ (v ∷ [])) ++ replicate m a
-  set-replicate p n m a v e = rw (add-one, append-snoc p v (replicate m a)) (set-at p a (replicate m a) v n e)
 
 -- ---- maps
 

@@ -1,14 +1,14 @@
 -- Laws of writing over a list in place: what stays as it was, what a turn of a loop does, what the loop ends with.
 use mathlib.Core.Path.{_≡_, sym, _∙_}
 use Prim.Native.Nat.{ℕ, suc, _+_, _-_, _≤_, _<_}
-use native.Mathlib.Nat.{add-zero, sub-zero}
+use native.Mathlib.Nat.{add-zero}
 use native.Mathlib.Omega.{arith}
 use mathlib.Core.List.{List, [], _∷_, _++_, append-assoc, append-nil}
-use lib.ListN.{length, take, drop, getD, set, replicate, length-append, length-drop, length-replicate, take-append-drop, List·getD-append}
-use lib.Seq.{take-take, getD-drop, length-take-le, take-append-le, drop-at, set-at, set-append-seam, take-append-seam, drop-append-seam, append-snoc}
+use lib.ListN.{length, take, drop, getD, set, replicate, length-append, length-drop, length-replicate, take-append-drop}
+use lib.Seq.{take-take, length-take-le, take-append-le, drop-at, set-at, set-append-seam, drop-append-seam, append-snoc}
 use Rattle.facts.specs.Parts.{part}
 use Rattle.facts.specs.Moves.{putAt, stores, movedUp, movedDown, zeroed}
-use Rattle.facts.proofs.Lists.{drop-here, drop-later, take-one-more, drop-past, take-past, set-past, replicate-one-more, getD-behind, getD-before}
+use Rattle.facts.proofs.Lists.{drop-here, drop-later, take-one-more, drop-past, set-past, replicate-one-more, getD-behind, getD-before}
 use Rattle.facts.proofs.Parts.{length-part, part-none, part-cons, part-snoc}
 
 -- ---- elements written
@@ -30,19 +30,6 @@ module _ {A : Type 0} (at : ℕ) (vs t : List A) (h : at + length vs ≤ length 
       let rest : List A = drop (at + length vs) t in
       drop-later (at + length vs) n (putAt at vs t) t l
       (drop-past (take at t) (vs ++ rest) at (length vs) (length-take-le at t (omega arith)) ∙ drop-append-seam vs rest)
-
-  pub drop-putAt-at : drop at (putAt at vs t) ≡ vs ++ drop (at + length vs) t
-  unfolding putAt
-  drop-putAt-at = drop-at (take at t) (vs ++ drop (at + length vs) t) at (length-take-le at t (omega arith))
-
-  pub getD-putAt : (i : ℕ) (d : A) → i < length vs → getD (putAt at vs t) (at + i) d ≡ getD vs i d
-  getD-putAt i d l = rw (← getD-drop at (putAt at vs t) i d, drop-putAt-at) (List·getD-append vs (drop (at + length vs) t) d i l)
-
-  pub part-putAt : part (putAt at vs t) at (at + length vs) ≡ vs
-  unfolding part
-  part-putAt =
-      let e : at + length vs - at ≡ length vs = omega arith in
-      rw (e, drop-putAt-at) (take-append-seam vs (drop (at + length vs) t))
 
 module _ {A : Type 0} (at : ℕ) (vs t : List A) where
   -- one element more, behind those that are written
@@ -82,21 +69,6 @@ module _ {A : Type 0} (at : ℕ) (us vs t : List A) (h : at + length us + length
       let e : at + length (us ++ vs) ≡ at + length us + length vs = simp length-append (omega arith) in
       rw (take-append-le at front (vs ++ rest) (omega arith), take-take at (at + length us) t (omega arith), drop-at front (vs ++ rest) (at + length us) n, e, append-assoc us vs rest)
 
-  pub putAt-behind : putAt (at + length us) vs (putAt at us t) ≡ putAt at (us ++ vs) t
-  unfolding putAt
-  putAt-behind =
-      let next : List A = drop (at + length us) t in
-      let rest : List A = drop (at + length us + length vs) t in
-      let e : at + length (us ++ vs) ≡ at + length us + length vs = simp length-append (omega arith) in
-      rw (
-        drop-putAt at us t (omega arith) (at + length us + length vs) (omega arith),
-        take-past (take at t) (us ++ next) at (length us) (length-take-le at t (omega arith)),
-        take-append-seam us next,
-        e,
-        append-assoc us vs rest,
-      )
-      (append-assoc (take at t) us (vs ++ rest))
-
 pub putAt-one : {A : Type 0} (at : ℕ) (v : A) (t : List A) → at < length t → putAt at (v ∷ []) t ≡ set t at v
 putAt-one at v t h = sym (rw (add-zero, putAt-none at t) at (putAt-snoc at [] t v (omega arith)))
 
@@ -134,14 +106,6 @@ module _ {A : Type 0} (at m by : ℕ) (t : List A) (h : at + by + m ≤ length t
   unfolding movedUp
   length-movedUp = length-putAt (at + by) (part t at (at + m)) t (omega (arith, up-length))
 
-  pub take-movedUp : (n : ℕ) → n ≤ at + by → take n (movedUp at m by t) ≡ take n t
-  unfolding movedUp
-  take-movedUp n l = take-putAt (at + by) (part t at (at + m)) t (omega (arith, up-length)) n l
-
-  pub drop-movedUp : (n : ℕ) → at + by + m ≤ n → drop n (movedUp at m by t) ≡ drop n t
-  unfolding movedUp
-  drop-movedUp n l = drop-putAt (at + by) (part t at (at + m)) t (omega (arith, up-length)) n (omega (arith, up-length))
-
   -- the loop: i elements are left to move, and those above them have moved
   pub movedUp-start : movedUp (at + m) (m - m) by t ≡ t
   unfolding movedUp
@@ -157,9 +121,6 @@ module _ {A : Type 0} (at m by : ℕ) (t : List A) (h : at + by + m ≤ length t
       let e₃ : at + by + (i - 1) ≡ at + (i - 1) + by = omega arith in
       rw (e₁, e₂, e₃) (movedUp-one-more (at + (i - 1)) (m - i) by t d (omega arith))
 
-  pub movedUp-end : (i : ℕ) → i ≡ 0 → movedUp (at + i) (m - i) by t ≡ movedUp at m by t
-  movedUp-end i e = rw (e, add-zero at, sub-zero m)
-
   -- the gap that is left, written
   pub putAt-movedUp : (vs : List A) → length vs ≡ by → putAt at vs (movedUp at m by t) ≡ putAt at (vs ++ part t at (at + m)) t
   unfolding movedUp
@@ -168,21 +129,6 @@ module _ {A : Type 0} (at m by : ℕ) (t : List A) (h : at + by + m ≤ length t
 -- ---- elements moved down: the loop goes from the first up to the last
 
 module _ {A : Type 0} (at m by : ℕ) (t : List A) (h : at + by + m ≤ length t) where
-  down-length : length (part t (at + by) (at + by + m)) ≡ m
-  down-length = length-part t (at + by) (at + by + m) (omega arith) ∙ omega arith
-
-  pub length-movedDown : length (movedDown at m by t) ≡ length t
-  unfolding movedDown
-  length-movedDown = length-putAt at (part t (at + by) (at + by + m)) t (omega (arith, down-length))
-
-  pub take-movedDown : (n : ℕ) → n ≤ at → take n (movedDown at m by t) ≡ take n t
-  unfolding movedDown
-  take-movedDown n l = take-putAt at (part t (at + by) (at + by + m)) t (omega (arith, down-length)) n l
-
-  pub drop-movedDown : (n : ℕ) → at + m ≤ n → drop n (movedDown at m by t) ≡ drop n t
-  unfolding movedDown
-  drop-movedDown n l = drop-putAt at (part t (at + by) (at + by + m)) t (omega (arith, down-length)) n (omega (arith, down-length))
-
   -- the loop: the first i elements have moved
   pub movedDown-start : movedDown at 0 by t ≡ t
   unfolding movedDown
@@ -198,28 +144,11 @@ module _ {A : Type 0} (at m by : ℕ) (t : List A) (h : at + by + m ≤ length t
       let e : at + by + (i + 1) ≡ at + by + i + 1 = omega arith in
       rw (g, e, part-snoc t (at + by) (at + by + i) d (omega arith) (omega arith)) (rw n at (putAt-snoc at vs t (getD t (at + by + i) d) (omega arith)))
 
-  -- what is left behind at the end, written
-  pub putAt-movedDown : (vs : List A) → length vs ≡ by → putAt (at + m) vs (movedDown at m by t) ≡ putAt at (part t (at + by) (at + by + m) ++ vs) t
-  unfolding movedDown
-  putAt-movedDown vs e = rw down-length at (putAt-behind at (part t (at + by) (at + by + m)) vs t (omega (arith, down-length)))
-
 -- ---- zeros
 
 module _ (a b : ℕ) (t : List ℕ) (h : a ≤ b) (l : b ≤ length t) where
   zeros-length : a + length {A = ℕ} (replicate (b - a) 0) ≡ b
   zeros-length = omega (arith, length-replicate {A = ℕ} (b - a) 0)
-
-  pub length-zeroed : length (zeroed a b t) ≡ length t
-  unfolding zeroed
-  length-zeroed = length-putAt a (replicate (b - a) 0) t (omega (arith, zeros-length))
-
-  pub take-zeroed : (n : ℕ) → n ≤ a → take n (zeroed a b t) ≡ take n t
-  unfolding zeroed
-  take-zeroed n k = take-putAt a (replicate (b - a) 0) t (omega (arith, zeros-length)) n k
-
-  pub drop-zeroed : (n : ℕ) → b ≤ n → drop n (zeroed a b t) ≡ drop n t
-  unfolding zeroed
-  drop-zeroed n k = drop-putAt a (replicate (b - a) 0) t (omega (arith, zeros-length)) n (omega (arith, zeros-length))
 
   -- the whole list, where its front and what lies behind the zeros are known from elsewhere
   pub zeroed-whole : (xs u : List ℕ) → take a t ≡ xs → drop b t ≡ drop b u → zeroed a b t ≡ xs ++ (replicate (b - a) 0 ++ drop b u)

@@ -1,13 +1,12 @@
 -- Laws of parts: a line, a value or a name of a text, by absolute places.
 use mathlib.Core.Path.{_≡_, sym, ap, _∙_}
 use Prim.Native.Nat.{ℕ, suc, _+_, _-_, _≤_, _<_}
-use native.Mathlib.Nat.{sub-zero}
 use native.Mathlib.Omega.{arith}
 use mathlib.Core.List.{List, [], _∷_, _++_}
-use lib.ListN.{length, take, drop, getD, set, length-drop, take-append-drop}
-use lib.Seq.{drop-drop, take-take, take-add, take-all, length-take-le, getD-drop, getD-take, take-set-le, drop-set-lt, take-append-le, slice}
+use lib.ListN.{length, drop, getD, length-drop, take-append-drop}
+use lib.Seq.{drop-drop, take-take, take-add, take-all, length-take-le, getD-drop, getD-take}
 use Rattle.facts.specs.Parts.{part}
-use Rattle.facts.proofs.Lists.{drop-here, drop-take, drop-past, take-earlier, drop-later}
+use Rattle.facts.proofs.Lists.{drop-here, drop-take}
 
 module _ {A : Type 0} where
   -- ---- its length and its ends
@@ -20,29 +19,12 @@ module _ {A : Type 0} where
   unfolding part
   part-none s a b h = let e : b - a ≡ 0 = omega arith in rw e
 
-  pub part-empty : (s : List A) (a b : ℕ) → b ≤ length s → part s a b ≡ [] → b ≤ a
-  part-empty s a b h e = omega (arith, length-part s a b h, ap length e)
-
-  pub part-front : (s : List A) (b : ℕ) → part s 0 b ≡ take b s
-  unfolding part
-  part-front s b = rw sub-zero
-
   pub part-behind : (s : List A) (a b : ℕ) → length s ≤ b → part s a b ≡ drop a s
   unfolding part
   part-behind s a b h = take-all (b - a) (drop a s) (simp length-drop (omega arith))
 
   pub part-whole : (s : List A) (b : ℕ) → length s ≤ b → part s 0 b ≡ s
   part-whole s b h = part-behind s 0 b h
-
-  -- by its length
-  pub part-sized : (s : List A) (a n : ℕ) → part s a (a + n) ≡ take n (drop a s)
-  unfolding part
-  part-sized s a n = let e : a + n - a ≡ n = omega arith in rw e
-
-  -- taken from the front instead of from behind
-  pub slice-part : (s : List A) (a b : ℕ) → slice a b s ≡ part s a b
-  unfolding part
-  slice-part s a b = drop-take a b s
 
   -- ---- its elements
 
@@ -62,12 +44,6 @@ module _ {A : Type 0} where
   part-is s a b d x h l e = rw (part-cons s a b d h l, e)
 
   -- ---- parts of it
-
-  pub take-part : (s : List A) (a b k : ℕ) → a + k ≤ b → take k (part s a b) ≡ part s a (a + k)
-  unfolding part
-  take-part s a b k h =
-      let e : a + k - a ≡ k = omega arith in
-      rw e (take-take k (b - a) (drop a s) (omega arith))
 
   pub drop-part : (s : List A) (a b k : ℕ) → drop k (part s a b) ≡ part s (a + k) b
   unfolding part
@@ -101,30 +77,4 @@ module _ {A : Type 0} where
       let e : b ≡ a + (b - a) = omega arith in
       let f : drop b s ≡ drop (b - a) (drop a s) = ap (λ (n : ℕ). drop n s) e ∙ sym (drop-drop (b - a) a s) in
       rw f (take-append-drop (b - a) (drop a s))
-
-  pub part-between : (s : List A) (a b : ℕ) → a ≤ b → s ≡ take a s ++ (part s a b ++ drop b s)
-  part-between s a b h = rw (part-rest s a b h) (sym (take-append-drop a s))
-
   -- ---- lists that agree there
-
-  pub part-same-behind : (n a b : ℕ) (t u : List A) → n ≤ a → drop n t ≡ drop n u → part t a b ≡ part u a b
-  unfolding part
-  part-same-behind n a b t u h e = rw (drop-later n a t u h e)
-
-  pub part-same-front : (n a b : ℕ) (t u : List A) → b ≤ n → take n t ≡ take n u → part t a b ≡ part u a b
-  part-same-front n a b t u h e = rw (← slice-part t a b, ← slice-part u a b, take-earlier b n t u h e)
-
-  pub part-set-before : (s : List A) (a b i : ℕ) (v : A) → i < a → part (set s i v) a b ≡ part s a b
-  part-set-before s a b i v h = part-same-behind a a b (set s i v) s (omega arith) (drop-set-lt a s i v h)
-
-  pub part-set-behind : (s : List A) (a b i : ℕ) (v : A) → b ≤ i → part (set s i v) a b ≡ part s a b
-  part-set-behind s a b i v h = part-same-front b a b (set s i v) s (omega arith) (take-set-le b s i v h)
-
-  pub part-append-left : (s t : List A) (a b : ℕ) → b ≤ length s → part (s ++ t) a b ≡ part s a b
-  part-append-left s t a b h = part-same-front b a b (s ++ t) s (omega arith) (take-append-le b s t h)
-
-  pub part-append-right : (s t : List A) (n a b : ℕ) → length s ≡ n → part (s ++ t) (n + a) (n + b) ≡ part t a b
-  unfolding part
-  part-append-right s t n a b e =
-      let f : n + b - (n + a) ≡ b - a = omega arith in
-      rw (f, drop-past s t n a e)

@@ -3,12 +3,10 @@ use mathlib.Core.Path.{_≡_, refl, sym, ap, _∙_}
 use Prim.Native.Nat.{ℕ, zero, suc, _+_, _-_, _*_, _≤_, _<_}
 use native.Mathlib.Nat.{le-of-suc-le-suc, not-suc-le-zero, suc-mul, zero-mul, add-comm, zero-add, suc-add, sub-zero, suc-sub-suc}
 use native.Mathlib.Omega.{arith}
-use mathlib.Core.List.{List, [], _∷_, _++_, map, map-append, append-assoc}
+use mathlib.Core.List.{List, [], _∷_, _++_, map, append-assoc}
 use lib.ListN.{length, take, drop, getD, length-append, length-drop, take-append-drop}
-use lib.Seq.{take-add, drop-cons, drop-drop, drop-at, length-take-le}
-use Rattle.facts.specs.Rows.{flat, rowsOf, Layout, reads, insertAt, removeAt}
-use Rattle.facts.specs.Lists.{All}
-use Rattle.facts.proofs.Lists.{All-append, All-take, All-drop, map-take, map-drop}
+use lib.Seq.{take-add, drop-cons, drop-drop, drop-at}
+use Rattle.facts.specs.Rows.{flat, rowsOf, Layout, reads}
 
 -- ---- rows laid flat
 
@@ -97,9 +95,6 @@ module _ {A : Type 0} {w : ℕ} {cells : A → List ℕ} {row : List ℕ → A} 
           let more : List ℕ = flat cells rs ++ rest in
           rw (append-assoc (cells r) (flat cells rs) rest, L .back r more, drop-at (cells r) more w (L .wide r), go rs)
 
-  pub drop-flat : (rs : List A) (rest : List ℕ) (n : ℕ) → length rs ≡ n → drop (n * w) (flat cells rs ++ rest) ≡ rest
-  drop-flat rs rest n e = drop-at (flat cells rs) rest (n * w) (rw (← e) (length-flat rs))
-
   -- a table is its rows and what lies behind them
   pub rows-split : (n : ℕ) (t : List ℕ) → n * w ≤ length t → t ≡ flat cells (rowsOf w row n t) ++ drop (n * w) t
   rows-split n t h = rw (flat-rowsOf n t h) (sym (take-append-drop (n * w) t))
@@ -108,35 +103,3 @@ module _ {A : Type 0} {w : ℕ} {cells : A → List ℕ} {row : List ℕ → A} 
   pub rowsOf-same : (n : ℕ) (t u : List ℕ) → n * w ≤ length t → take (n * w) t ≡ take (n * w) u → rowsOf w row n t ≡ rowsOf w row n u
   rowsOf-same n t u h e =
       sym (rw (flat-rowsOf n t h, e, take-append-drop (n * w) u) at (rowsOf-flat (rowsOf w row n t) (drop (n * w) u) n (length-rowsOf w row n t)))
-
-  -- and numbers by their rows
-  pub take-same : (n : ℕ) (t u : List ℕ) → n * w ≤ length t → n * w ≤ length u → rowsOf w row n t ≡ rowsOf w row n u → take (n * w) t ≡ take (n * w) u
-  take-same n t u h l e = rw (← flat-rowsOf n t h, ← flat-rowsOf n u l, e)
-
--- ---- a row that goes in or out
-
-module _ {A : Type 0} (k : ℕ) (r : A) (l : List A) where
-  pub length-insertAt : k ≤ length l → length (insertAt k r l) ≡ length l + 1
-  unfolding insertAt
-  length-insertAt h = simp (length-append, length-take-le k l h, length-drop) (omega arith)
-
-  pub All-insertAt : (P : A → Type 0) → P r → All P l → All P (insertAt k r l)
-  unfolding insertAt All
-  All-insertAt P p q = All-append P (take k l) (r ∷ drop k l) (All-take P k l q) (p, All-drop P k l q)
-
-  pub map-insertAt : {B : Type 0} (f : A → B) → map f (insertAt k r l) ≡ insertAt k (f r) (map f l)
-  unfolding insertAt
-  map-insertAt f = rw (map-append f (take k l) (r ∷ drop k l), map-take f k l, map-drop f k l)
-
-module _ {A : Type 0} (k : ℕ) (l : List A) where
-  pub length-removeAt : k < length l → length (removeAt k l) ≡ length l - 1
-  unfolding removeAt
-  length-removeAt h = simp (length-append, length-take-le k l (omega arith), length-drop) (omega arith)
-
-  pub All-removeAt : (P : A → Type 0) → All P l → All P (removeAt k l)
-  unfolding removeAt
-  All-removeAt P q = All-append P (take k l) (drop (k + 1) l) (All-take P k l q) (All-drop P (k + 1) l q)
-
-  pub map-removeAt : {B : Type 0} (f : A → B) → map f (removeAt k l) ≡ removeAt k (map f l)
-  unfolding removeAt
-  map-removeAt f = rw (map-append f (take k l) (drop (k + 1) l), map-take f k l, map-drop f (k + 1) l)

@@ -12,7 +12,7 @@ use Rattle.facts.proofs.Lists.{All-weaken}
 use Rattle.rules.specs.Bytes.{Bytes, Order, less, equal, more, order, holds}
 use Rattle.rules.specs.Live.{put, putBeside, takeOut, takeIf}
 use Rattle.rules.specs.Keyed.{Below, Ascends, lookup}
-use Rattle.rules.proofs.Tests.{apart, by, true-not-false}
+use Rattle.rules.proofs.Tests.{apart, true-not-false}
 use Rattle.rules.proofs.Order.{eq-order, order-equal, more-less, order-more-ne, eq-same, ne-same, same-or-not}
 use Rattle.rules.proofs.Holding.{holds-head, holds-past}
 use Rattle.rules.proofs.Ascending.{ascends-cons, below-not-held}
@@ -145,9 +145,6 @@ module _ {A : Type 0} (key : A → Bytes) where
           → suc (length (takeOut key k (x ∷ xs))) ≡ suc (length xs)
       go ih (inl e) = rw (takeOut-here k x xs e)
       go ih (inr n) = rw (takeOut-past k x xs n) (ap suc (ih (sym (holds-past k (key x) (map key xs) n) ∙ h)))
-
-  pub takeOut-length-le : (k : Bytes) (xs : List A) → length (takeOut key k xs) ≤ length xs
-  takeOut-length-le k xs = by (holds k (map key xs)) (λ h. omega (arith, takeOut-length-held k xs h)) (λ h. omega (arith, ap length (takeOut-none k xs h)))
 
   -- ---- look-up
 

@@ -79,9 +79,6 @@ module _ {A : Type 0} (compare : A → A → Order) (total : TotalOrder compare)
       go more e equal f = absurd (above (rw (total .equal-eq y b f) (total .flip x b ∙ ap flipped e)))
       go more e more f = to-more
 
-  pub not-above-trans : (x y z : A) → isMore (compare x y) ≡ false → isMore (compare y z) ≡ false → isMore (compare x z) ≡ false
-  not-above-trans x y z h k = rising-le (rising x y z h) k
-
 -- ---- byte strings
 
 pub order-total : TotalOrder order

@@ -75,14 +75,6 @@ module _ (name : String) (ms : List Member) where
   unfolding optional soleOrNone
   optional-missing e = rw (optional, e)
 
-  pub optional-null : {v : Text} → under (ascii name) ms ≡ v ∷ [] → isNull v ≡ true → optional name ms ≡ some none
-  unfolding optional soleOrNone
-  optional-null e n = rw (optional, e, soleOrNone, n)
-
-  pub optional-there : {v : Text} → under (ascii name) ms ≡ v ∷ [] → isNull v ≡ false → optional name ms ≡ some (some v)
-  unfolding optional soleOrNone
-  optional-there e n = rw (optional, e, soleOrNone, n)
-
   pub optional-twice : 2 ≤ length (under (ascii name) ms) → optional name ms ≡ none
   unfolding optional
   optional-twice n = soleOrNone-more (under (ascii name) ms) n

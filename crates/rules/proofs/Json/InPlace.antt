@@ -7,12 +7,11 @@ use Prim.Native.Nat.{ℕ, suc, _+_, _-_, _≤_}
 use native.Mathlib.Omega.{arith}
 use borrow.Author.Tests.{eqb-true, ne-eqb}
 use lib.Dec.{eqb}
-use lib.ListN.{length, take, length-append}
-use lib.Seq.{take-at}
+use lib.ListN.{length, take}
 use Rattle.rules.specs.Bytes.{Bytes, ascii, first, among, same, isEmpty}
 use Rattle.rules.specs.Numbers.{isDigit}
 use Rattle.rules.specs.Json.Text.{Text, Taker, behind, spelled, isWs, ws, byte}
-use Rattle.rules.specs.Json.Numbers.{digits1, minus, int, number, whole}
+use Rattle.rules.specs.Json.Numbers.{digits1, minus, int, number}
 use Rattle.rules.specs.Json.Strings.{string}
 use Rattle.rules.specs.Json.Values.{Member, contents, elements, scalar, value, objectOf, arrayOf}
 use Rattle.rules.specs.Json.Fields.{isNull, stringOf}
@@ -31,12 +30,6 @@ before-cons b t r h = ap (λ (n : ℕ). take n (b ∷ t)) n
   where
     n : suc (length t) - length r ≡ suc (length t - length r)
     n = omega arith
-
-before-append : (w r : Text) → before (w ++ r) r ≡ w
-before-append w r = take-at w r _ n
-  where
-    n : length w ≡ length (w ++ r) - length r
-    n = omega (arith, length-append w r)
 
 module _ (d b : ℕ) (t x r : Text) (e : spelled (value d) (b ∷ t) ≡ some (x, r)) where
   pub value-text : x ≡ b ∷ before t r

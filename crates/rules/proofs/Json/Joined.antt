@@ -3,7 +3,7 @@ use mathlib.Core.Path.{_≡_, refl, sym, ap, _∙_}
 use mathlib.Core.Option.{Option, none, some}
 use mathlib.Core.List.{List, [], _∷_, _++_, append-assoc}
 use Prim.Native.Nat.{ℕ}
-use Rattle.rules.specs.Json.Text.{Text, Taker, behind}
+use Rattle.rules.specs.Json.Text.{Text, Taker}
 use Rattle.rules.specs.Json.Values.{closed, onward, neither, opening, closing, andThen, list}
 use Rattle.rules.proofs.Json.Suffix.{EachTakes}
 use Rattle.rules.proofs.Json.Steps.{rest, list-onward, rest-none, rest-closed, rest-neither, rest-onward}
@@ -22,10 +22,6 @@ module _ {A : Type 0} where
   unfolding andThen
   joined-andThen gone x none = refl
   joined-andThen gone x (some p) = ap (λ (l : List A). some (l, p .1)) (sym (append-assoc gone (x ∷ []) (p .0)))
-
-  pub joined-behind : (gone : List A) (o : Option (List A × Text)) → behind (joined gone o) ≡ behind o
-  joined-behind gone none = refl
-  joined-behind gone (some p) = refl
 
 module _ {A : Type 0} (item : Taker A) (close : ℕ) where
   pub joined-start : (t : Text) {u : Text} → opening close t ≡ onward u → joined [] (rest item close u) ≡ list item close t

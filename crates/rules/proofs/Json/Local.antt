@@ -1,13 +1,13 @@
 -- A reader looks no further than one byte behind what it reads. So the text of a value, taken out of its line and read again, reads as it did in its place.
 use mathlib.Core.Path.{_≡_, sym, ap, _∙_}
 use mathlib.Core.Option.{some}
-use mathlib.Core.List.{List, [], _++_, append-nil, append-cancel-right}
+use mathlib.Core.List.{List, [], _++_, append-nil}
 use Prim.Native.Nat.{ℕ}
 use Rattle.rules.specs.Bytes.{Bytes}
 use Rattle.rules.specs.Json.Text.{Text, Reader, Taker, spelled}
 use Rattle.rules.specs.Json.Strings.{string}
 use Rattle.rules.specs.Json.Values.{Member, contents, elements, value}
-use Rattle.rules.proofs.Json.Suffix.{Beside, nothing, Reads, EachReads, EachTakes, reads-passed}
+use Rattle.rules.proofs.Json.Suffix.{nothing, Reads, EachReads, EachTakes, reads-passed}
 use Rattle.rules.proofs.Json.TextReads.{before, spelled-left, spelled-text}
 use Rattle.rules.proofs.Json.StringReads.{string-reads}
 use Rattle.rules.proofs.Json.ValueReads.{value-reads, contents-reads, elements-reads}
@@ -15,23 +15,14 @@ use Rattle.rules.proofs.Json.ValueReads.{value-reads, contents-reads, e
 -- ---- any reader
 
 module _ {O : Type 0} {least : ℕ} {read answer : Text → O} where
-  pub reads-beside : (p : Text) {u v : Text} → Reads least read answer (p ++ u) u → Beside u v → read (p ++ v) ≡ answer v
-  reads-beside p {u} {v} h k = ap (λ (x : Text). read (x ++ v)) (append-cancel-right p (h .passed) u (h .split)) ∙ h .again v k
-
   pub reads-alone : {t r : Text} → Reads least read answer t r → read (before t r) ≡ answer []
   reads-alone {t} {r} h = ap read (reads-passed h ∙ sym (append-nil (h .passed))) ∙ h .again [] nothing
 
 module _ {read : Reader} {least : ℕ} (each : EachReads least read) where
-  pub reader-local : (p u v : Text) → read (p ++ u) ≡ some u → Beside u v → read (p ++ v) ≡ some v
-  reader-local p u v e k = reads-beside p (each (p ++ u) u e) k
-
   pub spelled-alone : (x t r : Text) → spelled read t ≡ some (x, r) → read x ≡ some []
   spelled-alone x t r e = ap read (spelled-text read t e) ∙ reads-alone (each t r (spelled-left read t e))
 
 module _ {A : Type 0} {read : Taker A} {least : ℕ} (each : EachTakes least read) where
-  pub taker-local : (x : A) (p u v : Text) → read (p ++ u) ≡ some (x, u) → Beside u v → read (p ++ v) ≡ some (x, v)
-  taker-local x p u v e k = reads-beside p (each x (p ++ u) u e) k
-
   pub taken-alone : (x : A) (t r : Text) → read t ≡ some (x, r) → read (before t r) ≡ some (x, [])
   taken-alone x t r e = reads-alone (each x t r e)
 

@@ -11,10 +11,9 @@ use Rattle.rules.specs.Json.Text.{Text, Reader, spelled, byte}
 use Rattle.rules.specs.Json.Strings.{string}
 use Rattle.rules.specs.Json.Values.{Member, colon, member, contents, elements, value, objectOf, arrayOf}
 use Rattle.rules.specs.Json.Fields.{stringOf, unquoted}
-use Rattle.rules.proofs.Json.Suffix.{Reads, EachReads, reads-left, reads-within}
+use Rattle.rules.proofs.Json.Suffix.{Reads, reads-left, reads-within}
 use Rattle.rules.proofs.Json.TextReads.{before, spelled-some}
 use Rattle.rules.proofs.Json.Steps.{member-some}
-use Rattle.rules.proofs.Json.Local.{reads-alone}
 use Rattle.rules.proofs.Json.InPlace.{objectOf-alone, arrayOf-alone, stringOf-alone}
 
 -- r is s from `at` on, `least` bytes or more behind i
@@ -45,10 +44,6 @@ module _ (s : Text) (i j : ℕ) (h : i ≤ j) (k : j ≤ length s) where
 
   pub spelled-place : (read : Reader) → read (drop i s) ≡ some (drop j s) → spelled read (drop i s) ≡ some (take (j - i) (drop i s), drop j s)
   spelled-place read e = spelled-some read (drop i s) e ∙ ap (λ (x : Text). some (x, drop j s)) between
-
-  -- what is read in its place is read where it stands alone
-  pub alone-place : {read : Reader} {least : ℕ} → EachReads least read → read (drop i s) ≡ some (drop j s) → read (take (j - i) (drop i s)) ≡ some []
-  alone-place {read} each e = sym (ap read between) ∙ reads-alone (each (drop i s) (drop j s) e)
 
 -- a member whose name is behind the quote at i, and whose value stands from v to e
 pub member-place : (read : Reader) (s : Text) (i v e : ℕ) {n r : Text} {name : Bytes} → v ≤ e → e ≤ length s

@@ -2,12 +2,12 @@
 use mathlib.Core.Path.{_≡_, refl, ap, _∙_}
 use mathlib.Core.Option.{Option, none, some}
 use mathlib.Core.List.{List}
-use Prim.Native.Nat.{ℕ, suc, _-_}
+use Prim.Native.Nat.{ℕ, _-_}
 use lib.ListN.{length, take}
 use Rattle.rules.specs.Bytes.{Bytes, _>>=_}
 use Rattle.rules.specs.Json.Text.{Text, Reader, Taker, behind, spelled, byte}
 use Rattle.rules.specs.Json.Strings.{string}
-use Rattle.rules.specs.Json.Values.{Behind, closed, onward, neither, opening, closing, andThen, afterItem, items, list, Member, colon, member}
+use Rattle.rules.specs.Json.Values.{Behind, closed, onward, neither, opening, closing, andThen, list, Member, colon, member}
 use Rattle.rules.proofs.Tests.{apart}
 use Rattle.rules.proofs.Json.Suffix.{EachTakes, some-same}
 use Rattle.rules.proofs.Json.Steps.{rest, list-closed, list-onward, list-neither, rest-none, rest-closed, rest-neither, rest-onward}
@@ -38,23 +38,6 @@ module _ {A : Type 0} where
   unfolding andThen
   behind-andThen x none = refl
   behind-andThen x (some p) = refl
-
-  pub behind-afterItem : (x : A) (c : Behind) (others : Taker (List A)) → behind (afterItem x c others) ≡ ahead c (λ u. behind (others u))
-  unfolding afterItem
-  behind-afterItem x (closed u) others = refl
-  behind-afterItem x (onward u) others = behind-andThen x (others u)
-  behind-afterItem x neither others = refl
-
-  -- a turn of the loop over items, whatever its bound
-  pub behind-items : (item : Taker A) (close n : ℕ) (t : Text)
-      → behind (items item close (suc n) t) ≡ (behind (item t) >>= (λ r. ahead (closing close r) (λ u. behind (items item close n u))))
-  unfolding items
-  behind-items item close n t = go (item t)
-    where
-      go : (o : Option (A × Text)) → behind (o >>= (λ p. afterItem (p .0) (closing close (p .1)) (λ u. items item close n u)))
-          ≡ (behind o >>= (λ r. ahead (closing close r) (λ u. behind (items item close n u))))
-      go none = refl
-      go (some p) = behind-afterItem (p .0) (closing close (p .1)) (λ u. items item close n u)
 
 pub behind-spelled : (read : Reader) (t : Text) → behind (spelled read t) ≡ read t
 unfolding spelled

@@ -27,18 +27,6 @@ onward-same : {t u : Text} → onward t ≡ onward u → t ≡ u
 onward-same e = cc
 
 module _ (close : ℕ) where
-  openedBy-closed : (t r : Text) → openedBy close t ≡ closed r → Reads 1 (openedBy close) closed t r
-  unfolding openedBy
-  openedBy-closed [] r e = apart (cc)
-  openedBy-closed (b ∷ t) r e = by (eqb b close)
-      (λ p. let f : (w : Text) → openedBy close (b ∷ w) ≡ closed w = λ w. rw (openedBy, p) in
-      subst (Reads 1 (openedBy close) closed (b ∷ t)) (closed-same (sym (f t) ∙ e)) (reads-byte t f))
-      (λ p. let f : openedBy close (b ∷ t) ≡ onward (b ∷ t) = rw (openedBy, p) in apart (cc))
-
-  pub opening-closed : (t r : Text) → opening close t ≡ closed r → Reads 1 (opening close) closed t r
-  unfolding opening
-  opening-closed t r e = reads-then {both = opening close} (ws-reads t) (openedBy-closed (ws t) r e) (λ w x s. ap (openedBy close) s)
-
   closedBy-closed : (t r : Text) → closedBy close t ≡ closed r → Reads 1 (closedBy close) closed t r
   unfolding closedBy
   closedBy-closed [] r e = apart (cc)
