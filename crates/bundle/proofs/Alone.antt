@@ -10,7 +10,6 @@ use Rattle.facts.proofs.Parts.{length-part}
 use Rattle.rules.specs.Bytes.{Bytes}
 use Rattle.rules.specs.Bundle.{File}
 use Rattle.rules.proofs.Json.Suffix.{some-same, answered-none}
-use Rattle.names.specs.declared.Millis.{Millis}
 use Rattle.bundle.specs.Answers.{OpenedAs, EntryIs}
 use Rattle.bundle.specs.declared.Entry.{Entry}
 use Rattle.bundle.specs.declared.Opened.{Opened}

@@ -1,14 +1,12 @@
 -- A run of plain bytes ends in one place, and a string of plain bytes is closed in one.
-use mathlib.Core.Path.{_≡_, refl, sym, ap, _∙_}
-use mathlib.Core.Bool.{true, false}
-use Prim.Native.Nat.{ℕ, zero, suc, _+_, _≤_, _<_}
+use mathlib.Core.Path.{_≡_, refl, sym, _∙_}
+use Prim.Native.Nat.{ℕ, zero, suc, _≤_, _<_}
 use native.Mathlib.Numerals.{add-one}
 use native.Mathlib.Omega.{arith}
 use lib.Dec.{ltb}
-use lib.ListN.{length, getD}
+use lib.ListN.{length}
 use borrow.Author.Tests.{ltb-true, ltb-false}
 use Rattle.rules.specs.Json.Text.{Text}
-use Rattle.rules.specs.Json.Strings.{isPlain}
 use Rattle.rules.proofs.Tests.{by, true-not-false}
 use Rattle.characters.specs.Runs.{Plains, Run, Closing, Closes}
 use Rattle.characters.proofs.Inside.{plain-quote}

@@ -12,7 +12,6 @@ use Rattle.rules.proofs.Json.Suffix.{some-same, value-same, left-same, answered
 use Rattle.text.proofs.Alone.{left-alone}
 use Rattle.keys.specs.Spelled.{Quoted}
 use Rattle.keys.specs.declared.Spell.{Spell}
-use Rattle.keys.specs.declared.Name.{Name}
 use Rattle.keys.specs.declared.Name.the-variants.{Of}
 use Rattle.keys.proofs.Alone.{name-alone}
 use Rattle.fields.specs.Standing.{Stands, MetIs}
@@ -34,7 +33,8 @@ module _ (o : Option (Member × Text)) (s : Text) (at : ℕ) where
   met-alone (Read n v e) (Read m w d) f k =
       let names : Of n ≡ Of m = name-alone s at (Of n) (Of m) (quoted f) (quoted k) in
       let name : n ≡ m = cc names in
-      let value : v ≡ w = left-alone s v w (omega (arith, f .ordered, f .within)) (omega (arith, k .ordered, k .within)) (some-same (sym (f .value) ∙ k .value)) in
+      let left = some-same (sym (f .value) ∙ k .value) in
+      let value : v ≡ w = left-alone s v w (omega (arith, f .ordered, f .within)) (omega (arith, k .ordered, k .within)) left in
       let end : e ≡ d = left-alone s e d (f .within) (k .within) (left-same (sym (f .read) ∙ k .read)) in
       ap (λ (x : Spell). Read x v e) name ∙ ap (λ (i : ℕ). Read m i e) value ∙ ap (Read m w) end
   met-alone (Read n v e) NoMember f k = answered-none (f .read) k

@@ -1,5 +1,5 @@
 -- A path stands in one place of the table, or would stand in one; two positions are packed in one number.
-use mathlib.Core.Path.{_≡_, refl, sym, ap, _∙_}
+use mathlib.Core.Path.{_≡_, sym, ap, _∙_}
 use mathlib.Core.List.{List, []}
 use Prim.Native.Nat.{ℕ, _/_, _%_, _≤_, _<_}
 use native.Mathlib.Omega.{arith}
@@ -7,7 +7,7 @@ use lib.Dec.{ltb}
 use lib.ListN.{length, getD}
 use borrow.Author.Tests.{ltb-true, ltb-false}
 use Rattle.facts.proofs.Rows.{length-rowsOf}
-use Rattle.rules.specs.Bytes.{Bytes, less, more}
+use Rattle.rules.specs.Bytes.{Bytes}
 use Rattle.rules.specs.Json.Text.{Text}
 use Rattle.rules.proofs.Tests.{by, apart}
 use Rattle.rules.proofs.Order.{order-less-ne, order-more-ne}

@@ -8,7 +8,6 @@ use Rattle.rules.specs.Bundle.{File}
 use Rattle.rules.specs.Starts.{Log, Way, fromZero, fromCheckpoint, andThen}
 use Rattle.rules.proofs.Tests.{apart}
 use Rattle.rules.proofs.Json.Suffix.{some-same, answered-none}
-use Rattle.names.specs.declared.Version.{Version}
 use Rattle.bundle.specs.Files.{fileIn}
 use Rattle.logs.proofs.Alone.{number-alone}
 use Rattle.starts.specs.Ways.{Leads, here, next, StartIs}

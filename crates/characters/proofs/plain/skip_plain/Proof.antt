@@ -55,10 +55,11 @@ loop-less c = omega arith
 loop-again : tie.Need-loop-again Inv-loop μ-loop
 loop-again c =
     let s = c .before .before .before .before .before .before .args .s .now in
+    let all = subst (Plain _) (zeros-all _ (c .if1 .left)) (c .before .stops .ensures .0) in
     let l = c .before .before .before .before .loop .inv in (
       omega (arith, l .0),
       omega (arith, l .1, c .before .before .before .loop-test .taken),
-      plains-joined s _ _ _ (l .2) (plains-eight s _ _ 8 (c .before .before .word-at .ensures) (omega arith) (subst (Plain _) (zeros-all _ (c .if1 .left)) (c .before .stops .ensures .0))),
+      plains-joined s _ _ _ (l .2) (plains-eight s _ _ 8 (c .before .before .word-at .ensures) (omega arith) all),
     )
 
 skip-few-requires : tie.Need-skip-few-requires Inv-loop μ-loop

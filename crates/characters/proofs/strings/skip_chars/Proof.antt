@@ -46,7 +46,8 @@ loop-again c =
     let e = c .before .before .is-literal-escape .ensures (c .before .if2 .taken) in
     let run = c .skip-plain .ensures in
     let test = c .before .before .before .before .before in
-    inside-run (inside-more (test .before .loop .inv) (test .loop-test .taken) (c .before .before .before .if1 .left) (e .0) (e .1) (e .2)) (run .0, run .1, run .2)
+    let quote = c .before .before .before .if1 .left in
+    inside-run (inside-more (test .before .loop .inv) (test .loop-test .taken) quote (e .0) (e .1) (e .2)) (run .0, run .1, run .2)
 
 skip-char-requires : tie.Need-skip-char-requires Inv-loop μ-loop
 skip-char-requires c κs = c .before .before .before .before .before .loop .inv .within
