@@ -12,7 +12,8 @@ pub struct Place {
     pub length: usize,
 }
 
-// The raw path between its quotes, as `shown::path_of`, by its place in the line; of length 0 if the line is no well-formed add.
+// The raw path between its quotes, as `shown::path_of`, by its place in the line; both numbers are 0 if the line is no
+// well-formed add.
 #[no_mangle]
 pub extern "C" fn kerumpase_path_of(line: &[u8]) -> Place
     ensures { λ r. ⌜ r ≡ placeBy (pathPlace (now (line .entry))) ⌝ }

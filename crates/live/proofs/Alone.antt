@@ -9,10 +9,10 @@ use borrow.Author.Tests.{ltb-true, ltb-false}
 use Rattle.facts.proofs.Rows.{length-rowsOf}
 use Rattle.rules.specs.Bytes.{Bytes}
 use Rattle.rules.specs.Json.Text.{Text}
+use Rattle.rules.specs.Keyed.{Ascends, Bracket}
 use Rattle.rules.proofs.Tests.{by, apart}
 use Rattle.rules.proofs.Order.{order-less-ne, order-more-ne}
-use Rattle.rules.proofs.Ascending.{Ascends, ascends-at}
-use Rattle.rules.proofs.Searching.{Bracket}
+use Rattle.rules.proofs.Ascending.{ascends-at}
 use Rattle.table.specs.Table.{wide, row, rows}
 use Rattle.live.specs.Live.{places, key, Packed, Table, Finds}
 use Rattle.live.specs.declared.Found.{Found}
