@@ -1,0 +1,130 @@
+//! What is wrong with a log, each fault once: from what the library says of its versions, checkpoints, marker and of cleaning it.
+
+use kerumpase::{bundle, Reason, Refusal};
+
+use crate::json::{object, or_null, quoted};
+use crate::log::{Survey, VersionSeen};
+use crate::refusals::{explained, Told};
+use crate::text::excerpt;
+
+/// A fault of a log.
+#[derive(Clone, Debug, PartialEq, Eq)]
+pub struct Fault {
+    /// The refusal that shows it; none where reading goes on without what is faulty.
+    pub number: Option<u32>,
+    pub what: String,
+    pub file: Option<String>,
+    pub line: usize,
+    pub excerpt: Option<String>,
+    pub todo: String,
+}
+
+impl Fault {
+    fn of_refusal(refusal: Refusal, bytes: &[u8], where_met: &str) -> Fault {
+        let told = Told::of(refusal, bytes);
+        Fault {
+            number: Some(refusal.number()),
+            what: format!("{where_met}: {}", told.words()),
+            excerpt: told.excerpt,
+            file: told.file,
+            line: refusal.line,
+            todo: told.explained.todo.to_string(),
+        }
+    }
+
+    fn beside_reading(what: String, file: Option<String>, line: usize, todo: &str) -> Fault {
+        Fault { number: None, what, file, line, excerpt: None, todo: todo.to_string() }
+    }
+
+    pub fn text(&self) -> String {
+        match &self.excerpt {
+            Some(excerpt) => format!("{}; {excerpt}", self.what),
+            None => self.what.clone(),
+        }
+    }
+
+    pub fn json(&self) -> String {
+        object(&[
+            ("refused", or_null(self.number)),
+            ("what", quoted(self.what.as_bytes())),
+            ("file", or_null(self.file.as_ref().map(|file| quoted(file.as_bytes())))),
+            ("line", self.line.to_string()),
+            ("excerpt", or_null(self.excerpt.as_ref().map(|excerpt| quoted(excerpt.as_bytes())))),
+            ("todo", quoted(self.todo.as_bytes())),
+        ])
+    }
+}
+
+impl Survey {
+    fn is_above_latest(&self, seen: &VersionSeen) -> bool {
+        self.latest.map_or(false, |latest| seen.version > latest.version)
+    }
+
+    /// Versions below the latest that no start reaches: cleaned, or lost below a checkpoint; no fault.
+    pub fn not_kept(&self) -> impl Iterator<Item = &VersionSeen> {
+        let is_not_kept = |seen: &VersionSeen| matches!(seen.answer, Err(Refusal { reason: Reason::NotKept, .. }));
+        self.versions.iter().filter(move |seen| is_not_kept(seen) && !self.is_above_latest(seen))
+    }
+}
+
+/// Versions 3 to 9, or version 3.
+fn versions_named(versions: &[u64]) -> String {
+    match versions {
+        [] => String::new(),
+        [one] => format!("version {one}"),
+        [first, .., last] => format!("versions {first} to {last}"),
+    }
+}
+
+pub fn faults_of(survey: &Survey, bytes: &[u8]) -> Vec<Fault> {
+    let mut faults = Vec::new();
+    let mut known: Vec<Refusal> = Vec::new();
+    let mut push = |refusal: Refusal, met: String, faults: &mut Vec<Fault>| {
+        // The same refusal at the same place is the same fault, wherever it is met.
+        if !known.contains(&refusal) {
+            known.push(refusal);
+            faults.push(Fault::of_refusal(refusal, bytes, &met));
+        }
+    };
+    if let Err(refusal) = survey.latest {
+        push(refusal, "the latest version".to_string(), &mut faults);
+    }
+    for seen in &survey.versions {
+        if let Err(refusal) = seen.answer {
+            if refusal.reason != Reason::NotKept {
+                let all: Vec<u64> =
+                    survey.versions.iter().filter(|other| other.answer == Err(refusal)).map(|other| other.version).collect();
+                push(refusal, versions_named(&all), &mut faults);
+            }
+        }
+    }
+    let beyond: Vec<u64> = survey.versions.iter().filter(|seen| survey.is_above_latest(seen)).map(|seen| seen.version).collect();
+    if let (Ok(latest), false) = (&survey.latest, beyond.is_empty()) {
+        let what = format!("{} beyond the latest version {}: a file on the way is missing", versions_named(&beyond), latest.version);
+        faults.push(Fault::beside_reading(what, None, 0, explained(5).todo));
+    }
+    let name_of = |entry| bundle::file(bytes, entry).map(|file| String::from_utf8_lossy(file.name).to_string());
+    for checkpoint in &survey.checkpoints {
+        if let Some(line) = checkpoint.fault {
+            let place = if line == 0 { "it holds no action".to_string() } else { format!("line {line}") };
+            let what = format!("checkpoint {} is malformed and not used: {place}", checkpoint.version);
+            let mut fault = Fault::beside_reading(what, name_of(checkpoint.entry), line, explained(6).todo);
+            let body = bundle::file(bytes, checkpoint.entry).map_or(&b""[..], |file| file.body);
+            fault.excerpt = bundle::line(body, line).map(|line| format!("the line begins: {}", excerpt(line, 60)));
+            faults.push(fault);
+        }
+    }
+    if let (Some(entry), None) = (survey.marker, survey.marked()) {
+        let body = bundle::file(bytes, entry).map_or(&b""[..], |file| file.body);
+        let what = format!("the marker names no checkpoint that can be used, so reading starts at version 0; it says: {}", excerpt(body, 60));
+        let todo = "Restore the checkpoint that it names from a backup, or have the box write a new checkpoint.";
+        faults.push(Fault::beside_reading(what, name_of(entry), 0, todo));
+    }
+    if let Err(refusal) = survey.cleanable {
+        // A table that may not be written is no fault, and what reading met is told already.
+        if refusal.reason != Reason::NotWritable {
+            push(refusal, "the cleaner".to_string(), &mut faults);
+        }
+    }
+    faults
+}

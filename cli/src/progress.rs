@@ -1,0 +1,51 @@
+//! How far long work is: one line on standard error, written over and over, on a terminal or where --progress asks for it.
+
+use std::io::{self, Write};
+use std::time::{Duration, Instant};
+
+const EVERY: Duration = Duration::from_millis(200);
+
+pub struct Progress {
+    /// Lines of their own instead of one that is written over.
+    lines: bool,
+    active: bool,
+    last: Instant,
+    shown: bool,
+}
+
+/// Whether standard error is a terminal.
+fn is_terminal() -> bool {
+    std::fs::read_link("/proc/self/fd/2").map_or(false, |path| path.starts_with("/dev/pts") || path.starts_with("/dev/tty") || path.ends_with("console"))
+}
+
+impl Progress {
+    pub fn new(asked: bool) -> Progress {
+        let terminal = is_terminal();
+        Progress { lines: !terminal, active: asked || terminal, last: Instant::now(), shown: false }
+    }
+
+    /// Says that so many of all are done, if the last such line is a while ago.
+    pub fn step(&mut self, done: usize, all: usize, what: &str) {
+        if !self.active || (self.last.elapsed() < EVERY && !(self.lines && done == all)) {
+            return;
+        }
+        self.last = Instant::now();
+        self.shown = true;
+        let said = if self.lines { writeln!(io::stderr(), "{done} of {all} {what}") } else { write!(io::stderr(), "\r{done} of {all} {what} ") };
+        let _ = said.and_then(|()| io::stderr().flush());
+    }
+
+    /// Takes the line away.
+    pub fn end(&mut self) {
+        if self.shown && !self.lines {
+            let _ = write!(io::stderr(), "\r\x1b[K");
+        }
+        self.shown = false;
+    }
+}
+
+impl Drop for Progress {
+    fn drop(&mut self) {
+        self.end();
+    }
+}
