@@ -87,16 +87,19 @@ BEGIN {
     if (line ~ /^@/) refuse("a global")
     if (line ~ /</) refuse("a vector, or a packed struct")
     if (line ~ /\.\.\./) refuse("arguments without end")
-    if (line ~ /^declare /) {
+    if (line ~ /^declare / || line ~ /^  (%[^ ]* = )?call [^@]*@[^"]/) {
         name = line
         sub(/^[^@]*@/, "", name)
         sub(/\(.*/, "", name)
         if (!(name in outside)) refuse("a function outside that is not known, " name)
     }
+    sub(/^define .* \{$/, "&}", line)
+    gsub(/\{\}$|\{ i64, i64 \}/, " ", line)
+    if (line ~ /[{}]/) refuse("a struct, whose layout is not known to be the same")
     gsub(/@"[^"]*"/, " ", line)                       # names of functions
     sub(/^[A-Za-z0-9_.]+:/, "", line)                 # labels
     gsub(/[@%!#][A-Za-z0-9_.]+/, " ", line)           # names of values, marks, attributes
-    gsub(/[][(){}=,*]/, " ", line)
+    gsub(/[][()=,*]/, " ", line)
     n = split(line, said, " ")
     for (i = 1; i <= n; i++)
         if (said[i] !~ /^-?[0-9]+$/ && !(said[i] in same)) refuse("a word that is not known to mean the same, " said[i])
