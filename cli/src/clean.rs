@@ -35,7 +35,9 @@ impl Ask {
         let retention = match (words.value("--older-than")?, otherwise) {
             (Some(text), _) => span(text, "the span of --older-than")?,
             (None, Some(span)) => span,
-            (None, None) => return usage("--older-than is missing: how old a file must be to go, as in --older-than 30d"),
+            (None, None) => {
+                return usage("--older-than is missing: how old a file must be to go, as in --older-than 30d")
+            }
         };
         let now = words.value("--now")?.map_or_else(now, |text| time(text, "the time of --now"))?;
         Ok(Ask { now, retention })
@@ -57,7 +59,13 @@ fn named(bundle: &[u8], ask: Ask) -> Result<Vec<Named>, Refusal> {
     let named = entries.into_iter().filter_map(|entry| {
         let file = bundle::file(bundle, entry)?;
         let version = if let Name::Version(version) = Name::of(file.name) { version } else { return None };
-        Some(Named { entry, name: String::from_utf8_lossy(file.name).to_string(), version, size: file.body.len(), modified: file.time })
+        Some(Named {
+            entry,
+            name: String::from_utf8_lossy(file.name).to_string(),
+            version,
+            size: file.body.len(),
+            modified: file.time,
+        })
     });
     Ok(named.collect())
 }
@@ -80,10 +88,15 @@ pub fn run(words: &Words, out: &mut dyn Write) -> Ended {
     // Before anything is removed it is written down what will be.
     out.flush()?;
     let bytes: usize = named.iter().map(|file| file.size).sum();
-    let outcome = if apply && !named.is_empty() { Some(remove(&table, &named, &mut Progress::new(words.flag("--progress")))?) } else { None };
+    let outcome = if apply && !named.is_empty() {
+        Some(remove(&table, &named, &mut Progress::new(words.flag("--progress")))?)
+    } else {
+        None
+    };
     if json {
         let removed = if outcome.is_some() { named.len() } else { 0 };
-        let numbers = [("mayGo", named.len()), ("bytes", bytes), ("removed", removed)].map(|(name, number)| (name, number.to_string()));
+        let numbers = [("mayGo", named.len()), ("bytes", bytes), ("removed", removed)]
+            .map(|(name, number)| (name, number.to_string()));
         let asked = [("now", ask.now), ("olderThan", ask.retention)].map(|(name, number)| (name, number.to_string()));
         writeln!(out, "{}", object(&[numbers.as_slice(), asked.as_slice()].concat()))?;
         return Ok(Ending::Answered);
@@ -125,12 +138,20 @@ pub fn why_nothing(bundle: &[u8], ask: Ask) -> String {
     match some_day.iter().map(|file| may_go_from(file.modified, ask.retention)).min() {
         Some(Some(first)) => {
             let old = span_shown(ask.retention);
-            format!("{} not older than {old} yet; the first may go from {}", counted(some_day.len(), "file is", "files are"), time_shown(first))
+            format!(
+                "{} not older than {old} yet; the first may go from {}",
+                counted(some_day.len(), "file is", "files are"),
+                time_shown(first)
+            )
         }
         Some(None) => "no file can get so old".to_string(),
-        None => format!(
-            "no version file stands between version 0 and checkpoint {checkpoint}, or nothing but that checkpoint reaches its version"
-        ),
+        None if bundle::files(bundle).any(|file| {
+            matches!(Name::of(file.name), Name::Version(1..)) && Name::of(file.name) < Name::Version(checkpoint)
+        }) =>
+        {
+            format!("nothing but checkpoint {checkpoint} reaches its version, so it cannot be compared; the files below it may go after the next checkpoint")
+        }
+        None => format!("no version file stands between version 0 and checkpoint {checkpoint}"),
     }
 }
 
@@ -143,9 +164,10 @@ pub fn may_go_from(modified: u64, retention: u64) -> Option<u64> {
 fn may_apply(table: &Table) -> Result<(), Fail> {
     match &table.folder {
         None => usage("--apply removes files from a table's folder; a bundle has none"),
-        Some(folder) if folder.packed.has_times || folder.times != Times::default() => {
-            usage(format!("--apply goes by the files' own times, and {} has others (its file times, or --time)", table.name))
-        }
+        Some(folder) if folder.packed.has_times || folder.times != Times::default() => usage(format!(
+            "--apply goes by the files' own times, and {} has others (its file times, or --time)",
+            table.name
+        )),
         Some(_) => Ok(()),
     }
 }
@@ -160,8 +182,13 @@ struct Answer {
 
 impl Answer {
     fn of(listing: &kerumpase::Listing) -> Answer {
-        let files = listing.files().map(|file| (file.path.to_vec(), file.size, file.modification_time, file.num_records));
-        Answer { version: listing.version, protocol: (listing.reader, listing.writer, listing.writable), files: files.collect() }
+        let files =
+            listing.files().map(|file| (file.path.to_vec(), file.size, file.modification_time, file.num_records));
+        Answer {
+            version: listing.version,
+            protocol: (listing.reader, listing.writer, listing.writable),
+            files: files.collect(),
+        }
     }
 }
 
@@ -177,7 +204,10 @@ fn remove(table: &Table, named: &[Named], progress: &mut Progress) -> Result<u64
         let (path, stamp) = &folder.packed.places[file.entry];
         if let Err(why) = remove_one(path, stamp) {
             sync(&folder.packed.log)?;
-            return system(format!("{why}; {done} of {} were removed, which changes no answer from the checkpoint up", named.len()));
+            return system(format!(
+                "{why}; {done} of {} were removed, which changes no answer from the checkpoint up",
+                named.len()
+            ));
         }
         progress.step(done + 1, named.len(), "files removed");
     }
@@ -187,7 +217,10 @@ fn remove(table: &Table, named: &[Named], progress: &mut Progress) -> Result<u64
     // A writer may have been there meanwhile: what was the latest version then is compared, not what it is now.
     match kerumpase::read_at(&after.bundle, ALL, before.version) {
         Ok(listing) if Answer::of(&listing) == before => Ok(before.version),
-        Ok(_) => system(format!("version {} answers otherwise than before; keep {} as it is and tell us", before.version, table.name)),
+        Ok(_) => system(format!(
+            "version {} answers otherwise than before; keep {} as it is and tell us",
+            before.version, table.name
+        )),
         Err(refusal) => {
             system(format!("version {} is now {refusal}; keep {} as it is and tell us", before.version, table.name))
         }
@@ -217,7 +250,9 @@ fn sync(log: &Path) -> Result<(), Fail> {
 
 /// Builds for tests can be stopped dead after so many removals.
 fn stop_for_a_test(removed: usize) {
-    if cfg!(debug_assertions) && std::env::var("KERUMPASE_STOP_AFTER").map_or(false, |after| after == removed.to_string()) {
+    if cfg!(debug_assertions)
+        && std::env::var("KERUMPASE_STOP_AFTER").map_or(false, |after| after == removed.to_string())
+    {
         std::process::abort();
     }
 }

@@ -24,7 +24,10 @@ pub fn time(text: &str, what: &str) -> Result<u64, Fail> {
     if text.bytes().all(|byte| byte.is_ascii_digit()) {
         return decimal(text, what);
     }
-    let wrong = format!("{what} is 2024-03-01, 2024-03-01T08:40:00Z (UTC) or milliseconds since 1970; \"{}\" is not", shown(text));
+    let wrong = format!(
+        "{what} is 2024-03-01, 2024-03-01T08:40:00Z (UTC) or milliseconds since 1970; \"{}\" is not",
+        shown(text)
+    );
     date(text).map_or_else(|| usage(wrong), Ok)
 }
 
@@ -130,8 +133,23 @@ mod tests {
     #[test]
     fn what_is_no_date_is_said() {
         for wrong in [
-            "", "2024-3-1", "2024-02-30", "2023-02-29", "2024-13-01", "1969-12-31", "2024-03-01T08:40Z", "2024-03-01T08:40:00", "2024-03-01T24:00:00Z",
-            "2024-03-01T08:60:00Z", "2024-03-01-01", "2024-03-01T08:40:00.1Z", "now", "-5", "0x10", "2024-00-10", "2024-03-00",
+            "",
+            "2024-3-1",
+            "2024-02-30",
+            "2023-02-29",
+            "2024-13-01",
+            "1969-12-31",
+            "2024-03-01T08:40Z",
+            "2024-03-01T08:40:00",
+            "2024-03-01T24:00:00Z",
+            "2024-03-01T08:60:00Z",
+            "2024-03-01-01",
+            "2024-03-01T08:40:00.1Z",
+            "now",
+            "-5",
+            "0x10",
+            "2024-00-10",
+            "2024-03-00",
         ] {
             assert!(time(wrong, "T").is_err(), "{wrong}");
         }

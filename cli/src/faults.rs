@@ -60,10 +60,13 @@ impl Survey {
         self.latest.map_or(false, |latest| seen.version > latest.version)
     }
 
-    /// Versions below the latest that no start reaches: cleaned, or lost below a checkpoint; no fault.
+    /// Whether a version is below the latest and no start reaches it: cleaned, or lost below a checkpoint; no fault.
+    pub fn is_not_kept(&self, seen: &VersionSeen) -> bool {
+        matches!(seen.answer, Err(Refusal { reason: Reason::NotKept, .. })) && !self.is_above_latest(seen)
+    }
+
     pub fn not_kept(&self) -> impl Iterator<Item = &VersionSeen> {
-        let is_not_kept = |seen: &VersionSeen| matches!(seen.answer, Err(Refusal { reason: Reason::NotKept, .. }));
-        self.versions.iter().filter(move |seen| is_not_kept(seen) && !self.is_above_latest(seen))
+        self.versions.iter().filter(move |seen| self.is_not_kept(seen))
     }
 }
 
@@ -92,15 +95,24 @@ pub fn faults_of(survey: &Survey, bytes: &[u8]) -> Vec<Fault> {
     for seen in &survey.versions {
         if let Err(refusal) = seen.answer {
             if refusal.reason != Reason::NotKept {
-                let all: Vec<u64> =
-                    survey.versions.iter().filter(|other| other.answer == Err(refusal)).map(|other| other.version).collect();
+                let all: Vec<u64> = survey
+                    .versions
+                    .iter()
+                    .filter(|other| other.answer == Err(refusal))
+                    .map(|other| other.version)
+                    .collect();
                 push(refusal, versions_named(&all), &mut faults);
             }
         }
     }
-    let beyond: Vec<u64> = survey.versions.iter().filter(|seen| survey.is_above_latest(seen)).map(|seen| seen.version).collect();
+    let beyond: Vec<u64> =
+        survey.versions.iter().filter(|seen| survey.is_above_latest(seen)).map(|seen| seen.version).collect();
     if let (Ok(latest), false) = (&survey.latest, beyond.is_empty()) {
-        let what = format!("{} beyond the latest version {}: a file on the way is missing", versions_named(&beyond), latest.version);
+        let what = format!(
+            "{} beyond the latest version {}: a file on the way is missing",
+            versions_named(&beyond),
+            latest.version
+        );
         faults.push(Fault::beside_reading(what, None, 0, explained(5).todo));
     }
     let name_of = |entry| bundle::file(bytes, entry).map(|file| String::from_utf8_lossy(file.name).to_string());
@@ -116,7 +128,10 @@ pub fn faults_of(survey: &Survey, bytes: &[u8]) -> Vec<Fault> {
     }
     if let (Some(entry), None) = (survey.marker, survey.marked()) {
         let body = bundle::file(bytes, entry).map_or(&b""[..], |file| file.body);
-        let what = format!("the marker names no checkpoint that can be used, so reading starts at version 0; it says: {}", excerpt(body, 60));
+        let what = format!(
+            "the marker names no checkpoint that can be used, so reading starts at version 0; it says: {}",
+            excerpt(body, 60)
+        );
         let todo = "Restore the checkpoint that it names from a backup, or have the box write a new checkpoint.";
         faults.push(Fault::beside_reading(what, name_of(entry), 0, todo));
     }

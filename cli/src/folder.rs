@@ -159,7 +159,9 @@ fn found(log: &Path, all: bool) -> Result<Vec<Found>, Fail> {
             let metadata = match fs::metadata(&path) {
                 Ok(metadata) => metadata,
                 // It went meanwhile, or is a link to nothing that the rules would ignore.
-                Err(error) if error.kind() == io::ErrorKind::NotFound && fs::symlink_metadata(&path).is_err() => continue,
+                Err(error) if error.kind() == io::ErrorKind::NotFound && fs::symlink_metadata(&path).is_err() => {
+                    continue
+                }
                 Err(error) => return system(format!("{} cannot be read: {error}", path_shown(&path))),
             };
             if metadata.is_dir() && kind == Name::Other {
@@ -174,7 +176,10 @@ fn found(log: &Path, all: bool) -> Result<Vec<Found>, Fail> {
     found.sort_by(|one, two| one.name.cmp(&two.name));
     let bytes = found.iter().map(|found| u128::from(found.stamp.size)).sum::<u128>();
     if bytes > MOST_BYTES as u128 {
-        return system(format!("{} does not fit: its files have {bytes} bytes, and a bundle has at most {MOST_BYTES}", path_shown(log)));
+        return system(format!(
+            "{} does not fit: its files have {bytes} bytes, and a bundle has at most {MOST_BYTES}",
+            path_shown(log)
+        ));
     }
     Ok(found)
 }
@@ -198,12 +203,19 @@ fn bodies(log: &Path, files: &[Found]) -> Result<Option<Vec<Vec<u8>>>, Fail> {
     Ok(Some(bodies))
 }
 
-fn written(log: &Path, found: &[Found], bodies: &[Vec<u8>], given: impl Fn(&[u8]) -> Option<u64>) -> Result<Vec<u8>, Fail> {
+fn written(
+    log: &Path,
+    found: &[Found],
+    bodies: &[Vec<u8>],
+    given: impl Fn(&[u8]) -> Option<u64>,
+) -> Result<Vec<u8>, Fail> {
     let mut files = Vec::new();
     for (found, body) in found.iter().zip(bodies) {
         let time = match given(&found.name).or_else(|| found.stamp.milliseconds()) {
             Some(time) => time,
-            None => return system(format!("{} was last changed before 1970: a time has no sign", path_shown(&found.path))),
+            None => {
+                return system(format!("{} was last changed before 1970: a time has no sign", path_shown(&found.path)))
+            }
         };
         files.push(File { name: &found.name, time, body });
     }

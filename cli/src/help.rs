@@ -35,7 +35,9 @@ Examples:
 ";
 
 const TEXTS: [(&str, &str); 11] = [
-    ("files", "\
+    (
+        "files",
+        "\
 kerumpase files TABLE [--at V] [--text CONDITION]... [--number CONDITION]... [--query JSON] [--json]
 
 The files that make up the table at its latest version, or at version V. The first line gives
@@ -58,8 +60,11 @@ Examples:
   kerumpase files examples/school --at 1
   kerumpase files examples/school --at 1 --text 'subject = art' --number 'year >= 2024'
   kerumpase files examples/school --json
-"),
-    ("info", "\
+",
+    ),
+    (
+        "info",
+        "\
 kerumpase info TABLE [--at V] [--json]
 
 What the table is at its latest version, or at version V: how many files and bytes, the records
@@ -71,8 +76,11 @@ that the files state, the protocol, whether it may be written; then what its log
 Examples:
   kerumpase info examples/school
   kerumpase info examples/school --at 1 --json
-"),
-    ("versions", "\
+",
+    ),
+    (
+        "versions",
+        "\
 kerumpase versions TABLE [--json] [--time NAME=TIME]... [--progress]
 
 Each version of which the log has a file: whether it can be read or by which number it is refused,
@@ -85,8 +93,11 @@ how many files and bytes it has, and its files in the log with their sizes and t
 Examples:
   kerumpase versions examples/cleaner
   kerumpase versions examples/gap --json
-"),
-    ("check", "\
+",
+    ),
+    (
+        "check",
+        "\
 kerumpase check TABLE... [--jobs N] [--json] [--progress]
 
 Reads every version of each table and makes the cleaner's comparison. One line a table: good, or
@@ -102,8 +113,11 @@ Exit status: 0 all are good, 1 one has faults, 2 one could not be read.
 Examples:
   kerumpase check examples/school
   kerumpase check examples/school examples/cleaner --jobs 2
-"),
-    ("clean", "\
+",
+    ),
+    (
+        "clean",
+        "\
 kerumpase clean TABLE --older-than SPAN [--now TIME] [--apply] [--time NAME=TIME]... [--json] [--progress]
 
 Which version files may go: those above version 0 and below the checkpoint that the marker names,
@@ -128,8 +142,11 @@ files' times names nothing.
 Examples:
   kerumpase clean examples/cleaner --older-than 30d --now 2024-06-01
   kerumpase clean examples/cleaner --older-than 30d --now 2024-06-01 --json
-"),
-    ("manifests", "\
+",
+    ),
+    (
+        "manifests",
+        "\
 kerumpase manifests STATE [--text CONDITION]... [--number CONDITION]... [--query JSON]
                     [--state-dir NAME] [--json]
 
@@ -144,8 +161,11 @@ only if its bounds show that no value in it meets a condition.
 Examples:
   kerumpase manifests examples/state/state.json
   kerumpase manifests examples/state/state.json --text 'date > 2024-01-31' --state-dir state-v7
-"),
-    ("report", "\
+",
+    ),
+    (
+        "report",
+        "\
 kerumpase report TABLE [--older-than SPAN] [--now TIME] [--time NAME=TIME]... [--progress] >report.html
 
 One page in HTML for the help desk, with nothing fetched and no script: which versions can be read
@@ -159,8 +179,11 @@ picture, and what the cleaner would name and when.
 
 Examples:
   kerumpase report examples/school --now 2024-06-01 >report.html
-"),
-    ("pack", "\
+",
+    ),
+    (
+        "pack",
+        "\
 kerumpase pack TABLE [--all] [--time NAME=TIME]... >BUNDLE
 
 Writes the log as a bundle: contents first, then bodies. Only version files, checkpoints and the
@@ -172,8 +195,11 @@ marker are packed, since the rules ignore all other names. A bundle has at most 
 
 Examples:
   kerumpase pack examples/school >school.bundle
-"),
-    ("unpack", "\
+",
+    ),
+    (
+        "unpack",
+        "\
 kerumpase unpack BUNDLE FOLDER
 
 Makes FOLDER with a folder _transaction_log that holds the bundle's files, and a file `times` with
@@ -182,8 +208,11 @@ their times, so that packing it gives the same bundle. FOLDER must not be there.
 Examples:
   kerumpase pack examples/school >school.bundle
   kerumpase unpack school.bundle school-copy
-"),
-    ("contents", "\
+",
+    ),
+    (
+        "contents",
+        "\
 kerumpase contents TABLE [--json] [--time NAME=TIME]...
 
 The files of the log as the reader numbers them, from 0: name, kind, size, time.
@@ -193,8 +222,11 @@ The files of the log as the reader numbers them, from 0: name, kind, size, time.
 
 Examples:
   kerumpase contents examples/cleaner
-"),
-    ("explain", "\
+",
+    ),
+    (
+        "explain",
+        "\
 kerumpase explain [K] [--json]
 
 What refusal K means, and what to do; without K, all of them.
@@ -203,7 +235,8 @@ What refusal K means, and what to do; without K, all of them.
 
 Examples:
   kerumpase explain 13
-"),
+",
+    ),
 ];
 
 pub fn print(about: Option<&str>, out: &mut dyn Write) -> Ended {

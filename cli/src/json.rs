@@ -186,7 +186,14 @@ mod tests {
         assert_eq!(paths[0].decoded, "manifests/aé😀".as_bytes());
         assert_eq!(paths[1].decoded, b"b");
         assert_eq!(paths.len(), 2);
-        for wrong in [&b""[..], b"{", b"[]", br#"{"manifests":[{}]}"#, br#"{"manifests":[{"path":"\ud800"}]}"#, br#"{"manifests":[{"path":"a}]}"#] {
+        for wrong in [
+            &b""[..],
+            b"{",
+            b"[]",
+            br#"{"manifests":[{}]}"#,
+            br#"{"manifests":[{"path":"\ud800"}]}"#,
+            br#"{"manifests":[{"path":"a}]}"#,
+        ] {
             assert_eq!(manifest_paths(wrong), None);
         }
     }

@@ -73,8 +73,13 @@ impl Survey {
     /// Looks at the whole log; `step` hears how many versions of all are done.
     pub fn of(bytes: &[u8], mut step: impl FnMut(usize, usize)) -> Survey {
         let latest = kerumpase::read_latest(bytes, ALL).map(|listing| Summary::of(&listing));
-        let mut survey =
-            Survey { latest, versions: Vec::new(), checkpoints: Vec::new(), marker: None, cleanable: kerumpase::clean(bytes, u64::MAX, 0) };
+        let mut survey = Survey {
+            latest,
+            versions: Vec::new(),
+            checkpoints: Vec::new(),
+            marker: None,
+            cleanable: kerumpase::clean(bytes, u64::MAX, 0),
+        };
         if matches!(survey.latest, Err(Refusal { reason: Reason::BundleMalformed, .. })) {
             return survey;
         }
@@ -137,7 +142,10 @@ fn checkpoints_of(bytes: &[u8]) -> Vec<CheckpointSeen> {
 }
 
 fn marked_of(checkpoints: &[CheckpointSeen]) -> Option<u64> {
-    checkpoints.iter().find(|checkpoint| checkpoint.marked && checkpoint.fault.is_none()).map(|checkpoint| checkpoint.version)
+    checkpoints
+        .iter()
+        .find(|checkpoint| checkpoint.marked && checkpoint.fault.is_none())
+        .map(|checkpoint| checkpoint.version)
 }
 
 /// The checkpoint of a bundle that its marker names and that is a start.
@@ -145,7 +153,8 @@ pub fn marked_in(bytes: &[u8]) -> Option<u64> {
     marked_of(&checkpoints_of(bytes))
 }
 
-const ZERO: File = File { name: b"00000000000000000000.json", time: 0, body: br#"{"metaData":{"id":"t","partitionColumns":[]}}"# };
+const ZERO: File =
+    File { name: b"00000000000000000000.json", time: 0, body: br#"{"metaData":{"id":"t","partitionColumns":[]}}"# };
 
 /// Whether a checkpoint is a start, asked of the library: it is put behind a version 0 of its own. If it is not, its first malformed line, asked by
 /// putting its lines into a version file. Nothing where it is a start, or too long to ask.
@@ -169,7 +178,11 @@ fn names(marker: &[u8], version: u64) -> bool {
     let checkpoint = format!("{version:020}.checkpoint.json");
     let files = [
         ZERO,
-        File { name: checkpoint.as_bytes(), time: 0, body: br#"{"protocol":{"minReaderVersion":4,"minWriterVersion":4}}"# },
+        File {
+            name: checkpoint.as_bytes(),
+            time: 0,
+            body: br#"{"protocol":{"minReaderVersion":4,"minWriterVersion":4}}"#,
+        },
         File { name: b"_last_checkpoint", time: 0, body: marker },
     ];
     let asked = match bundle::write(&files) {
@@ -188,12 +201,14 @@ mod tests {
     use super::*;
 
     fn bundle_of(files: &[(&str, &str)]) -> Vec<u8> {
-        let files: Vec<File> = files.iter().map(|(name, body)| File { name: name.as_bytes(), time: 5, body: body.as_bytes() }).collect();
+        let files: Vec<File> =
+            files.iter().map(|(name, body)| File { name: name.as_bytes(), time: 5, body: body.as_bytes() }).collect();
         bundle::write(&files).unwrap()
     }
 
     const META: &str = r#"{"metaData":{"id":"t","partitionColumns":[]}}"#;
-    const ADD: &str = r#"{"add":{"path":"a","size":3,"modificationTime":7,"dataChange":true,"partitionValues":{},"numRecords":2}}"#;
+    const ADD: &str =
+        r#"{"add":{"path":"a","size":3,"modificationTime":7,"dataChange":true,"partitionValues":{},"numRecords":2}}"#;
 
     #[test]
     fn a_log_with_a_gap() {

@@ -55,14 +55,21 @@ fn run(words: &[OsString], out: &mut dyn Write) -> Ended {
             return help::print(about.as_deref(), out);
         }
         "--version" | "-V" => {
-            write!(out, "kerumpase {}\n{}", env!("CARGO_PKG_VERSION"), include_str!(concat!(env!("OUT_DIR"), "/PROVED")))?;
+            write!(
+                out,
+                "kerumpase {}\n{}",
+                env!("CARGO_PKG_VERSION"),
+                include_str!(concat!(env!("OUT_DIR"), "/PROVED"))
+            )?;
             return Ok(Ending::Answered);
         }
         _ => (),
     }
     let command = match commands::ALL.iter().find(|command| command.name == first) {
         Some(command) => command,
-        None if first.starts_with('-') => return Err(Fail::Usage(None, format!("there is no option {}", text::shown(&first)))),
+        None if first.starts_with('-') => {
+            return Err(Fail::Usage(None, format!("there is no option {}", text::shown(&first))))
+        }
         None => return Err(Fail::Usage(None, format!("there is no command {}", text::shown(&first)))),
     };
     if rest.iter().take_while(|word| *word != "--").any(|word| word == "--help" || word == "-h") {

@@ -12,7 +12,8 @@ pub fn decimal(text: &str, what: &str) -> Result<u64, Fail> {
     text.parse().or_else(|_| usage(format!("{what} is at most {}, and {} is more", u64::MAX, shown(text))))
 }
 
-const UNITS: [(&str, u64); 6] = [("ms", 1), ("s", 1_000), ("m", 60_000), ("h", 3_600_000), ("d", 86_400_000), ("w", 604_800_000)];
+const UNITS: [(&str, u64); 6] =
+    [("ms", 1), ("s", 1_000), ("m", 60_000), ("h", 3_600_000), ("d", 86_400_000), ("w", 604_800_000)];
 
 /// A span of time in milliseconds, from a number and its unit: 30d.
 pub fn span(text: &str, what: &str) -> Result<u64, Fail> {
@@ -23,7 +24,10 @@ pub fn span(text: &str, what: &str) -> Result<u64, Fail> {
             let number = decimal(&text[..digits], what)?;
             number.checked_mul(*milliseconds).map_or_else(|| usage(format!("{what} {text} is too long")), Ok)
         }
-        _ => usage(format!("{what} is a number with its unit, ms, s, m, h, d or w, as in 30d; \"{}\" is not", shown(text))),
+        _ => usage(format!(
+            "{what} is a number with its unit, ms, s, m, h, d or w, as in 30d; \"{}\" is not",
+            shown(text)
+        )),
     }
 }
 
@@ -77,9 +81,15 @@ mod tests {
 
     #[test]
     fn spans_are_shown_by_two_units() {
-        for (milliseconds, expected) in
-            [(0, "0ms"), (999, "999ms"), (1_000, "1s"), (61_500, "1m 1s"), (86_400_000, "1d"), (90_000_000, "1d 1h"), (86_460_000, "1d")]
-        {
+        for (milliseconds, expected) in [
+            (0, "0ms"),
+            (999, "999ms"),
+            (1_000, "1s"),
+            (61_500, "1m 1s"),
+            (86_400_000, "1d"),
+            (90_000_000, "1d 1h"),
+            (86_460_000, "1d"),
+        ] {
             assert_eq!(span_shown(milliseconds), expected);
         }
     }

@@ -15,7 +15,8 @@ pub struct Progress {
 
 /// Whether standard error is a terminal.
 fn is_terminal() -> bool {
-    std::fs::read_link("/proc/self/fd/2").map_or(false, |path| path.starts_with("/dev/pts") || path.starts_with("/dev/tty") || path.ends_with("console"))
+    std::fs::read_link("/proc/self/fd/2")
+        .map_or(false, |path| path.starts_with("/dev/pts") || path.starts_with("/dev/tty") || path.ends_with("console"))
 }
 
 impl Progress {
@@ -31,7 +32,11 @@ impl Progress {
         }
         self.last = Instant::now();
         self.shown = true;
-        let said = if self.lines { writeln!(io::stderr(), "{done} of {all} {what}") } else { write!(io::stderr(), "\r{done} of {all} {what} ") };
+        let said = if self.lines {
+            writeln!(io::stderr(), "{done} of {all} {what}")
+        } else {
+            write!(io::stderr(), "\r{done} of {all} {what} ")
+        };
         let _ = said.and_then(|()| io::stderr().flush());
     }
 

@@ -53,7 +53,9 @@ mod tests {
 
     #[test]
     fn conditions_are_quoted() {
-        let expected = |column: &str, op: &str, value: &str| format!(r#"{{"column":"{column}","as":"text","op":"{op}","value":"{value}"}}"#);
+        let expected = |column: &str, op: &str, value: &str| {
+            format!(r#"{{"column":"{column}","as":"text","op":"{op}","value":"{value}"}}"#)
+        };
         assert_eq!(condition("year = 2024"), expected("year", "eq", "2024"));
         assert_eq!(condition("year<=2024"), expected("year", "le", "2024"));
         assert_eq!(condition("year >= 2024"), expected("year", "ge", "2024"));

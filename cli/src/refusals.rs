@@ -56,21 +56,27 @@ impl Told {
     pub fn of(refusal: Refusal, bytes: &[u8]) -> Told {
         let file = bundle::file(bytes, refusal.entry).filter(|_| refusal.names_a_line());
         let excerpt = file.and_then(|file| match file.body {
-            body if body.starts_with(b"\x1f\x8b") => Some("the file is compressed by gzip; bodies are plain text".to_string()),
+            body if body.starts_with(b"\x1f\x8b") => {
+                Some("the file is compressed by gzip; bodies are plain text".to_string())
+            }
             body => bundle::line(body, refusal.line).map(|line| format!("the line begins: {}", excerpt(line, EXCERPT))),
         });
         let file = file.map(|file| String::from_utf8_lossy(file.name).to_string());
         Told { refusal, explained: explained(refusal.number()), file, excerpt }
     }
 
-    /// The paper's words, with the place.
-    pub fn words(&self) -> String {
-        let place = match (&self.file, self.refusal.line) {
+    /// The file and the line that it names.
+    pub fn place(&self) -> String {
+        match (&self.file, self.refusal.line) {
             (None, _) => String::new(),
             (Some(file), 0) => format!(", in {file}, at its end"),
             (Some(file), line) => format!(", in {file}, line {line}"),
-        };
-        format!("refusal {}: {}{place}", self.refusal.number(), self.explained.words)
+        }
+    }
+
+    /// The paper's words, with the place.
+    pub fn words(&self) -> String {
+        format!("refusal {}: {}{}", self.refusal.number(), self.explained.words, self.place())
     }
 
     pub fn json(&self) -> String {

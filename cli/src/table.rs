@@ -58,7 +58,9 @@ impl Table {
 fn at_most(input: impl Read, name: &str) -> Result<Vec<u8>, Fail> {
     let mut bytes = Vec::new();
     match input.take(MOST_BYTES as u64 + 1).read_to_end(&mut bytes) {
-        Ok(_) if bytes.len() > MOST_BYTES => system(format!("{name} is too long: a bundle has at most {MOST_BYTES} bytes")),
+        Ok(_) if bytes.len() > MOST_BYTES => {
+            system(format!("{name} is too long: a bundle has at most {MOST_BYTES} bytes"))
+        }
         Ok(_) => Ok(bytes),
         Err(error) => system(format!("{name} cannot be read: {error}")),
     }

@@ -105,7 +105,8 @@ mod tests {
 
     #[test]
     fn options_stand_anywhere() {
-        let words = read(&["a", "--at", "-3", "--text=year = 2024", "-", "--text", "b = c", "--json", "--", "--at"]).unwrap();
+        let words =
+            read(&["a", "--at", "-3", "--text=year = 2024", "-", "--text", "b = c", "--json", "--", "--at"]).unwrap();
         assert_eq!(words.operands, ["a", "-", "--at"]);
         assert_eq!(words.value("--at").unwrap(), Some("-3"));
         assert_eq!(words.values("--text").unwrap(), ["year = 2024", "b = c"]);

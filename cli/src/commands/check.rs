@@ -66,7 +66,11 @@ pub fn run(words: &Words, out: &mut dyn Write) -> Ended {
     progress.end();
     let [good, faulty, unread] = tally;
     if !json && tables.len() > 1 {
-        writeln!(out, "{}: {good} good, {faulty} with faults, {unread} not read", counted(tables.len(), "table", "tables"))?;
+        writeln!(
+            out,
+            "{}: {good} good, {faulty} with faults, {unread} not read",
+            counted(tables.len(), "table", "tables")
+        )?;
     }
     match (faulty, unread) {
         (_, 1..) => Err(Fail::System(format!("{} could not be read", counted(unread, "table", "tables")))),
@@ -116,7 +120,8 @@ fn text_of(name: &str, checked: &Result<Checked, Fail>) -> String {
     match checked {
         Err(fail) => format!("not read {name}: {fail}"),
         Ok(Checked { latest, versions, read, not_kept, faults }) => {
-            let latest = latest.map_or("no latest version".to_string(), |(version, files)| format!("version {version} files {files}"));
+            let latest = latest
+                .map_or("no latest version".to_string(), |(version, files)| format!("version {version} files {files}"));
             let kept = if *not_kept == 0 { String::new() } else { format!(", {not_kept} not kept") };
             let verdict = if faults.is_empty() { "good" } else { "faults" };
             let head = format!("{verdict} {name}: {latest}, {read} of {versions} versions read{kept}");
@@ -128,7 +133,11 @@ fn text_of(name: &str, checked: &Result<Checked, Fail>) -> String {
 
 fn json_of(name: &str, checked: &Result<Checked, Fail>) -> String {
     match checked {
-        Err(fail) => object(&[("table", quoted(name.as_bytes())), ("good", "null".to_string()), ("error", quoted(fail.to_string().as_bytes()))]),
+        Err(fail) => object(&[
+            ("table", quoted(name.as_bytes())),
+            ("good", "null".to_string()),
+            ("error", quoted(fail.to_string().as_bytes())),
+        ]),
         Ok(Checked { latest, versions, read, not_kept, faults }) => object(&[
             ("table", quoted(name.as_bytes())),
             ("good", faults.is_empty().to_string()),

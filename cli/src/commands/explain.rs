@@ -20,13 +20,25 @@ pub fn run(words: &Words, out: &mut dyn Write) -> Ended {
         }
     };
     if rows.is_empty() {
-        return usage(format!("there is no refusal with this number; they go from 0 to {}", refusals::all().count() - 1));
+        return usage(format!(
+            "there is no refusal with this number; they go from 0 to {}",
+            refusals::all().count() - 1
+        ));
     }
     for (place, row) in rows.iter().enumerate() {
         let Explained { number, words, means, todo } = row;
         if json {
             let text = |text: &str| quoted(text.as_bytes());
-            writeln!(out, "{}", object(&[("number", number.to_string()), ("why", text(words)), ("means", text(means)), ("todo", text(todo))]))?;
+            writeln!(
+                out,
+                "{}",
+                object(&[
+                    ("number", number.to_string()),
+                    ("why", text(words)),
+                    ("means", text(means)),
+                    ("todo", text(todo))
+                ])
+            )?;
         } else {
             let between = if place > 0 { "\n" } else { "" };
             writeln!(out, "{between}refusal {number}: {words}\n{means}\n{todo}")?;

@@ -36,7 +36,12 @@ pub fn run(words: &Words, out: &mut dyn Write) -> Ended {
 
 fn print(listing: &Listing, out: &mut dyn Write) -> Ended {
     let Listing { version, reader, writer, writable, rows, .. } = listing;
-    writeln!(out, "version {version} files {} reader {reader} writer {writer} writable {}", rows.len(), yes_or_no(*writable))?;
+    writeln!(
+        out,
+        "version {version} files {} reader {reader} writer {writer} writable {}",
+        rows.len(),
+        yes_or_no(*writable)
+    )?;
     for file in listing.files() {
         out.write_all(b"\"")?;
         out.write_all(file.path)?;
@@ -64,7 +69,11 @@ fn print_json(listing: &Listing, out: &mut dyn Write) -> Ended {
         out.write_all(b"{\"path\":\"")?;
         out.write_all(file.path)?;
         let records = or_null(file.num_records);
-        writeln!(out, "\",\"size\":{},\"modificationTime\":{},\"numRecords\":{records}}}", file.size, file.modification_time)?;
+        writeln!(
+            out,
+            "\",\"size\":{},\"modificationTime\":{},\"numRecords\":{records}}}",
+            file.size, file.modification_time
+        )?;
     }
     Ok(Ending::Answered)
 }

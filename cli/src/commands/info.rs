@@ -21,9 +21,12 @@ pub fn run(words: &Words, out: &mut dyn Write) -> Ended {
         Err(refusal) => return refusals::tell(refusal, &table.bundle, json, out),
     };
     let names: Vec<Name> = bundle::files(&table.bundle).map(|file| Name::of(file.name)).collect();
-    let versions: Vec<u64> = names.iter().filter_map(|name| if let Name::Version(version) = name { Some(*version) } else { None }).collect();
-    let checkpoints: Vec<String> =
-        names.iter().filter_map(|name| if let Name::Checkpoint(version) = name { Some(version.to_string()) } else { None }).collect();
+    let versions: Vec<u64> =
+        names.iter().filter_map(|name| if let Name::Version(version) = name { Some(*version) } else { None }).collect();
+    let checkpoints: Vec<String> = names
+        .iter()
+        .filter_map(|name| if let Name::Checkpoint(version) = name { Some(version.to_string()) } else { None })
+        .collect();
     let log_bytes: usize = bundle::files(&table.bundle).map(|file| file.body.len()).sum();
     let marked = marked_in(&table.bundle);
     let (least, most) = (versions.iter().min().copied(), versions.iter().max().copied());

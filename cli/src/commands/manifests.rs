@@ -35,7 +35,11 @@ pub fn run(words: &Words, out: &mut dyn Write) -> Ended {
     };
     let paths = match json::manifest_paths(&state) {
         Some(paths) => paths,
-        None => return system(format!("{name}: its manifests' paths cannot be shown, though the library finds it well formed; please tell us")),
+        None => {
+            return system(format!(
+                "{name}: its manifests' paths cannot be shown, though the library finds it well formed; please tell us"
+            ))
+        }
     };
     let all = paths.len();
     if as_json {

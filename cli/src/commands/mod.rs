@@ -38,7 +38,11 @@ pub const ALL: [Command; 12] = [
     Command { name: "versions", options: &[TIME, JSON, PROGRESS], run: versions::run },
     Command { name: "check", options: &[Opt::Value("--jobs"), JSON, PROGRESS], run: check::run },
     Command { name: "clean", options: &[OLDER_THAN, NOW, Opt::Flag("--apply"), TIME, JSON, PROGRESS], run: clean::run },
-    Command { name: "manifests", options: &[TEXT, NUMBER, QUERY, Opt::Value("--state-dir"), JSON], run: manifests::run },
+    Command {
+        name: "manifests",
+        options: &[TEXT, NUMBER, QUERY, Opt::Value("--state-dir"), JSON],
+        run: manifests::run,
+    },
     Command { name: "report", options: &[OLDER_THAN, NOW, TIME, PROGRESS], run: report::run },
     Command { name: "pack", options: &[Opt::Flag("--all"), TIME], run: pack::pack },
     Command { name: "unpack", options: &[], run: pack::unpack },

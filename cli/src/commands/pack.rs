@@ -15,10 +15,13 @@ use crate::text::{counted, shown};
 use crate::words::Words;
 
 pub fn pack(words: &Words, out: &mut dyn Write) -> Ended {
-    if fs::read_link("/proc/self/fd/1").map_or(false, |path| path.starts_with("/dev/pts") || path.starts_with("/dev/tty")) {
+    if fs::read_link("/proc/self/fd/1")
+        .map_or(false, |path| path.starts_with("/dev/pts") || path.starts_with("/dev/tty"))
+    {
         return usage("standard output is a terminal; write the bundle to a file: kerumpase pack TABLE >BUNDLE");
     }
-    let table = Table::read(words.operand("TABLE")?, Times::from_options(&words.values("--time")?)?, words.flag("--all"))?;
+    let table =
+        Table::read(words.operand("TABLE")?, Times::from_options(&words.values("--time")?)?, words.flag("--all"))?;
     if let Err(refusal) = is_bundle(&table.bundle) {
         return refusals::tell(refusal, &table.bundle, false, &mut std::io::stderr());
     }
@@ -44,7 +47,8 @@ pub fn unpack(words: &Words, out: &mut dyn Write) -> Ended {
     if let Some(file) = bundle::files(&table.bundle).find(|file| !is_below(Path::new(&text(file.name)))) {
         return system(format!("the name {} leads out of the folder; nothing was unpacked", shown(&text(file.name))));
     }
-    let failed = |path: &Path, error: std::io::Error| Fail::System(format!("{} cannot be written: {error}", path_shown(path)));
+    let failed =
+        |path: &Path, error: std::io::Error| Fail::System(format!("{} cannot be written: {error}", path_shown(path)));
     match fs::create_dir(to) {
         Ok(()) => (),
         Err(error) if error.kind() == ErrorKind::AlreadyExists => {

@@ -61,7 +61,11 @@ fn json_of(seen: &VersionSeen, survey: &Survey, bytes: &[u8]) -> String {
     let entry = |entry: Option<usize>| {
         let file = entry.and_then(|entry| bundle::file(bytes, entry));
         or_null(file.map(|file| {
-            object(&[("name", quoted(file.name)), ("size", file.body.len().to_string()), ("modified", file.time.to_string())])
+            object(&[
+                ("name", quoted(file.name)),
+                ("size", file.body.len().to_string()),
+                ("modified", file.time.to_string()),
+            ])
         }))
     };
     let answer = seen.answer.as_ref().ok();

@@ -119,7 +119,7 @@ pub fn write(files: &[File]) -> Result<Vec<u8>, DoesNotFit> {
 }
 
 /// The file with this number, from 0, as the contents of the bytes say; nothing where they hold no such entry.
-pub fn file(bundle: &[u8], entry: usize) -> Option<File> {
+pub fn file(bundle: &[u8], entry: usize) -> Option<File<'_>> {
     let number = |at: usize| Some(u32::from_le_bytes(bundle.get(at..at.checked_add(4)?)?.try_into().ok()?) as usize);
     if entry >= number(0)? {
         return None;
@@ -133,7 +133,7 @@ pub fn file(bundle: &[u8], entry: usize) -> Option<File> {
 }
 
 /// The files of a bundle, in the order of their entries.
-pub fn files(bundle: &[u8]) -> impl Iterator<Item = File> {
+pub fn files(bundle: &[u8]) -> impl Iterator<Item = File<'_>> {
     (0..).map_while(move |entry| file(bundle, entry))
 }
 
