@@ -42,6 +42,11 @@ pub fn code(name: &str) -> String {
     format!("<code><bdi>{}</bdi></code>", text(name))
 }
 
+/// A word in a coloured frame.
+pub fn tag(class: &str, words: &str) -> String {
+    format!("<span class=\"tag {class}\">{words}</span>")
+}
+
 /// A table: its caption, its columns (a name, and whether it holds numbers), its rows of HTML. The first cell of a row heads it.
 pub fn table(caption: &str, columns: &[(&str, bool)], rows: &[Vec<String>]) -> String {
     let class = |numbers: bool| if numbers { " class=\"number\"" } else { "" };

@@ -3,6 +3,7 @@
 mod html;
 mod picture;
 mod sections;
+mod through;
 
 use std::io::Write;
 

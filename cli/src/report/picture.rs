@@ -48,7 +48,8 @@ fn words(survey: &Survey) -> String {
     let read: Vec<_> = survey.versions.iter().filter_map(|seen| seen.answer.as_ref().ok()).collect();
     match (read.first(), read.last()) {
         (Some(first), Some(last)) => format!(
-            "{} of {} versions can be read. Version {} has {} files and {} bytes, version {} has {} files and {} bytes. The table of versions below has all numbers.",
+            "{} of {} versions can be read. Version {} has {} files and {} bytes, version {} has {} files and {} bytes. \
+             The table of versions below has all numbers.",
             read.len(),
             survey.versions.len(),
             first.version,
