@@ -22,8 +22,8 @@
  * is the very same module, handed to the Arm side of the same compiler. So one also believes that
  * side of the compiler, and that nothing in the module means something else on Arm; tools/library
  * looks at every line of it and refuses what could (both machines are little-endian, with pointers
- * of 64 bits and the same alignments). On both: library/entries.c, sixty lines of C that hand over
- * the arguments and answers. What was run there is told in docs/LIBRARY.md.
+ * of 64 bits and the same alignments). On both: library/entries.c, a hundred lines of C that hand
+ * over the arguments and answers. docs/LIBRARY.md says more, and what was run on each machine.
  */
 #ifndef KERUMPASE_H
 #define KERUMPASE_H
