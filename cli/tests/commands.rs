@@ -88,7 +88,10 @@ fn what_is_too_long_is_said() {
     fails(kerumpase(&["files", &bundle]), "bundle is too long: a bundle has at most 1048576 bytes");
     fails(shell(&format!("kerumpase files - <{bundle}")), "standard input is too long");
     folder.write("big/_transaction_log/00000000000000000000.json", &vec![b' '; 1_048_577]);
-    fails(kerumpase(&["files", &folder.path("big")]), "does not fit: its files have 1048577 bytes, and a bundle has at most 1048576");
+    fails(
+        kerumpase(&["files", &folder.path("big")]),
+        "does not fit: its files have 1048577 bytes, and a bundle has at most 1048576",
+    );
     folder.write("edge/_transaction_log/00000000000000000000.json", &vec![b' '; 1_048_576 - 115]);
     fails(kerumpase(&["files", &folder.path("edge")]), "does not fit: it has 1048577 bytes");
     folder.write("edge/_transaction_log/00000000000000000000.json", &vec![b' '; 1_048_576 - 116]);
@@ -102,8 +105,15 @@ fn what_is_too_long_is_said() {
 #[test]
 fn other_names_are_ignored_and_packed_only_if_asked_for() {
     let folder = Folder::new("names");
-    for name in ["00000000000000000000.json", ".00000000000000000000.json.crc", "a name", "state-v1/_manifest.avro", "00000000000000000001.json.tmp"] {
-        folder.write(&format!("table/_transaction_log/{name}"), b"{\"metaData\":{\"id\":\"t\",\"partitionColumns\":[]}}");
+    for name in [
+        "00000000000000000000.json",
+        ".00000000000000000000.json.crc",
+        "a name",
+        "state-v1/_manifest.avro",
+        "00000000000000000001.json.tmp",
+    ] {
+        folder
+            .write(&format!("table/_transaction_log/{name}"), b"{\"metaData\":{\"id\":\"t\",\"partitionColumns\":[]}}");
     }
     let table = folder.path("table");
     assert_eq!(kerumpase(&["files", &table]).out, "version 0 files 0 reader 1 writer 1 writable yes\n");
@@ -117,16 +127,34 @@ fn other_names_are_ignored_and_packed_only_if_asked_for() {
 
 #[test]
 fn outputs_that_cannot_be_written_are_said() {
-    for command in ["files examples/school", "info examples/school", "versions examples/school", "check examples/school", "report examples/school"] {
-        for line in [format!("kerumpase {command} >/dev/full"), format!("kerumpase {command} 2>&1 >/dev/full | cat; exit 2")] {
+    for command in [
+        "files examples/school",
+        "info examples/school",
+        "versions examples/school",
+        "check examples/school",
+        "report examples/school",
+    ] {
+        for line in
+            [format!("kerumpase {command} >/dev/full"), format!("kerumpase {command} 2>&1 >/dev/full | cat; exit 2")]
+        {
             let said = shell(&line);
             assert_eq!(said.status, Some(2), "{line}: {said:?}");
-            assert!((said.err + &said.out).contains("standard output cannot be written: No space left on device"), "{line}");
+            assert!(
+                (said.err + &said.out).contains("standard output cannot be written: No space left on device"),
+                "{line}"
+            );
         }
         // Where even the complaint cannot be written, the status says it.
         assert_eq!(shell(&format!("kerumpase {command} >/dev/full 2>/dev/full")).status, Some(2));
     }
-    for words in ["pack examples/school", "--help", "--version", "explain", "contents examples/school", "manifests examples/state/state.json"] {
+    for words in [
+        "pack examples/school",
+        "--help",
+        "--version",
+        "explain",
+        "contents examples/school",
+        "manifests examples/state/state.json",
+    ] {
         let said = shell(&format!("kerumpase {words} >/dev/full"));
         assert_eq!((said.status, said.err.contains("No space left")), (Some(2), true), "{words}: {said:?}");
     }
@@ -166,13 +194,20 @@ fn a_bundle_a_folder_and_standard_input_answer_alike() {
         let of_folder = shell(&format!("kerumpase {words} examples/cleaner"));
         let named = of_folder.out.replace("examples/cleaner", &bundle);
         assert_eq!(shell(&format!("kerumpase {words} {bundle}")).out, named, "{words}");
-        assert_eq!(shell(&format!("kerumpase {words} - <{bundle}")).out, of_folder.out.replace("examples/cleaner", "-"), "{words}");
+        assert_eq!(
+            shell(&format!("kerumpase {words} - <{bundle}")).out,
+            of_folder.out.replace("examples/cleaner", "-"),
+            "{words}"
+        );
     }
     // Unpacked and packed again it is the same bundle, times and all.
     let again = folder.path("again");
     let said = kerumpase(&["unpack", &bundle, &again]);
     assert_eq!((said.status, said.out), (Some(0), format!("8 files unpacked to {again}\n")));
-    assert_eq!(shell(&format!("kerumpase pack {again} | cmp - {bundle}")), Said { status: Some(0), out: String::new(), err: String::new() });
+    assert_eq!(
+        shell(&format!("kerumpase pack {again} | cmp - {bundle}")),
+        Said { status: Some(0), out: String::new(), err: String::new() }
+    );
     fails(kerumpase(&["unpack", &bundle, &again]), "is there already");
 }
 
@@ -191,7 +226,11 @@ fn a_bundle_cannot_write_outside_its_folder() {
 fn refusals_say_what_they_mean_and_what_to_do() {
     let said = kerumpase(&["files", "examples/refused"]);
     assert_eq!((said.status, said.out.as_str()), (Some(1), "refused 6 entry 1 line 3\n"));
-    for line in ["refusal 6: a line or file read is malformed, in 00000000000000000001.json, line 3", "the line begins: {\"add\":{", "Restore that file"] {
+    for line in [
+        "refusal 6: a line or file read is malformed, in 00000000000000000001.json, line 3",
+        "the line begins: {\"add\":{",
+        "Restore that file",
+    ] {
         assert!(said.err.contains(line), "{said:?}");
     }
     let said = kerumpase(&["files", "examples/refused", "--json"]);
@@ -258,8 +297,13 @@ fn names_that_are_not_utf_8_or_odd_do_no_harm() {
 
 #[test]
 fn standard_input_may_be_anything() {
-    let mut running =
-        Command::new(KERUMPASE).args(["files", "-"]).stdin(Stdio::piped()).stdout(Stdio::piped()).stderr(Stdio::piped()).spawn().unwrap();
+    let mut running = Command::new(KERUMPASE)
+        .args(["files", "-"])
+        .stdin(Stdio::piped())
+        .stdout(Stdio::piped())
+        .stderr(Stdio::piped())
+        .spawn()
+        .unwrap();
     running.stdin.take().unwrap().write_all(b"\xff\xff\xff\xff no bundle").unwrap();
     let said = Said::of(running.wait_with_output().unwrap());
     assert_eq!((said.status, said.out.as_str()), (Some(1), "refused 2 entry 0 line 0\n"));
