@@ -115,18 +115,14 @@ pub fn faults_of(survey: &Survey, bytes: &[u8]) -> Vec<Fault> {
         );
         faults.push(Fault::beside_reading(what, None, 0, explained(5).todo));
     }
-    let name_of = |entry| bundle::file(bytes, entry).map(|file| String::from_utf8_lossy(file.name).to_string());
     for checkpoint in &survey.checkpoints {
         if let Some(line) = checkpoint.fault {
-            let place = if line == 0 { "it holds no action".to_string() } else { format!("line {line}") };
-            let what = format!("checkpoint {} is malformed and not used: {place}", checkpoint.version);
-            let mut fault = Fault::beside_reading(what, name_of(checkpoint.entry), line, explained(6).todo);
-            let body = bundle::file(bytes, checkpoint.entry).map_or(&b""[..], |file| file.body);
-            fault.excerpt = bundle::line(body, line).map(|line| format!("the line begins: {}", excerpt(line, 60)));
-            faults.push(fault);
+            let what = format!("checkpoint {} is malformed and not used", checkpoint.version);
+            faults.push(malformed(what, bytes, checkpoint.entry, line));
         }
     }
     if let (Some(entry), None) = (survey.marker, survey.marked()) {
+        let name_of = |entry| bundle::file(bytes, entry).map(|file| String::from_utf8_lossy(file.name).to_string());
         let body = bundle::file(bytes, entry).map_or(&b""[..], |file| file.body);
         let what = format!(
             "the marker names no checkpoint that can be used, so reading starts at version 0; it says: {}",
@@ -141,5 +137,106 @@ pub fn faults_of(survey: &Survey, bytes: &[u8]) -> Vec<Fault> {
             push(refusal, "the cleaner".to_string(), &mut faults);
         }
     }
+    for seen in &survey.versions {
+        if let (Some(entry), Some(line)) = (seen.file, seen.malformed) {
+            let met = known
+                .iter()
+                .any(|refusal| refusal.reason == Reason::Malformed && (refusal.entry, refusal.line) == (entry, line));
+            if !met {
+                let what =
+                    format!("version file {} is malformed, which no version that can be read needs", seen.version);
+                faults.push(malformed(what, bytes, entry, line));
+            }
+        }
+    }
     faults
+}
+
+/// A malformed file that reading goes past.
+fn malformed(what: String, bytes: &[u8], entry: usize, line: usize) -> Fault {
+    let file = bundle::file(bytes, entry);
+    let place = if line == 0 { "it holds no action".to_string() } else { format!("line {line}") };
+    let name = file.map(|file| String::from_utf8_lossy(file.name).to_string());
+    let mut fault = Fault::beside_reading(format!("{what}: {place}"), name, line, explained(6).todo);
+    fault.excerpt = file
+        .and_then(|file| bundle::line(file.body, line))
+        .map(|line| format!("the line begins: {}", excerpt(line, 60)));
+    fault
+}
+
+#[cfg(test)]
+mod tests {
+    use super::*;
+    use kerumpase::bundle::File;
+
+    const META: &str = r#"{"metaData":{"id":"t","partitionColumns":[]}}"#;
+    const ADD: &str = r#"{"add":{"path":"a","size":3,"modificationTime":7,"dataChange":true,"partitionValues":{}}}"#;
+    const OTHER: &str = r#"{"add":{"path":"a","size":4,"modificationTime":7,"dataChange":true,"partitionValues":{}}}"#;
+
+    /// The faults of a log of version files 0 to 3, with a checkpoint at 2 that the marker names, after these files were put in or taken out.
+    fn faults(changes: &[(&str, Option<&str>)]) -> Vec<String> {
+        let name = |version: u64, ending: &str| format!("{version:020}{ending}");
+        let mut files = vec![
+            (name(0, ".json"), META),
+            (name(1, ".json"), ADD),
+            (name(2, ".checkpoint.json"), ADD),
+            (name(2, ".json"), "{\"x\":1}"),
+            (name(3, ".json"), "{\"x\":1}"),
+            ("_last_checkpoint".to_string(), r#"{"version":2}"#),
+        ];
+        for (changed, body) in changes {
+            files.retain(|(name, _)| name != changed);
+            files.extend(body.map(|body| (changed.to_string(), body)));
+        }
+        let files: Vec<File> =
+            files.iter().map(|(name, body)| File { name: name.as_bytes(), time: 5, body: body.as_bytes() }).collect();
+        let bytes = bundle::write(&files).unwrap();
+        faults_of(&Survey::of(&bytes, |_, _| ()), &bytes).iter().map(Fault::text).collect()
+    }
+
+    const ZERO: &str = "00000000000000000000.json";
+    const ONE: &str = "00000000000000000001.json";
+    const TWO: &str = "00000000000000000002.json";
+    const THREE: &str = "00000000000000000003.json";
+    const CHECKPOINT: &str = "00000000000000000002.checkpoint.json";
+    const MARKER: &str = "_last_checkpoint";
+
+    #[test]
+    fn good_logs_have_none() {
+        assert_eq!(faults(&[]), [""; 0]);
+        // Cleaned, wholly or in part.
+        assert_eq!(faults(&[(ONE, None)]), [""; 0]);
+        assert_eq!(faults(&[(ONE, None), (TWO, None)]), [""; 0]);
+        // No checkpoint and no marker; a table that may not be written.
+        assert_eq!(faults(&[(CHECKPOINT, None), (MARKER, None)]), [""; 0]);
+        let newer = "{\"protocol\":{\"minReaderVersion\":1,\"minWriterVersion\":7}}\n";
+        let (zero, checkpoint) = (format!("{META}\n{newer}"), format!("{newer}{ADD}"));
+        assert_eq!(faults(&[(ZERO, Some(&zero)), (CHECKPOINT, Some(&checkpoint))]), [""; 0]);
+    }
+
+    #[test]
+    fn each_fault_is_told_once() {
+        for (changes, expected) in [
+            (&[(ZERO, None)][..], &["the latest version: refusal 4: no version file 0"][..]),
+            (&[(THREE, Some("x"))], &["the latest version: refusal 6: a line or file read is malformed, in 00000000000000000003.json, line 1; the line begins: x"]),
+            (&[(THREE, Some(""))], &["the latest version: refusal 6: a line or file read is malformed, in 00000000000000000003.json, at its end"]),
+            (&[(ONE, Some("x"))], &["version 1: refusal 6: a line or file read is malformed, in 00000000000000000001.json, line 1; the line begins: x"]),
+            (&[(CHECKPOINT, Some(OTHER))], &["the cleaner: refusal 13: checkpoint disagrees (cleaner)"]),
+            (&[(ONE, None), (TWO, Some("x"))], &["version file 2 is malformed, which no version that can be read needs: line 1; the line begins: x"]),
+            (
+                &[(CHECKPOINT, Some("{}")), (MARKER, None)],
+                &["checkpoint 2 is malformed and not used: line 1; the line begins: {}"],
+            ),
+            (
+                &[(MARKER, Some("{}")), (TWO, None), (CHECKPOINT, None)],
+                &[
+                    "version 3 beyond the latest version 1: a file on the way is missing",
+                    "the marker names no checkpoint that can be used, so reading starts at version 0; it says: {}",
+                ],
+            ),
+            (&[("99999999999999999999.json", Some(""))], &["the latest version: refusal 3: version in a name too large"]),
+        ] {
+            assert_eq!(faults(changes), expected, "{changes:?}");
+        }
+    }
 }

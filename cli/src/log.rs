@@ -46,6 +46,8 @@ pub struct VersionSeen {
     /// The entries of its version file and its checkpoint.
     pub file: Option<usize>,
     pub checkpoint: Option<usize>,
+    /// The first malformed line of its version file, whether reading needs that file or not (0: it has no object).
+    pub malformed: Option<usize>,
     pub answer: Result<Summary, Refusal>,
 }
 
@@ -86,7 +88,12 @@ impl Survey {
         survey.checkpoints = checkpoints_of(bytes);
         for (entry, file) in bundle::files(bytes).enumerate() {
             match Name::of(file.name) {
-                Name::Version(version) => survey.seen(version).file = Some(entry),
+                Name::Version(version) => {
+                    let seen = survey.seen(version);
+                    seen.file = Some(entry);
+                    // Version 0 has rules of its own, and is always read.
+                    seen.malformed = if version == 0 { None } else { malformed_line(file.body) };
+                }
                 Name::Checkpoint(version) => survey.seen(version).checkpoint = Some(entry),
                 Name::Marker => survey.marker = Some(entry),
                 Name::TooLarge | Name::Other => (),
@@ -104,7 +111,7 @@ impl Survey {
     fn seen(&mut self, version: u64) -> &mut VersionSeen {
         if self.versions.last().map_or(true, |last| last.version != version) {
             let answer = self.latest;
-            self.versions.push(VersionSeen { version, file: None, checkpoint: None, answer });
+            self.versions.push(VersionSeen { version, file: None, checkpoint: None, malformed: None, answer });
         }
         self.versions.last_mut().expect("one is there")
     }
@@ -156,19 +163,25 @@ pub fn marked_in(bytes: &[u8]) -> Option<u64> {
 const ZERO: File =
     File { name: b"00000000000000000000.json", time: 0, body: br#"{"metaData":{"id":"t","partitionColumns":[]}}"# };
 
-/// Whether a checkpoint is a start, asked of the library: it is put behind a version 0 of its own. If it is not, its first malformed line, asked by
-/// putting its lines into a version file. Nothing where it is a start, or too long to ask.
+/// A version 0 of its own with these lines behind it, under a name of version 1.
+fn behind_zero(name: &[u8], body: &[u8]) -> Option<Vec<u8>> {
+    bundle::write(&[ZERO, File { name, time: 0, body }]).ok()
+}
+
+/// Whether a checkpoint is a start, asked of the library. If it is not, its first malformed line; nothing where it is one, or too long to ask.
 fn fault_of(body: &[u8]) -> Option<usize> {
-    let behind_zero = |name| bundle::write(&[ZERO, File { name, time: 0, body }]).ok();
-    let alone = behind_zero(&b"00000000000000000001.checkpoint.json"[..])?;
+    let alone = behind_zero(b"00000000000000000001.checkpoint.json", body)?;
     match kerumpase::read_at(&alone, ALL, 1) {
-        Err(Refusal { reason: Reason::NotKept, .. }) => (),
-        _ => return None,
+        Err(Refusal { reason: Reason::NotKept, .. }) => malformed_line(body),
+        _ => None,
     }
-    let replayed = behind_zero(&b"00000000000000000001.json"[..])?;
-    match kerumpase::read_at(&replayed, ALL, 1) {
-        Err(refusal) => Some(refusal.line),
-        Ok(_) => None,
+}
+
+/// The first malformed line, asked of the library by putting the lines into a version file.
+fn malformed_line(body: &[u8]) -> Option<usize> {
+    match kerumpase::read_at(&behind_zero(b"00000000000000000001.json", body)?, ALL, 1) {
+        Err(Refusal { reason: Reason::Malformed, line, .. }) => Some(line),
+        _ => None,
     }
 }
 
