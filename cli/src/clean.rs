@@ -12,7 +12,7 @@ use kerumpase::Refusal;
 
 use crate::clock::{now, time, time_shown};
 use crate::ending::{system, usage, Ended, Ending, Fail};
-use crate::folder::{path_shown, Stamp, Times, LOG};
+use crate::folder::{path_shown, Stamp, Times};
 use crate::json::{object, quoted};
 use crate::log::{marked_in, ALL};
 use crate::numbers::{span, span_shown};
@@ -54,6 +54,13 @@ struct Named {
     modified: u64,
 }
 
+impl Named {
+    /// All but its number, which moves as others come and go.
+    fn facts(&self) -> (&str, usize, u64) {
+        (&self.name, self.size, self.modified)
+    }
+}
+
 fn named(bundle: &[u8], ask: Ask) -> Result<Vec<Named>, Refusal> {
     let entries = kerumpase::clean(bundle, ask.now, ask.retention)?;
     let named = entries.into_iter().filter_map(|entry| {
@@ -72,11 +79,9 @@ fn named(bundle: &[u8], ask: Ask) -> Result<Vec<Named>, Refusal> {
 
 pub fn run(words: &Words, out: &mut dyn Write) -> Ended {
     let (ask, json, apply) = (Ask::of(words, None)?, words.flag("--json"), words.flag("--apply"));
-    let mut table = Table::of(words)?;
+    let table = Table::of(words)?;
     if apply {
         may_apply(&table)?;
-        // Packed and asked anew, so that as little time as can be passes between the answer and the removal.
-        table = Table::of(words)?;
     }
     let named = match named(&table.bundle, ask) {
         Ok(named) => named,
@@ -88,11 +93,9 @@ pub fn run(words: &Words, out: &mut dyn Write) -> Ended {
     // Before anything is removed it is written down what will be.
     out.flush()?;
     let bytes: usize = named.iter().map(|file| file.size).sum();
-    let outcome = if apply && !named.is_empty() {
-        Some(remove(&table, &named, &mut Progress::new(words.flag("--progress")))?)
-    } else {
-        None
-    };
+    let progress = &mut Progress::new(words.flag("--progress"));
+    let outcome =
+        if apply && !named.is_empty() { Some(remove(Table::of(words)?, &named, ask, progress)?) } else { None };
     if json {
         let removed = if outcome.is_some() { named.len() } else { 0 };
         let numbers = [("mayGo", named.len()), ("bytes", bytes), ("removed", removed)]
@@ -192,9 +195,15 @@ impl Answer {
     }
 }
 
-/// Removes the named files, the oldest version first, and gives the version whose answer was compared before and after.
-fn remove(table: &Table, named: &[Named], progress: &mut Progress) -> Result<u64, Fail> {
-    let folder = table.folder.as_ref().expect("asked before");
+/// Removes what was written down, the oldest version first, and gives the version whose answer was compared before and after. The table was packed
+/// anew for this; the proved cleaner is asked anew with the same time, and has to name the same files.
+fn remove(table: Table, written: &[Named], ask: Ask, progress: &mut Progress) -> Result<u64, Fail> {
+    may_apply(&table)?;
+    let folder = table.folder.as_ref().expect("it may be applied");
+    let named = match named(&table.bundle, ask) {
+        Ok(named) if named.iter().map(Named::facts).eq(written.iter().map(Named::facts)) => named,
+        _ => return system(format!("{} changed meanwhile, and other files may go; nothing was removed", table.name)),
+    };
     let before = match kerumpase::read_latest(&table.bundle, ALL) {
         Ok(listing) => Answer::of(&listing),
         Err(refusal) => return system(format!("the latest version cannot be read ({refusal}); nothing was removed")),
@@ -244,8 +253,13 @@ fn remove_one(path: &Path, stamp: &Stamp) -> Result<(), String> {
 }
 
 fn sync(log: &Path) -> Result<(), Fail> {
-    let synced = File::open(log).and_then(|folder| folder.sync_all());
-    synced.or_else(|error| system(format!("{LOG} of the table cannot be synced: {error}")))
+    match File::open(log).and_then(|folder| folder.sync_all()) {
+        // Some file systems cannot sync a folder, and say so by this.
+        Err(error) if error.kind() != io::ErrorKind::InvalidInput => {
+            system(format!("{} cannot be synced: {error}", path_shown(log)))
+        }
+        _ => Ok(()),
+    }
 }
 
 /// Builds for tests can be stopped dead after so many removals.

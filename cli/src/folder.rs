@@ -66,9 +66,12 @@ impl Times {
     /// From a file of lines `NAME TIME`; empty lines and lines that begin with # say nothing.
     fn from_file(path: &Path) -> Result<Times, Fail> {
         let mut times = Times::default();
+        // A folder of that name belongs to the table's data.
+        if !path.exists() || path.is_dir() {
+            return Ok(times);
+        }
         let text = match fs::read_to_string(path) {
             Ok(text) => text,
-            Err(error) if error.kind() == io::ErrorKind::NotFound => return Ok(times),
             Err(error) => return system(format!("{} cannot be read: {error}", path_shown(path))),
         };
         for (number, line) in text.lines().enumerate() {

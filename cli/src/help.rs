@@ -4,6 +4,7 @@ use std::io::Write;
 
 use crate::ending::{Ended, Ending, Fail};
 use crate::text::shown;
+use crate::words::Words;
 
 const OVERVIEW: &str = "\
 kerumpase: reads the transaction log of an IndexTables table, by a proved library
@@ -238,6 +239,14 @@ Examples:
 ",
     ),
 ];
+
+/// help COMMAND, as --help behind the command.
+pub fn run(words: &Words, out: &mut dyn Write) -> Ended {
+    match &words.operands[..] {
+        [] => print(None, out),
+        _ => print(Some(&words.operand("COMMAND")?.to_string_lossy()), out),
+    }
+}
 
 pub fn print(about: Option<&str>, out: &mut dyn Write) -> Ended {
     let text = match about {

@@ -50,10 +50,7 @@ fn run(words: &[OsString], out: &mut dyn Write) -> Ended {
         None => return Err(Fail::Usage(None, "a command is missing".to_string())),
     };
     match &*first {
-        "--help" | "-h" | "help" => {
-            let about = rest.first().map(|word| word.to_string_lossy());
-            return help::print(about.as_deref(), out);
-        }
+        "--help" | "-h" => return help::print(None, out),
         "--version" | "-V" => {
             write!(
                 out,

@@ -13,15 +13,18 @@ pub struct Progress {
     shown: bool,
 }
 
-/// Whether standard error is a terminal.
-fn is_terminal() -> bool {
-    std::fs::read_link("/proc/self/fd/2")
-        .map_or(false, |path| path.starts_with("/dev/pts") || path.starts_with("/dev/tty") || path.ends_with("console"))
+/// Whether a descriptor of this process, 1 for standard output or 2 for standard error, is a terminal.
+pub fn is_terminal(descriptor: u8) -> bool {
+    let path = std::fs::read_link(format!("/proc/self/fd/{descriptor}"));
+    path.map_or(false, |path| {
+        ["/dev/pts", "/dev/console"].iter().any(|folder| path.starts_with(folder))
+            || path.to_string_lossy().starts_with("/dev/tty")
+    })
 }
 
 impl Progress {
     pub fn new(asked: bool) -> Progress {
-        let terminal = is_terminal();
+        let terminal = is_terminal(2);
         Progress { lines: !terminal, active: asked || terminal, last: Instant::now(), shown: false }
     }
 

@@ -16,6 +16,9 @@ use crate::table::Table;
 use crate::text::{counted, shown};
 use crate::words::Words;
 
+/// So many threads every machine has.
+const MOST_JOBS: u64 = 256;
+
 /// What is told of a table that could be looked at.
 struct Checked {
     latest: Option<(u64, usize)>,
@@ -37,8 +40,8 @@ fn check(operand: &OsString) -> Result<Checked, Fail> {
 pub fn run(words: &Words, out: &mut dyn Write) -> Ended {
     let json = words.flag("--json");
     let jobs = words.value("--jobs")?.map_or(Ok(1), |jobs| decimal(jobs, "the number of --jobs"))?;
-    if jobs == 0 {
-        return usage("--jobs is at least 1");
+    if !(1..=MOST_JOBS).contains(&jobs) {
+        return usage(format!("--jobs is 1 to {MOST_JOBS}"));
     }
     let tables = &words.operands;
     if tables.is_empty() {

@@ -3,7 +3,6 @@
 use std::io::Write;
 
 use crate::ending::{usage, Ended, Ending};
-use crate::help as texts;
 use crate::json::{object, quoted};
 use crate::numbers::decimal;
 use crate::refusals::{self, Explained};
@@ -45,10 +44,4 @@ pub fn run(words: &Words, out: &mut dyn Write) -> Ended {
         }
     }
     Ok(Ending::Answered)
-}
-
-/// help COMMAND, as --help.
-pub fn help(words: &Words, out: &mut dyn Write) -> Ended {
-    let about = words.operands.first().map(|word| word.to_string_lossy().to_string());
-    texts::print(about.as_deref(), out)
 }

@@ -13,7 +13,7 @@ use std::io::Write;
 
 use crate::ending::Ended;
 use crate::words::{Opt, Words};
-use crate::{clean, report};
+use crate::{clean, help, report};
 
 pub struct Command {
     pub name: &'static str,
@@ -48,5 +48,5 @@ pub const ALL: [Command; 12] = [
     Command { name: "unpack", options: &[], run: pack::unpack },
     Command { name: "contents", options: &[TIME, JSON], run: contents::run },
     Command { name: "explain", options: &[JSON], run: explain::run },
-    Command { name: "help", options: &[], run: explain::help },
+    Command { name: "help", options: &[], run: help::run },
 ];

@@ -9,15 +9,14 @@ use kerumpase::bundle;
 use super::contents::is_bundle;
 use crate::ending::{system, usage, Ended, Ending, Fail};
 use crate::folder::{path_shown, Times, LOG};
+use crate::progress::is_terminal;
 use crate::refusals;
 use crate::table::Table;
 use crate::text::{counted, shown};
 use crate::words::Words;
 
 pub fn pack(words: &Words, out: &mut dyn Write) -> Ended {
-    if fs::read_link("/proc/self/fd/1")
-        .map_or(false, |path| path.starts_with("/dev/pts") || path.starts_with("/dev/tty"))
-    {
+    if is_terminal(1) {
         return usage("standard output is a terminal; write the bundle to a file: kerumpase pack TABLE >BUNDLE");
     }
     let table =
