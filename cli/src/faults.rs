@@ -214,15 +214,25 @@ mod tests {
         assert_eq!(faults(&[(ZERO, Some(&zero)), (CHECKPOINT, Some(&checkpoint))]), [""; 0]);
     }
 
+    fn of_line(met: &str, place: &str) -> String {
+        format!("{met}: refusal 6: a line or file read is malformed, in {place}")
+    }
+
     #[test]
     fn each_fault_is_told_once() {
         for (changes, expected) in [
             (&[(ZERO, None)][..], &["the latest version: refusal 4: no version file 0"][..]),
-            (&[(THREE, Some("x"))], &["the latest version: refusal 6: a line or file read is malformed, in 00000000000000000003.json, line 1; the line begins: x"]),
-            (&[(THREE, Some(""))], &["the latest version: refusal 6: a line or file read is malformed, in 00000000000000000003.json, at its end"]),
-            (&[(ONE, Some("x"))], &["version 1: refusal 6: a line or file read is malformed, in 00000000000000000001.json, line 1; the line begins: x"]),
+            (
+                &[(THREE, Some("{}"))],
+                &[&of_line("the latest version", "00000000000000000003.json, line 1; the line begins: {}")],
+            ),
+            (&[(THREE, Some(""))], &[&of_line("the latest version", "00000000000000000003.json, at its end")]),
+            (&[(ONE, Some("x"))], &[&of_line("version 1", "00000000000000000001.json, line 1; the line begins: x")]),
             (&[(CHECKPOINT, Some(OTHER))], &["the cleaner: refusal 13: checkpoint disagrees (cleaner)"]),
-            (&[(ONE, None), (TWO, Some("x"))], &["version file 2 is malformed, which no version that can be read needs: line 1; the line begins: x"]),
+            (
+                &[(ONE, None), (TWO, Some("x"))],
+                &["version file 2 is malformed, which no version that can be read needs: line 1; the line begins: x"],
+            ),
             (
                 &[(CHECKPOINT, Some("{}")), (MARKER, None)],
                 &["checkpoint 2 is malformed and not used: line 1; the line begins: {}"],
@@ -234,7 +244,10 @@ mod tests {
                     "the marker names no checkpoint that can be used, so reading starts at version 0; it says: {}",
                 ],
             ),
-            (&[("99999999999999999999.json", Some(""))], &["the latest version: refusal 3: version in a name too large"]),
+            (
+                &[("99999999999999999999.json", Some(""))],
+                &["the latest version: refusal 3: version in a name too large"],
+            ),
         ] {
             assert_eq!(faults(changes), expected, "{changes:?}");
         }
