@@ -16,6 +16,7 @@ mod numbers;
 mod progress;
 mod query;
 mod refusals;
+mod removal;
 mod report;
 mod table;
 mod text;
