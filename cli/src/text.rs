@@ -31,6 +31,24 @@ pub fn grouped(number: impl ToString) -> String {
     grouped
 }
 
+/// A number of bytes, short: three digits and a unit of a thousand times the one before.
+pub fn short(bytes: u128) -> String {
+    const UNITS: [&str; 8] = ["bytes", "kB", "MB", "GB", "TB", "PB", "EB", "ZB"];
+    let (mut value, mut unit) = (bytes as f64, 0);
+    while value >= 999.5 && unit + 1 < UNITS.len() {
+        value /= 1_000.0;
+        unit += 1;
+    }
+    let decimals = if unit == 0 || value >= 99.95 {
+        0
+    } else if value >= 9.995 {
+        1
+    } else {
+        2
+    };
+    format!("{value:.decimals$} {}", UNITS[unit])
+}
+
 pub fn yes_or_no(yes: bool) -> &'static str {
     if yes {
         "yes"
@@ -52,6 +70,16 @@ mod tests {
 
     #[test]
     fn numbers_are_grouped() {
+        let shortened = [
+            short(0),
+            short(999),
+            short(1_000),
+            short(14_000),
+            short(999_500),
+            short(1_261_105_567),
+            short(u128::from(u64::MAX)),
+        ];
+        assert_eq!(shortened, ["0 bytes", "999 bytes", "1.00 kB", "14.0 kB", "1.00 MB", "1.26 GB", "18.4 EB"]);
         assert_eq!([grouped(0), grouped(999), grouped(1_000), grouped(1_048_576)], ["0", "999", "1,000", "1,048,576"]);
     }
 }

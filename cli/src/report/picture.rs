@@ -4,11 +4,11 @@
 use std::fmt::Write;
 
 use crate::log::{Survey, VersionSeen};
-use crate::text::grouped;
+use crate::text::{grouped, short};
 
 const WIDTH: f64 = 760.0;
 const LEFT: f64 = 92.0;
-const RIGHT: f64 = 8.0;
+const RIGHT: f64 = 22.0;
 const HEIGHT: f64 = 130.0;
 const TOP: f64 = 26.0;
 const BETWEEN: f64 = 34.0;
@@ -30,8 +30,8 @@ pub fn picture(survey: &Survey) -> String {
     );
     let files = |seen: &VersionSeen| seen.answer.as_ref().ok().map(|summary| summary.files as f64);
     let bytes = |seen: &VersionSeen| seen.answer.as_ref().ok().map(|summary| summary.bytes as f64);
-    chart(&mut svg, survey, step, TOP, ("files", "live files"), files);
-    chart(&mut svg, survey, step, TOP + HEIGHT + BETWEEN, ("bytes", "bytes"), bytes);
+    chart(&mut svg, survey, step, TOP, ("files", "live files", grouped), files);
+    chart(&mut svg, survey, step, TOP + HEIGHT + BETWEEN, ("bytes", "bytes", short), bytes);
     below(&mut svg, survey, step, TOP + 2.0 * HEIGHT + BETWEEN);
     svg + "</svg>\n"
 }
@@ -69,10 +69,10 @@ fn chart(
     survey: &Survey,
     step: f64,
     top: f64,
-    named: (&str, &str),
+    named: (&str, &str, fn(u128) -> String),
     value: impl Fn(&VersionSeen) -> Option<f64>,
 ) {
-    let (class, name) = named;
+    let (class, name, scale) = named;
     let versions = &survey.versions;
     let floor = top + HEIGHT;
     let most = versions.iter().filter_map(&value).fold(0.0, f64::max);
@@ -93,7 +93,7 @@ fn chart(
                 format_args!(
                     "<text class=\"scale\" x=\"{:.1}\" y=\"{y:.1}\">{}</text>",
                     LEFT - 8.0,
-                    grouped(shown as u128)
+                    scale(shown as u128)
                 ),
             );
         }

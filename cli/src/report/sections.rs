@@ -66,8 +66,12 @@ fn summary(facts: &Facts) -> String {
         said += &fact("Latest version", latest.version.to_string());
         said += &fact("Live files", grouped(latest.files));
         said += &fact("Bytes", grouped(latest.bytes));
-        let some = if latest.without_records == 0 { "" } else { " or more" };
-        said += &fact("Records", grouped(latest.records) + some);
+        let records = match latest.without_records {
+            0 => grouped(latest.records),
+            all if all == latest.files => "not stated".to_string(),
+            _ => format!("{} or more", grouped(latest.records)),
+        };
+        said += &fact("Records", records);
         said += &fact("Protocol", format!("reader {}, writer {}", latest.reader, latest.writer));
         said += &fact("May be written", yes_or_no(latest.writable).to_string());
     }
