@@ -310,3 +310,52 @@ fn standard_input_may_be_anything() {
     let said = Said::of(running.wait_with_output().unwrap());
     assert_eq!((said.status, said.out.as_str()), (Some(1), "refused 2 entry 0 line 0\n"));
 }
+
+/// Runs the command as a user who may not do everything; nothing where that cannot be had here.
+fn as_nobody(words: &[&str]) -> Option<Said> {
+    let user = Command::new("id").arg("-u").output().ok()?.stdout;
+    let mut command = if user == b"0\n" {
+        let mut command = Command::new("setpriv");
+        command.args(["--reuid=65534", "--regid=65534", "--clear-groups", KERUMPASE]);
+        command
+    } else {
+        Command::new(KERUMPASE)
+    };
+    command.args(words).current_dir("/").output().ok().map(Said::of)
+}
+
+#[test]
+fn what_may_not_be_read_or_removed_is_said() {
+    use std::os::unix::fs::PermissionsExt;
+    match as_nobody(&["--version"]) {
+        Some(Said { status: Some(0), .. }) => (),
+        other => {
+            eprintln!("not tried: the command cannot be run as another user here ({other:?})");
+            return;
+        }
+    }
+    let (generated, tables) = tables(3, 31, false);
+    let mode = |path: &str, mode| std::fs::set_permissions(path, std::fs::Permissions::from_mode(mode)).unwrap();
+    mode(generated.0.to_str().unwrap(), 0o755);
+    let nobody = |words: &[&str]| as_nobody(words).unwrap();
+    let log = |table: &str| format!("{table}/_transaction_log");
+    mode(&format!("{}/00000000000000000000.json", log(&tables[0])), 0o000);
+    fails(nobody(&["files", &tables[0]]), "00000000000000000000.json cannot be read: Permission denied");
+    mode(&log(&tables[1]), 0o000);
+    fails(nobody(&["files", &tables[1]]), "_transaction_log cannot be listed: Permission denied");
+    mode(&tables[1], 0o000);
+    fails(nobody(&["files", &tables[1]]), "_transaction_log cannot be read: Permission denied");
+    mode(&tables[1], 0o755);
+    mode(&log(&tables[1]), 0o755);
+    // The log can be read and not written.
+    let clean = ["clean", &tables[2], "--older-than", "3d", "--now", "2024-05-01", "--apply"];
+    let before = kerumpase(&["contents", &tables[2]]);
+    let said = nobody(&clean);
+    assert_eq!(said.status, Some(2), "{said:?}");
+    assert!(
+        said.err.contains("00000000000000000001.json cannot be removed: Permission denied")
+            && said.err.contains("; 0 of "),
+        "{said:?}"
+    );
+    assert_eq!(kerumpase(&["contents", &tables[2]]), before);
+}
