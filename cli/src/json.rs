@@ -111,7 +111,7 @@ impl Reader<'_> {
                 while matches!(self.text.get(self.at), Some(b'0'..=b'9' | b'a'..=b'z' | b'E' | b'+' | b'-' | b'.')) {
                     self.at += 1;
                 }
-                (self.at > begun).then(|| ())
+                (self.at > begun).then_some(())
             }
         }
     }

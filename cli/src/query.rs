@@ -28,7 +28,7 @@ pub fn of(words: &Words) -> Result<Vec<u8>, Fail> {
 
 /// One condition: a column, a sign, a value, with spaces around each left out.
 fn json_of(condition: &str, option: &str, kind: &str) -> Result<String, Fail> {
-    let place = condition.find(|c| matches!(c, '<' | '>' | '='));
+    let place = condition.find(['<', '>', '=']);
     let sign = place.and_then(|place| SIGNS.iter().find(|(sign, _)| condition[place..].starts_with(sign)));
     match (place, sign) {
         (Some(place), Some((sign, op))) => {

@@ -82,5 +82,5 @@ pub fn tables(count: usize, seed: u64, faults: bool) -> (Folder, Vec<String>) {
 /// The text of a member of a line of JSON, where it stands plainly.
 pub fn member<'a>(line: &'a str, name: &str) -> &'a str {
     let from = line.find(&format!("\"{name}\":")).unwrap_or_else(|| panic!("no {name} in {line}")) + name.len() + 3;
-    line[from..].split(|c| matches!(c, ',' | '}')).next().expect("split gives one").trim_matches('"')
+    line[from..].split([',', '}']).next().expect("split gives one").trim_matches('"')
 }
