@@ -43,6 +43,13 @@ impl Progress {
         let _ = said.and_then(|()| io::stderr().flush());
     }
 
+    /// Makes way for a line of standard output, if both go to a terminal.
+    pub fn give_way(&mut self) {
+        if self.shown && is_terminal(1) {
+            self.end();
+        }
+    }
+
     /// Takes the line away.
     pub fn end(&mut self) {
         if self.shown && !self.lines {

@@ -60,7 +60,7 @@ pub fn run(words: &Words, out: &mut dyn Write) -> Ended {
             Err(_) => 2,
         };
         tally[place] += 1;
-        progress.end();
+        progress.give_way();
         let line = if json { json_of(&name, &checked) } else { text_of(&name, &checked) };
         writeln!(out, "{line}")?;
         progress.step(done, tables.len(), "tables checked");
