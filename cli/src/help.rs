@@ -105,7 +105,7 @@ Reads every version of each table and makes the cleaner's comparison. One line a
 faults with a line for each: what, in which file, which line, and how that line begins. Versions
 that were cleaned away are no fault. Tables are told in the order in which they are named.
 
-  --jobs N     so many tables at a time
+  --jobs N     checks N tables at a time, 1 to 256; 1 if it is not given
   --json       one JSON object a table
   --progress   say on standard error how far it is, also where that is no terminal
 

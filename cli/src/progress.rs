@@ -28,7 +28,7 @@ impl Progress {
         Progress { lines: !terminal, active: asked || terminal, last: Instant::now(), shown: false }
     }
 
-    /// Says that so many of all are done, if the last such line is a while ago.
+    /// Says that `done` of `all` are done, at most five times a second.
     pub fn step(&mut self, done: usize, all: usize, what: &str) {
         if !self.active || (self.last.elapsed() < EVERY && !(self.lines && done == all)) {
             return;

@@ -124,6 +124,18 @@ mod tests {
     }
 
     #[test]
+    fn the_header_has_the_same_words() {
+        let header = include_str!("../../include/kerumpase_words.h");
+        for row in all() {
+            assert!(
+                header.contains(&format!("return \"{}\";", row.words)),
+                "kerumpase_words.h, refusal {}",
+                row.number
+            );
+        }
+    }
+
+    #[test]
     fn the_script_list_has_the_same_words() {
         let list = include_str!("../../list");
         let words = |number: u32| {

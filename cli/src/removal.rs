@@ -113,7 +113,7 @@ fn sync(log: &Path) -> Result<(), Fail> {
     }
 }
 
-/// Builds for tests can be stopped dead after so many removals.
+/// Aborts after the number of removals that KERUMPASE_STOP_AFTER names; in debug builds alone, for the tests.
 fn stop_for_a_test(removed: usize) {
     if cfg!(debug_assertions)
         && std::env::var("KERUMPASE_STOP_AFTER").map_or(false, |after| after == removed.to_string())

@@ -217,3 +217,33 @@ fn a_checkpoint_that_is_not_true_stops_the_cleaner() {
     assert!(said.err.contains("Do not clean."));
     assert_eq!(count(), files);
 }
+
+#[test]
+fn a_writer_may_be_at_work() {
+    let (_generated, tables) = tables(6, 17, false);
+    for table in &tables {
+        let before = answers(table);
+        let latest: u64 = member(&before[0], "version").parse().expect("a number");
+        let stop = std::sync::atomic::AtomicBool::new(false);
+        let said = std::thread::scope(|scope| {
+            scope.spawn(|| {
+                let log = Path::new(table).join("_transaction_log");
+                for version in latest + 1..latest + 200 {
+                    if stop.load(std::sync::atomic::Ordering::Relaxed) {
+                        break;
+                    }
+                    let new = log.join("new");
+                    std::fs::write(&new, "{\"mergeskip\":{}}\n").expect("it can be written");
+                    std::fs::rename(&new, log.join(format!("{version:020}.json"))).expect("it can be renamed");
+                    std::thread::sleep(Duration::from_millis(2));
+                }
+            });
+            let said = clean(table, &["--apply"]);
+            stop.store(true, std::sync::atomic::Ordering::Relaxed);
+            said
+        });
+        // It removes what it named, or says that the log changed too often to be packed; never something else.
+        assert!(said.status == Some(0) || said.err.contains("try again later"), "{said:?}");
+        assert_eq!(&answers(table)[1..before.len()], &before[1..]);
+    }
+}

@@ -16,7 +16,7 @@ use crate::table::Table;
 use crate::text::{counted, shown};
 use crate::words::Words;
 
-/// So many threads every machine has.
+/// The most threads.
 const MOST_JOBS: u64 = 256;
 
 /// What is told of a table that could be looked at.
@@ -82,7 +82,7 @@ pub fn run(words: &Words, out: &mut dyn Write) -> Ended {
     }
 }
 
-/// Checks all tables on so many threads, and tells each in the order of the tables.
+/// Checks all tables on `jobs` threads, and tells each in the order of the tables.
 fn in_order(
     tables: &[OsString],
     jobs: usize,

@@ -14,7 +14,7 @@ const TOP: f64 = 26.0;
 const BETWEEN: f64 = 34.0;
 const BELOW: f64 = 40.0;
 
-/// At most so many versions are written below the line.
+/// The most version numbers that are written below the line.
 const LABELS: usize = 10;
 
 pub fn picture(survey: &Survey) -> String {

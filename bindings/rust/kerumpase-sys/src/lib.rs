@@ -4,6 +4,11 @@
 
 #![no_std]
 
+/// Limits of the rules: bytes and files of a bundle, bytes of a file's name.
+pub const BUNDLE_MOST: usize = 1_048_576;
+pub const ENTRIES_MOST: usize = 1_024;
+pub const NAME_MOST: usize = 96;
+
 /// Minimum lengths of the rooms, in elements.
 pub const ROWS_ROOM: usize = 4_096;
 pub const NAMES_ROOM: usize = 1_024;
@@ -41,6 +46,16 @@ pub struct Listed {
     pub reader: u64,
     pub writer: u64,
     pub writable: bool,
+}
+
+/// A row of the room.
+#[repr(C)]
+#[derive(Clone, Copy, Debug, PartialEq, Eq)]
+pub struct Row {
+    pub place: u64,
+    pub length: u64,
+    pub size: u64,
+    pub time: u64,
 }
 
 #[repr(C)]

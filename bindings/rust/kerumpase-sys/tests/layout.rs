@@ -25,6 +25,7 @@ fn layouts() -> Vec<Layout> {
         layout!("kerumpase_refused", Refused, number, entry, line),
         layout!("kerumpase_counted", Counted, refused, count),
         layout!("kerumpase_listed", Listed, refused, version, rows, reader, writer, writable),
+        layout!("kerumpase_row", Row, place, length, size, time),
         layout!("kerumpase_directory_shown", DirectoryShown, of_path, length),
         layout!("kerumpase_place", Place, start, length),
         layout!("kerumpase_records", Records, stated, number),
@@ -37,6 +38,7 @@ fn structs_lie_as_64_bit_machines_have_them() {
         (24, vec![0, 8, 16]),
         (32, vec![0, 24]),
         (64, vec![0, 24, 32, 40, 48, 56]),
+        (32, vec![0, 8, 16, 24]),
         (16, vec![0, 8]),
         (16, vec![0, 8]),
         (16, vec![0, 8]),
@@ -61,6 +63,8 @@ fn structs_lie_as_the_header_says() {
         "static_assert(KERUMPASE_NAMES_ROOM == {NAMES_ROOM} && KERUMPASE_KEPT_ROOM == {KEPT_ROOM}, \"rooms\");\n"
     );
     source += &format!("static_assert(KERUMPASE_NO_ADD == {NO_ADD} && KERUMPASE_MISSING == {MISSING} && KERUMPASE_STATED == {STATED}, \"records\");\n");
+    source += &format!("static_assert(KERUMPASE_BUNDLE_MOST == {BUNDLE_MOST} && KERUMPASE_ENTRIES_MOST == {ENTRIES_MOST}, \"bundle\");\n");
+    source += &format!("static_assert(KERUMPASE_NAME_MOST == {NAME_MOST} && KERUMPASE_ROW * 8 == sizeof(kerumpase_row), \"names, rows\");\n");
     let include = concat!("-I", env!("CARGO_MANIFEST_DIR"), "/../../../include");
     let compiler = std::env::var("CC").unwrap_or_else(|_| "cc".to_string());
     let begun = Command::new(&compiler)

@@ -3,10 +3,8 @@
 
 use std::fmt;
 
-/// A bundle has at most so many bytes and files, a file's name at most so many bytes.
-pub const MOST_BYTES: usize = 1_048_576;
-pub const MOST_FILES: usize = 1_024;
-pub const MOST_NAME: usize = 96;
+/// The most bytes and files of a bundle, and the most bytes of a file's name.
+pub use kerumpase_sys::{BUNDLE_MOST as MOST_BYTES, ENTRIES_MOST as MOST_FILES, NAME_MOST as MOST_NAME};
 
 const COUNT: usize = 4;
 const ENTRY: usize = 112;
