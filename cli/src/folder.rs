@@ -10,7 +10,7 @@ use std::path::{Path, PathBuf};
 use kerumpase::bundle::{self, File, Name, MOST_BYTES};
 
 use crate::clock::time;
-use crate::ending::{system, Fail};
+use crate::ending::{system, usage, Fail};
 use crate::text::shown;
 
 pub const LOG: &str = "_transaction_log";
@@ -137,6 +137,11 @@ pub fn pack(table: &Path, given: &Times, all: bool) -> Result<Packed, Fail> {
             Some(bodies) => bodies,
             None => continue,
         };
+        if let Some(name) =
+            given.0.iter().map(|(name, _)| name).find(|name| !before.iter().any(|found| found.name == **name))
+        {
+            return usage(format!("--time names {}, which is not in the log", shown(&String::from_utf8_lossy(name))));
+        }
         if found(&log, all)? == before {
             let bundle = written(&log, &before, &bodies, |name| given.of(name).or_else(|| times.of(name)))?;
             let places = before.into_iter().map(|found| (found.path, found.stamp)).collect();
@@ -153,7 +158,8 @@ fn found(log: &Path, all: bool) -> Result<Vec<Found>, Fail> {
     while let Some(folder) = folders.pop() {
         let cannot = |error: io::Error| Fail::System(format!("{} cannot be listed: {error}", path_shown(&folder)));
         for entry in fs::read_dir(&folder).map_err(cannot)? {
-            let path = entry.map_err(cannot)?.path();
+            let entry = entry.map_err(cannot)?;
+            let path = entry.path();
             let name = path.strip_prefix(log).expect("it is in the log").as_os_str().as_bytes().to_vec();
             let kind = Name::of(&name);
             if kind == Name::Other && !all {
@@ -168,7 +174,10 @@ fn found(log: &Path, all: bool) -> Result<Vec<Found>, Fail> {
                 Err(error) => return system(format!("{} cannot be read: {error}", path_shown(&path))),
             };
             if metadata.is_dir() && kind == Name::Other {
-                folders.push(path);
+                // A link to a folder may lead anywhere, also back here.
+                if entry.file_type().map_or(false, |kind| kind.is_dir()) {
+                    folders.push(path);
+                }
             } else if metadata.is_file() {
                 found.push(Found { name, stamp: Stamp::of(&metadata), path });
             } else if kind != Name::Other {

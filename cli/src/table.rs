@@ -7,7 +7,7 @@ use std::path::{Path, PathBuf};
 
 use kerumpase::bundle::MOST_BYTES;
 
-use crate::ending::{system, Fail};
+use crate::ending::{system, usage, Fail};
 use crate::folder::{self, path_shown, Packed, Times};
 use crate::words::Words;
 
@@ -36,7 +36,11 @@ impl Table {
     pub fn read(operand: &OsStr, times: Times, all: bool) -> Result<Table, Fail> {
         let path = Path::new(operand);
         let name = path_shown(path);
+        let only_of_folders = || usage("--time is for folders; a bundle brings the times of its files");
         if operand == "-" {
+            if !times.is_empty() {
+                return only_of_folders();
+            }
             return Ok(Table { name, bundle: at_most(io::stdin().lock(), "standard input")?, folder: None });
         }
         let metadata = match fs::metadata(path) {
@@ -45,6 +49,9 @@ impl Table {
             Err(error) => return system(format!("{name} cannot be read: {error}")),
         };
         if !metadata.is_dir() {
+            if !times.is_empty() {
+                return only_of_folders();
+            }
             let file = File::open(path).or_else(|error| system(format!("{name} cannot be read: {error}")))?;
             return Ok(Table { bundle: at_most(file, &name)?, name, folder: None });
         }

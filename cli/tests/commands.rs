@@ -40,6 +40,16 @@ fn wrong_words_are_said() {
         (&["clean", "examples/school", "--older-than", "30"], "a number with its unit"),
         (&["clean", "examples/school", "--older-than", "30d", "--now", "yesterday"], "\"yesterday\" is not"),
         (&["clean", "examples/school", "--older-than", "30d", "--time", "x"], "is not"),
+        (
+            &["clean", "examples/school", "--older-than", "30d", "--time", "x=1"],
+            "--time names x, which is not in the log",
+        ),
+        (&["contents", "host/example.bundle", "--time", "x=1"], "--time is for folders"),
+        (&["contents", "-", "--time", "x=1"], "--time is for folders"),
+        (
+            &["contents", "examples/school", "--time", "_last_checkpoint=1", "--time", "_last_checkpoint=2"],
+            "two times for _last_checkpoint",
+        ),
         (&["manifests"], "STATE is missing"),
         (&["unpack", "a"], "unpack takes a bundle and a folder"),
         (&["explain", "99"], "there is no refusal with this number"),
@@ -121,6 +131,7 @@ fn other_names_are_ignored_and_packed_only_if_asked_for() {
     assert_eq!(kerumpase(&["files", &table]).out, "version 0 files 0 reader 1 writer 1 writable yes\n");
     fails(kerumpase(&["pack", "--all", &table]), "the name \"a name\" does not fit");
     std::fs::remove_file(folder.path("table/_transaction_log/a name")).unwrap();
+    std::os::unix::fs::symlink("..", folder.path("table/_transaction_log/loop")).unwrap();
     let said = shell(&format!("kerumpase pack --all {table} | kerumpase contents - | cut -d' ' -f1-3"));
     let expected = "0 .00000000000000000000.json.crc ignored\n1 00000000000000000000.json version\n2 00000000000000000001.json.tmp ignored\n\
                     3 state-v1/_manifest.avro ignored\n";

@@ -180,11 +180,8 @@ fn nothing_is_removed_without_apply_nor_where_the_times_are_not_the_files_own() 
     let names = named(table);
     assert!(!names.is_empty() && names.iter().all(|name| is_there(table, name)));
     let time = format!("{}=2020-01-01", names[0]);
-    for words in [vec!["--apply", "--time", &time], vec!["--apply", "--time", "x=1"]] {
-        let said = clean(table, &words);
-        assert_eq!(said.status, Some(2));
-        assert!(said.err.contains("own times"), "{said:?}");
-    }
+    let said = clean(table, &["--apply", "--time", &time]);
+    assert_eq!((said.status, said.err.contains("own times")), (Some(2), true), "{said:?}");
     std::fs::write(Path::new(table).join("times"), format!("{} 2020-01-01\n", names[0])).expect("it can be written");
     let said = clean(table, &["--apply"]);
     assert_eq!((said.status, said.err.contains("own times")), (Some(2), true));
