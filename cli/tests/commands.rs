@@ -213,6 +213,11 @@ fn a_bundle_a_folder_and_standard_input_answer_alike() {
             "{words}"
         );
     }
+    // tools/bundle knows no file of times, so it is asked for a table that has none.
+    let packed = folder.path("packed");
+    let line = "tools/bundle examples/school >P && kerumpase pack examples/school | cmp - P && kerumpase pack --all examples/school | cmp - P";
+    let said = shell(&line.replace(" P", &format!(" {packed}")).replace(">P", &format!(">{packed}")));
+    assert_eq!((said.status, said.out.as_str()), (Some(0), ""), "{said:?}");
     // Unpacked and packed again it is the same bundle, times and all.
     let again = folder.path("again");
     let said = kerumpase(&["unpack", &bundle, &again]);
