@@ -55,7 +55,7 @@ fn page(facts: &Facts) -> String {
         "<!DOCTYPE html>\n<html lang=\"en\">\n<head>\n<meta charset=\"utf-8\">\n\
          <meta http-equiv=\"Content-Security-Policy\" content=\"default-src 'none'; style-src 'unsafe-inline'\">\n\
          <meta name=\"viewport\" content=\"width=device-width, initial-scale=1\">\n<title>Log report: {name}</title>\n<style>\n{}</style>\n</head>\n<body>\n\
-         <header>\n<h1>Log report: <bdi>{name}</bdi></h1>\n<p>Made for {} (UTC) by kerumpase {}. Every answer on this page is the proved reader's.</p>\n{}\
+         <header>\n<h1>Log report: <bdi>{name}</bdi></h1>\n<p>Made for {} (UTC) by kerumpase {}. What can be read, and what may go, the proved reader says.</p>\n{}\
          <nav aria-label=\"Sections\"><ul>{links}</ul></nav>\n</header>\n<main>\n{body}</main>\n\
          <footer><p>This page needs no network and runs no script. What the library says of its proof:</p>\n<pre>{}</pre></footer>\n</body>\n</html>\n",
         include_str!("style.css"),
