@@ -1,36 +1,43 @@
 /*
- * A host in C: answers requests from standard input through include/kerumpase.h, as the program
+ * A host in C: answers requests from standard input through the library's header, as the program
  * `probe` does, so that the same stored and generated cases are run over C's calling convention.
  * A request is a letter, then numbers of 8 bytes (little-endian), then byte strings behind their
  * 8-byte lengths. A request that is cut short, unknown or over a limit is answered by `end`.
+ * `host stack` makes each call on a painted stack and says last, on standard error, how much of it
+ * any call took; more than KERUMPASE_STACK ends it with status 1.
  */
-#include "../include/kerumpase.h"
+#include <kerumpase.h>
+
+#include "stack.h"
 
 #include <inttypes.h>
 #include <stdio.h>
 #include <stdlib.h>
 #include <string.h>
 
-enum { MOST_NUMBERS = 5, MOST_STRINGS = 2, MOST_REQUESTS = 1000000 };
+enum { MOST_NUMBERS = 5, MOST_STRINGS = 2, MOST_ROOMS = 3, MOST_REQUESTS = 1000000 };
 
 #define ANY UINT64_MAX
 
+/* The last numbers of a request are the lengths of its rooms, whose elements have these widths. */
 typedef struct {
     char letter;
     int numbers;
     uint64_t most_number[MOST_NUMBERS];
     int strings;
     uint64_t most_length[MOST_STRINGS];
+    int rooms;
+    size_t width[MOST_ROOMS];
 } shape;
 
 static const shape shapes[] = {
-    {'r', 2, {ANY, 4200}, 2, {5000, 1100000}},               /* version, room; query, bundle */
-    {'l', 1, {4200}, 2, {5000, 1100000}},                    /* room; query, bundle */
-    {'c', 5, {ANY, ANY, 1100, 4200, 4200}, 1, {1100000}},    /* today, retention, rooms; bundle */
-    {'m', 1, {1100}, 2, {5000, 1100000}},  /* room; query, state */
-    {'d', 0, {0}, 2, {70000, 70000}},      /* path, directory */
-    {'p', 0, {0}, 1, {70000}},             /* line */
-    {'n', 0, {0}, 1, {70000}},             /* line */
+    {'r', 2, {ANY, 4200}, 2, {5000, 1100000}, 1, {8}},                        /* version, room; query, bundle */
+    {'l', 1, {4200}, 2, {5000, 1100000}, 1, {8}},                             /* room; query, bundle */
+    {'c', 5, {ANY, ANY, 1100, 4200, 4200}, 1, {1100000}, 3, {4, 8, 8}},       /* today, retention, rooms; bundle */
+    {'m', 1, {1100}, 2, {5000, 1100000}, 1, {4}},                             /* room; query, state */
+    {'d', 0, {0}, 2, {70000, 70000}, 0, {0}},                                 /* path, directory */
+    {'p', 0, {0}, 1, {70000}, 0, {0}},                                        /* line */
+    {'n', 0, {0}, 1, {70000}, 0, {0}},                                        /* line */
 };
 
 typedef struct {
@@ -39,14 +46,28 @@ typedef struct {
 } string;
 
 typedef struct {
+    void *numbers;
+    size_t length;
+    size_t width;
+} room;
+
+typedef struct {
     char letter;
     uint64_t number[MOST_NUMBERS];
     string string[MOST_STRINGS];
+    room room[MOST_ROOMS];
+    union {
+        kerumpase_listed listed;
+        kerumpase_counted counted;
+        kerumpase_directory_shown directory;
+        kerumpase_place place;
+        kerumpase_records records;
+    } answer;
 } request;
 
 /* ---- memory: of the exact length, so that a checker of memory sees every step beyond it */
 
-static void *room(size_t length, size_t width)
+static void *lend(size_t length, size_t width)
 {
     size_t size = length * width;
     void *p = malloc(size > 0 ? size : 1);
@@ -98,9 +119,13 @@ static bool take_request(int letter, request *r)
         if (!take_number(&length, s->most_length[i]))
             return false;
         r->string[i].length = (size_t)length;
-        r->string[i].bytes = room((size_t)length, 1);
+        r->string[i].bytes = lend((size_t)length, 1);
         if (!take(r->string[i].bytes, (size_t)length))
             return false;
+    }
+    for (int i = 0; i < s->rooms; i++) {
+        size_t length = (size_t)r->number[s->numbers - s->rooms + i];
+        r->room[i] = (room){lend(length, s->width[i]), length, s->width[i]};
     }
     return true;
 }
@@ -109,6 +134,44 @@ static void drop(request *r)
 {
     for (int i = 0; i < MOST_STRINGS; i++)
         free(r->string[i].bytes);
+    for (int i = 0; i < MOST_ROOMS; i++)
+        free(r->room[i].numbers);
+}
+
+/* ---- calls */
+
+static void call(void *asked)
+{
+    request *r = asked;
+    const string *s = r->string;
+    const room *m = r->room;
+    switch (r->letter) {
+    case 'r':
+        r->answer.listed = kerumpase_read_at(s[1].bytes, s[1].length, s[0].bytes, s[0].length, r->number[0],
+                                             m[0].numbers, m[0].length);
+        break;
+    case 'l':
+        r->answer.listed = kerumpase_read_latest(s[1].bytes, s[1].length, s[0].bytes, s[0].length,
+                                                 m[0].numbers, m[0].length);
+        break;
+    case 'c':
+        r->answer.counted = kerumpase_clean(s[0].bytes, s[0].length, r->number[0], r->number[1], m[0].numbers,
+                                            m[0].length, m[1].numbers, m[1].length, m[2].numbers, m[2].length);
+        break;
+    case 'm':
+        r->answer.counted = kerumpase_keep(s[1].bytes, s[1].length, s[0].bytes, s[0].length,
+                                           m[0].numbers, m[0].length);
+        break;
+    case 'd':
+        r->answer.directory = kerumpase_directory(s[0].bytes, s[0].length, s[1].bytes, s[1].length);
+        break;
+    case 'p':
+        r->answer.place = kerumpase_path_of(s[0].bytes, s[0].length);
+        break;
+    case 'n':
+        r->answer.records = kerumpase_records_of(s[0].bytes, s[0].length);
+        break;
+    }
 }
 
 /* ---- answers */
@@ -128,106 +191,83 @@ static void print_bytes(const uint8_t *bytes, size_t length)
     printf("%zu %" PRIu64 "\n", length, sum(bytes, length));
 }
 
-static void print_listed(kerumpase_listed a, const uint64_t *rows, size_t n)
+static void print_rooms(const request *r)
 {
-    printf("%" PRIu32 " %zu %zu %" PRIu64 " %zu %" PRIu64 " %" PRIu64 " %s %" PRIu64 "\n", a.refused.number,
-           a.refused.entry, a.refused.line, a.version, a.rows, a.reader, a.writer, a.writable ? "yes" : "no",
-           sum(rows, n * sizeof *rows));
+    for (int i = 0; i < MOST_ROOMS && r->room[i].numbers != NULL; i++)
+        printf(" %" PRIu64, sum(r->room[i].numbers, r->room[i].length * r->room[i].width));
+    putchar('\n');
 }
 
-static void read_at(const request *r)
+static void print_listed(const request *r)
 {
-    size_t n = (size_t)r->number[1];
-    uint64_t *rows = room(n, sizeof *rows);
-    print_listed(kerumpase_read_at(r->string[1].bytes, r->string[1].length, r->string[0].bytes,
-                                   r->string[0].length, r->number[0], rows, n), rows, n);
-    free(rows);
+    kerumpase_listed a = r->answer.listed;
+    printf("%" PRIu32 " %zu %zu %" PRIu64 " %zu %" PRIu64 " %" PRIu64 " %s", a.refused.number, a.refused.entry,
+           a.refused.line, a.version, a.rows, a.reader, a.writer, a.writable ? "yes" : "no");
+    print_rooms(r);
 }
 
-static void read_latest(const request *r)
+static void print_counted(const request *r)
 {
-    size_t n = (size_t)r->number[0];
-    uint64_t *rows = room(n, sizeof *rows);
-    print_listed(kerumpase_read_latest(r->string[1].bytes, r->string[1].length, r->string[0].bytes,
-                                       r->string[0].length, rows, n), rows, n);
-    free(rows);
+    kerumpase_counted a = r->answer.counted;
+    if (r->letter == 'c')
+        printf("%" PRIu32 " %zu %zu %zu", a.refused.number, a.refused.entry, a.refused.line, a.count);
+    else
+        printf("%" PRIu32 " %zu", a.refused.number, a.count);
+    print_rooms(r);
 }
 
-static void clean(const request *r)
+static void print_records(kerumpase_records a)
 {
-    size_t n = (size_t)r->number[2], n1 = (size_t)r->number[3], n2 = (size_t)r->number[4];
-    uint32_t *names = room(n, sizeof *names);
-    uint64_t *one = room(n1, sizeof *one), *two = room(n2, sizeof *two);
-    kerumpase_counted a = kerumpase_clean(r->string[0].bytes, r->string[0].length, r->number[0],
-                                          r->number[1], names, n, one, n1, two, n2);
-    printf("%" PRIu32 " %zu %zu %zu %" PRIu64 " %" PRIu64 " %" PRIu64 "\n", a.refused.number, a.refused.entry,
-           a.refused.line, a.count, sum(names, n * sizeof *names), sum(one, n1 * sizeof *one),
-           sum(two, n2 * sizeof *two));
-    free(names);
-    free(one);
-    free(two);
-}
-
-static void keep(const request *r)
-{
-    size_t n = (size_t)r->number[0];
-    uint32_t *kept = room(n, sizeof *kept);
-    kerumpase_counted a = kerumpase_keep(r->string[1].bytes, r->string[1].length,
-                                         r->string[0].bytes, r->string[0].length, kept, n);
-    printf("%" PRIu32 " %zu %" PRIu64 "\n", a.refused.number, a.count, sum(kept, n * sizeof *kept));
-    free(kept);
-}
-
-static void directory(const request *r)
-{
-    kerumpase_directory_shown a = kerumpase_directory(r->string[0].bytes, r->string[0].length,
-                                                      r->string[1].bytes, r->string[1].length);
-    print_bytes(r->string[a.of_path ? 0 : 1].bytes, a.length);
-}
-
-static void path_of(const request *r)
-{
-    kerumpase_place a = kerumpase_path_of(r->string[0].bytes, r->string[0].length);
-    print_bytes(r->string[0].bytes + a.start, a.length);
-}
-
-static void records_of(const request *r)
-{
-    kerumpase_records a = kerumpase_records_of(r->string[0].bytes, r->string[0].length);
     if (a.stated == KERUMPASE_STATED)
         printf("number %" PRIu64 "\n", a.number);
     else
         puts(a.stated == KERUMPASE_MISSING ? "missing" : "none");
 }
 
-static void answer(const request *r)
+static void print(const request *r)
 {
     switch (r->letter) {
-    case 'r': read_at(r); break;
-    case 'l': read_latest(r); break;
-    case 'c': clean(r); break;
-    case 'm': keep(r); break;
-    case 'd': directory(r); break;
-    case 'p': path_of(r); break;
-    case 'n': records_of(r); break;
+    case 'r':
+    case 'l': print_listed(r); break;
+    case 'c':
+    case 'm': print_counted(r); break;
+    case 'd': print_bytes(r->string[r->answer.directory.of_path ? 0 : 1].bytes, r->answer.directory.length); break;
+    case 'p': print_bytes(r->string[0].bytes + r->answer.place.start, r->answer.place.length); break;
+    case 'n': print_records(r->answer.records); break;
     }
 }
 
-int main(void)
+int main(int count, char **words)
 {
+    bool painted = count == 2 && strcmp(words[1], "stack") == 0;
+    size_t most = 0;
+    if (count > 1 && !painted) {
+        fputs("usage: host [stack] <REQUESTS\n", stderr);
+        return 2;
+    }
     for (int i = 0; i < MOST_REQUESTS; i++) {
         int letter = getchar();
         request r;
         if (letter == EOF)
-            return 0;
+            break;
         bool good = take_request(letter, &r);
-        if (good)
-            answer(&r);
+        if (good) {
+            size_t taken = 0;
+            if (painted)
+                taken = stack_taken(call, &r);
+            else
+                call(&r);
+            if (taken > most)
+                most = taken;
+            print(&r);
+        }
         drop(&r);
         if (!good) {
             puts("end");
-            return 0;
+            break;
         }
     }
-    return 0;
+    if (painted)
+        fprintf(stderr, "the most stack of a call: %zu of %d bytes\n", most, KERUMPASE_STACK);
+    return most > KERUMPASE_STACK ? 1 : 0;
 }

@@ -1,17 +1,29 @@
 /*
- * Kerumpase for firmware in C: the proved reader of an IndexTables transaction log.
+ * Kerumpase: the proved reader of an IndexTables transaction log, for C and C++.
  *
- * Link target/staticlib/libfirmware.a (made by `rt staticlib firmware`, for x86-64). It needs
- * memcpy and memset of the C library and nothing else: it has no heap, no state, no input or
- * output, and never ends the program. Calls from several threads are independent.
+ * tools/library makes libkerumpase.a and libkerumpase.so for x86-64 and Arm (aarch64). The library
+ * needs memcpy and memset of the C library and nothing else: it has no heap, no state, no input or
+ * output, and it never ends the program.
  *
- * Everything is lent. A byte string is a pointer and a length; it is read during the call only
- * and never changed. A room is a pointer and its length in numbers; it is written during the call.
+ * Everything is lent. A byte string is a pointer and a length; it is read during the call only and
+ * never changed. A room is a pointer and its length in numbers; it is written during the call.
  * Every call answers, whatever the bytes are; what it answers and what it leaves in the rooms is
- * proved of the library's functions. What C owes them, and nothing tests:
- *   - each pointer is not NULL and is aligned for its type, also where the length is 0;
- *   - so many bytes or numbers are there;
- *   - a room shares no byte with another room or with a byte string.
+ * proved of the functions behind these. The caller must guarantee, because nothing can check it:
+ *   - a pointer whose length is not 0 is not NULL, is aligned for its type and points to at least
+ *     that many elements (where the length is 0 any pointer will do, NULL too);
+ *   - a room overlaps neither another room nor a byte string (`restrict`), and nothing else writes
+ *     to what is lent before the call returns.
+ *
+ * Threads: calls are independent of each other, from any number of threads.
+ * Stack: a call takes less than KERUMPASE_STACK bytes (measured on both machines, not proved).
+ *
+ * What must be believed besides the prover. On x86-64: the kit's compiler, which makes the library
+ * from the module that was proved. On Arm: the kit proves and compiles for x86-64 alone; the library
+ * is the very same module, handed to the Arm side of the same compiler. So one also believes that
+ * side of the compiler, and that nothing in the module means something else on Arm; tools/library
+ * looks at every line of it and refuses what could (both machines are little-endian, with pointers
+ * of 64 bits and the same alignments). On both: library/entries.c, a hundred lines of C that hand
+ * over the arguments and answers. docs/LIBRARY.md says more, and what was run on each machine.
  */
 #ifndef KERUMPASE_H
 #define KERUMPASE_H
@@ -20,12 +32,45 @@
 #include <stddef.h>
 #include <stdint.h>
 
+#define KERUMPASE_VERSION_MAJOR 1
+#define KERUMPASE_VERSION_MINOR 0
+#define KERUMPASE_VERSION_PATCH 0
+#define KERUMPASE_VERSION "1.0.0"
+
 #ifdef __cplusplus
+#define KERUMPASE_RESTRICT __restrict
+#define KERUMPASE_ASSERT static_assert
 extern "C" {
+#else
+#define KERUMPASE_RESTRICT restrict
+#define KERUMPASE_ASSERT _Static_assert
 #endif
 
-/* The refusals. Those of an entry are named with it. */
-enum {
+/* Limits of the rules. Beyond them the answer is a refusal. */
+#define KERUMPASE_BUNDLE_MOST 1048576    /* bytes of a bundle */
+#define KERUMPASE_ENTRIES_MOST 1024      /* files of a bundle */
+#define KERUMPASE_NAME_MOST 96           /* bytes of a file's name */
+#define KERUMPASE_QUERY_MOST 4096        /* bytes of a query */
+#define KERUMPASE_CONDITIONS_MOST 8      /* conditions of a query */
+#define KERUMPASE_LIVE_MOST 1024         /* live files after a line */
+#define KERUMPASE_MANIFESTS_MOST 256     /* manifests of a state manifest */
+#define KERUMPASE_PATH_MOST 512          /* decoded bytes of a file's path */
+#define KERUMPASE_COLUMNS_MOST 16        /* partition columns */
+#define KERUMPASE_NESTING_MOST 32        /* JSON objects and arrays within each other */
+
+/* Minimum lengths of the rooms, in elements. Elements past the minimum are never written. */
+#define KERUMPASE_ROWS_ROOM 4096         /* uint64_t, for rows */
+#define KERUMPASE_NAMES_ROOM 1024        /* uint32_t, for the numbers of files that may go */
+#define KERUMPASE_KEPT_ROOM 256          /* uint32_t, for the numbers of manifests */
+
+/* Numbers per row. */
+#define KERUMPASE_ROW 4
+
+/* Bytes of stack that are enough for any call. */
+#define KERUMPASE_STACK 16384
+
+/* The refusals. Those of an entry are named with it; kerumpase_words.h has a text for each. */
+typedef enum kerumpase_refusal {
     KERUMPASE_ACCEPTED = 0,
     KERUMPASE_ROOM_TOO_SHORT = 1,        /* a lent room is too short; all rooms are untouched */
     KERUMPASE_BUNDLE_MALFORMED = 2,
@@ -42,29 +87,18 @@ enum {
     KERUMPASE_CHECKPOINT_DISAGREES = 13,
     KERUMPASE_STATE_MALFORMED = 14,
     KERUMPASE_TOO_MANY_MANIFESTS = 15    /* over 256 */
-};
+} kerumpase_refusal;
 
-/* Rooms are so long at least; what is beyond is never touched. */
-enum {
-    KERUMPASE_ROWS_ROOM = 4096,          /* uint64_t, for rows */
-    KERUMPASE_NAMES_ROOM = 1024,         /* uint32_t, for the numbers of files that may go */
-    KERUMPASE_KEPT_ROOM = 256            /* uint32_t, for the numbers of manifests */
-};
-
-/* A row has so many numbers: the place in the bundle and the length of the line that adds the file,
- * then the file's size and modificationTime as the line states them. */
-enum { KERUMPASE_ROW = 4 };
-
-/* number is 0 where the answer is accepted. Refusals 6 and 7 name a file of the bundle, from 0, and
- * a line of it, from 1 (0: something is missing at the file's end). All else is 0. */
-typedef struct {
+/* number is a kerumpase_refusal, 0 where the answer is accepted. Refusals 6 and 7 name a file of the
+ * bundle, from 0, and a line of it, from 1 (0: something is missing at the file's end). All else is 0. */
+typedef struct kerumpase_refused {
     uint32_t number;
     size_t entry;
     size_t line;
 } kerumpase_refused;
 
 /* How many numbers are in the room; 0 where refused. */
-typedef struct {
+typedef struct kerumpase_counted {
     kerumpase_refused refused;
     size_t count;
 } kerumpase_counted;
@@ -73,7 +107,7 @@ typedef struct {
 
 /* The version listed, how many rows are in the room, the protocol in force and whether it may be
  * written under; all 0 where refused. */
-typedef struct {
+typedef struct kerumpase_listed {
     kerumpase_refused refused;
     uint64_t version;
     size_t rows;
@@ -82,6 +116,15 @@ typedef struct {
     bool writable;
 } kerumpase_listed;
 
+/* A row of the room: the place in the bundle and the length of the line that adds the file, then the
+ * file's size and modificationTime as the line states them. */
+typedef struct kerumpase_row {
+    uint64_t place;
+    uint64_t length;
+    uint64_t size;
+    uint64_t time;
+} kerumpase_row;
+
 /*
  * The files of the table at a version that a query (JSON, at most 4,096 bytes; `[]` picks all)
  * picks: the first `rows` rows of the room, in the byte order of the decoded paths; the rest of the
@@ -89,28 +132,29 @@ typedef struct {
  * Refusals 1, 10, 2, 3, 4, 5, then 6 or 7, 8, 9, 11, the first that holds; after all but 1 the
  * first 4,096 numbers are 0.
  */
-kerumpase_listed kerumpase_read_at(const uint8_t *bundle, size_t bundle_length,
-                                   const uint8_t *query, size_t query_length, uint64_t version,
-                                   uint64_t *rows, size_t rows_length);
+kerumpase_listed kerumpase_read_at(const uint8_t *KERUMPASE_RESTRICT bundle, size_t bundle_length,
+                                   const uint8_t *KERUMPASE_RESTRICT query, size_t query_length,
+                                   uint64_t version,
+                                   uint64_t *KERUMPASE_RESTRICT rows, size_t rows_length);
 
 /* The same at the latest version that the log reaches. */
-kerumpase_listed kerumpase_read_latest(const uint8_t *bundle, size_t bundle_length,
-                                       const uint8_t *query, size_t query_length,
-                                       uint64_t *rows, size_t rows_length);
+kerumpase_listed kerumpase_read_latest(const uint8_t *KERUMPASE_RESTRICT bundle, size_t bundle_length,
+                                       const uint8_t *KERUMPASE_RESTRICT query, size_t query_length,
+                                       uint64_t *KERUMPASE_RESTRICT rows, size_t rows_length);
 
 /*
  * Which version files may go: those above version 0 and below the marker's checkpoint that were
  * modified more than `retention` before `today` (both in milliseconds), if another start reaches the
  * checkpoint and says the same. The first `count` numbers of the room are their places in the
  * bundle's contents, from 0 and ascending; the rest of the first 1,024 are 0. The two tables are lent
- * for the work: their first 4,096 numbers are 0 at the end.
+ * for the work, at least KERUMPASE_ROWS_ROOM each: their first 4,096 numbers are 0 at the end.
  * Refusals 1, 2, 3, 4, then 6 or 7, 8, 9, 12, 13; after all but 1 the rooms hold zeros.
  */
-kerumpase_counted kerumpase_clean(const uint8_t *bundle, size_t bundle_length,
+kerumpase_counted kerumpase_clean(const uint8_t *KERUMPASE_RESTRICT bundle, size_t bundle_length,
                                   uint64_t today, uint64_t retention,
-                                  uint32_t *names, size_t names_length,
-                                  uint64_t *table_one, size_t table_one_length,
-                                  uint64_t *table_two, size_t table_two_length);
+                                  uint32_t *KERUMPASE_RESTRICT names, size_t names_length,
+                                  uint64_t *KERUMPASE_RESTRICT table_one, size_t table_one_length,
+                                  uint64_t *KERUMPASE_RESTRICT table_two, size_t table_two_length);
 
 /* ---- state manifests ---- */
 
@@ -119,24 +163,25 @@ kerumpase_counted kerumpase_clean(const uint8_t *bundle, size_t bundle_length,
  * `count` numbers of the room are theirs, from 0 and ascending, and the rest of the first 256 are 0.
  * Refusals 1, 10, 14, 15; after all but 1 the first 256 numbers are 0.
  */
-kerumpase_counted kerumpase_keep(const uint8_t *state, size_t state_length,
-                                 const uint8_t *query, size_t query_length,
-                                 uint32_t *kept, size_t kept_length);
+kerumpase_counted kerumpase_keep(const uint8_t *KERUMPASE_RESTRICT state, size_t state_length,
+                                 const uint8_t *KERUMPASE_RESTRICT query, size_t query_length,
+                                 uint32_t *KERUMPASE_RESTRICT kept, size_t kept_length);
 
 /* The first `length` bytes of the path, or (of_path is false) of the state's directory. */
-typedef struct {
+typedef struct kerumpase_directory_shown {
     bool of_path;
     size_t length;
 } kerumpase_directory_shown;
 
 /* The directory in which the manifest with this path (decoded) lies, without its closing slash. */
 kerumpase_directory_shown kerumpase_directory(const uint8_t *path, size_t path_length,
-                                              const uint8_t *state_directory, size_t state_directory_length);
+                                              const uint8_t *state_directory,
+                                              size_t state_directory_length);
 
 /* ---- one line of a log ---- */
 
 /* The bytes line[start] to line[start + length - 1]. */
-typedef struct {
+typedef struct kerumpase_place {
     size_t start;
     size_t length;
 } kerumpase_place;
@@ -144,6 +189,7 @@ typedef struct {
 /* Where an add writes its path: raw, between its quotes. Both are 0 if the line is no well-formed add. */
 kerumpase_place kerumpase_path_of(const uint8_t *line, size_t line_length);
 
+/* Whether a line states a number of records. */
 enum {
     KERUMPASE_NO_ADD = 0,                /* the line is no well-formed add */
     KERUMPASE_MISSING = 1,               /* numRecords is missing or null */
@@ -151,13 +197,63 @@ enum {
 };
 
 /* number is 0 unless stated. */
-typedef struct {
+typedef struct kerumpase_records {
     uint32_t stated;
     uint64_t number;
 } kerumpase_records;
 
 /* The number of records that an add states. */
 kerumpase_records kerumpase_records_of(const uint8_t *line, size_t line_length);
+
+/* ---- small helps, in C alone: not proved ---- */
+
+/* Row i of the room, from 0. It must be below the `rows` of the answer. */
+static inline kerumpase_row kerumpase_row_at(const uint64_t *rows, size_t i)
+{
+    const uint64_t *row = rows + KERUMPASE_ROW * i;
+    kerumpase_row r = {row[0], row[1], row[2], row[3]};
+    return r;
+}
+
+/* The name of file `entry` of a bundle, from 0: sets *length (0 to 96) and gives the name's first byte.
+ * The name is not ended by a zero byte. NULL where the bytes end before the entry. */
+static inline const char *kerumpase_entry_name(const uint8_t *bundle, size_t bundle_length, size_t entry,
+                                               size_t *length)
+{
+    size_t at, n = 0;
+    *length = 0;
+    if (entry >= KERUMPASE_ENTRIES_MOST)
+        return NULL;
+    at = 4 + 112 * entry;
+    if (bundle_length < at + 112)
+        return NULL;
+    while (n < KERUMPASE_NAME_MOST && bundle[at + n] != 0)
+        n++;
+    *length = n;
+    return (const char *)bundle + at;
+}
+
+/* ---- layouts: what the library was proved and compiled with ---- */
+
+KERUMPASE_ASSERT(sizeof(void *) == 8 && sizeof(size_t) == 8 && sizeof(bool) == 1, "pointers of 64 bits");
+KERUMPASE_ASSERT(sizeof(kerumpase_refused) == 24 && offsetof(kerumpase_refused, number) == 0
+                 && offsetof(kerumpase_refused, entry) == 8 && offsetof(kerumpase_refused, line) == 16,
+                 "layout of kerumpase_refused");
+KERUMPASE_ASSERT(sizeof(kerumpase_counted) == 32 && offsetof(kerumpase_counted, refused) == 0
+                 && offsetof(kerumpase_counted, count) == 24, "layout of kerumpase_counted");
+KERUMPASE_ASSERT(sizeof(kerumpase_listed) == 64 && offsetof(kerumpase_listed, refused) == 0
+                 && offsetof(kerumpase_listed, version) == 24 && offsetof(kerumpase_listed, rows) == 32
+                 && offsetof(kerumpase_listed, reader) == 40 && offsetof(kerumpase_listed, writer) == 48
+                 && offsetof(kerumpase_listed, writable) == 56, "layout of kerumpase_listed");
+KERUMPASE_ASSERT(sizeof(kerumpase_row) == 32 && offsetof(kerumpase_row, place) == 0
+                 && offsetof(kerumpase_row, length) == 8 && offsetof(kerumpase_row, size) == 16
+                 && offsetof(kerumpase_row, time) == 24, "layout of kerumpase_row");
+KERUMPASE_ASSERT(sizeof(kerumpase_directory_shown) == 16 && offsetof(kerumpase_directory_shown, of_path) == 0
+                 && offsetof(kerumpase_directory_shown, length) == 8, "layout of kerumpase_directory_shown");
+KERUMPASE_ASSERT(sizeof(kerumpase_place) == 16 && offsetof(kerumpase_place, start) == 0
+                 && offsetof(kerumpase_place, length) == 8, "layout of kerumpase_place");
+KERUMPASE_ASSERT(sizeof(kerumpase_records) == 16 && offsetof(kerumpase_records, stated) == 0
+                 && offsetof(kerumpase_records, number) == 8, "layout of kerumpase_records");
 
 #ifdef __cplusplus
 }

@@ -1,0 +1,257 @@
+"""Kerumpase: the proved reader of an IndexTables transaction log, over its C library; Python's standard library alone.
+
+    import kerumpase
+    listing = kerumpase.read_latest(open('BUNDLE', 'rb').read())
+    for row in listing.rows:
+        print(row.path, row.size, row.time, row.records)
+
+Every function takes bytes (or what gives its bytes: bytearray, memoryview, mmap), and answers or raises Refused with the rules' number. What
+decides is the library; nothing here reads a log. The library is looked for where KERUMPASE_LIBRARY says, beside this file, in the prefix that this
+file was installed to, and where the system keeps its libraries; it is loaded with the first call. Calls may be made from several threads.
+"""
+import ctypes
+import ctypes.util
+import os
+from typing import List, NamedTuple, Optional
+
+__all__ = ['Refused', 'LibraryMissing', 'Row', 'Listing', 'read_at', 'read_latest', 'clean', 'keep', 'directory', 'path_of', 'records_of',
+           'entry_name', 'refusal_text']
+__version__ = '1.0.0'
+
+ROWS_ROOM, NAMES_ROOM, KEPT_ROOM = 4096, 1024, 256
+ROW, ENTRY, NAME, MOST = 4, 112, 96, 2**64 - 1
+STATED, MISSING = 2, 1
+FILE = 'libkerumpase.so.' + __version__.split('.', maxsplit=1)[0]
+
+# The words of docs/REFUSALS.md.
+TEXTS = (
+    'accepted', 'a lent room too short; all rooms untouched', 'bundle malformed', 'version in a name too large', 'no version file 0',
+    'version not kept: no start reaches it', 'a line or file read is malformed', 'more than 1,024 live after a line', 'minReaderVersion above 3',
+    'unknown reader feature', 'query malformed', 'condition on no partition column', 'not writable (cleaner)', 'checkpoint disagrees (cleaner)',
+    'state manifest malformed', 'over 256 manifests')
+
+
+def refusal_text(number: int) -> str:
+    """What a refusal is given for, in the words of the rules."""
+    return TEXTS[number] if 0 <= number < len(TEXTS) else 'unknown refusal'
+
+
+class LibraryMissing(OSError):
+    """The shared library was not found, or is not one that this file fits."""
+
+
+class Refused(Exception):
+    """A refusal: its number, the entry of the bundle and the line that 6 and 7 name (otherwise 0), and the text for the number."""
+
+    def __init__(self, number: int, entry: int = 0, line: int = 0, name: Optional[str] = None):
+        self.number, self.entry, self.line, self.name, self.text = number, entry, line, name, refusal_text(number)
+        where = f', in {name or f"entry {entry}"}, line {line}' if number in (6, 7) else ''
+        super().__init__(f'refused {number}: {self.text}{where}')
+
+    def __reduce__(self):
+        return Refused, (self.number, self.entry, self.line, self.name)
+
+
+class Row(NamedTuple):
+    """A file of the table: where its add's line stands in the bundle, its size and modificationTime, its raw path and number of records."""
+    place: int
+    length: int
+    size: int
+    time: int
+    path: bytes
+    records: Optional[int]
+
+
+class Listing(NamedTuple):
+    """The version read, its protocol, whether it may be written under, and the files that the query picks, by the order of their paths."""
+    version: int
+    reader: int
+    writer: int
+    writable: bool
+    rows: List[Row]
+
+
+# ---- the library
+
+class _Refused(ctypes.Structure):
+    _fields_ = [('number', ctypes.c_uint32), ('entry', ctypes.c_size_t), ('line', ctypes.c_size_t)]
+
+
+class _Counted(ctypes.Structure):
+    _fields_ = [('refused', _Refused), ('count', ctypes.c_size_t)]
+
+
+class _Listed(ctypes.Structure):
+    _fields_ = [('refused', _Refused), ('version', ctypes.c_uint64), ('rows', ctypes.c_size_t), ('reader', ctypes.c_uint64),
+                ('writer', ctypes.c_uint64), ('writable', ctypes.c_bool)]
+
+
+class _DirectoryShown(ctypes.Structure):
+    _fields_ = [('of_path', ctypes.c_bool), ('length', ctypes.c_size_t)]
+
+
+class _Place(ctypes.Structure):
+    _fields_ = [('start', ctypes.c_size_t), ('length', ctypes.c_size_t)]
+
+
+class _Records(ctypes.Structure):
+    _fields_ = [('stated', ctypes.c_uint32), ('number', ctypes.c_uint64)]
+
+
+_BYTES = [ctypes.c_char_p, ctypes.c_size_t]
+_ROOM_32 = [ctypes.POINTER(ctypes.c_uint32), ctypes.c_size_t]
+_ROOM_64 = [ctypes.POINTER(ctypes.c_uint64), ctypes.c_size_t]
+_FUNCTIONS = {
+    'read_at': (_Listed, _BYTES + _BYTES + [ctypes.c_uint64] + _ROOM_64),
+    'read_latest': (_Listed, _BYTES + _BYTES + _ROOM_64),
+    'clean': (_Counted, _BYTES + [ctypes.c_uint64, ctypes.c_uint64] + _ROOM_32 + _ROOM_64 + _ROOM_64),
+    'keep': (_Counted, _BYTES + _BYTES + _ROOM_32),
+    'directory': (_DirectoryShown, _BYTES + _BYTES),
+    'path_of': (_Place, _BYTES),
+    'records_of': (_Records, _BYTES),
+}
+
+
+def _places():
+    """Where the library may be, in the order in which it is looked for."""
+    named = os.environ.get('KERUMPASE_LIBRARY')
+    if named:
+        return [named]
+    here = os.path.dirname(os.path.abspath(__file__))
+    found = ctypes.util.find_library('kerumpase')
+    return [os.path.join(here, FILE), os.path.join(here, 'libkerumpase.so'), os.path.join(here, '..', '..', 'lib', FILE), FILE] + ([found] if found else [])
+
+
+def _load():
+    said = []
+    for place in _places():
+        if os.sep in place and not os.path.exists(place):
+            said.append(f'{place}: there is none')
+            continue
+        try:
+            library = ctypes.CDLL(place)
+            for name, (answer, arguments) in _FUNCTIONS.items():
+                function = getattr(library, 'kerumpase_' + name)
+                function.restype, function.argtypes = answer, arguments
+            return library
+        except (OSError, AttributeError) as error:
+            said.append(f'{place}: {error}')
+    raise LibraryMissing('libkerumpase.so was not found; make it by tools/library PREFIX and set KERUMPASE_LIBRARY=PREFIX/lib/libkerumpase.so. '
+                         'Looked for: ' + '; '.join(said))
+
+
+_loaded = None
+
+
+def _call(name, *arguments):
+    global _loaded
+    if _loaded is None:
+        _loaded = _load()
+    return getattr(_loaded, 'kerumpase_' + name)(*arguments)
+
+
+# ---- arguments
+
+def _bytes(value, what):
+    """The value as bytes that stay as they are during the call."""
+    if isinstance(value, str):
+        raise TypeError(f'{what} must be bytes, not str')
+    return value if type(value) is bytes else bytes(memoryview(value))
+
+
+def _number(value, what):
+    if isinstance(value, bool) or not isinstance(value, int):
+        raise TypeError(f'{what} must be an int')
+    if not 0 <= value <= MOST:
+        raise ValueError(f'{what} must be from 0 to {MOST}')
+    return value
+
+
+def _room_32(length):
+    return (ctypes.c_uint32 * length)()
+
+
+def _room_64(length):
+    return (ctypes.c_uint64 * length)()
+
+
+def _unless_refused(refused, bundle=b''):
+    if refused.number in (6, 7):
+        raise Refused(refused.number, refused.entry, refused.line, entry_name(bundle, refused.entry))
+    if refused.number:
+        raise Refused(refused.number)
+
+
+# ---- the entries
+
+def entry_name(bundle, entry: int) -> str:
+    """The name of a file of a bundle, from 0."""
+    bundle = _bytes(bundle, 'bundle')
+    at = 4 + ENTRY * _number(entry, 'entry')
+    if at + ENTRY > len(bundle):
+        raise IndexError(f'the bundle has no entry {entry}')
+    return bundle[at:at + NAME].rstrip(b'\0').decode('ascii', 'backslashreplace')
+
+
+def _listing(answer, room, bundle):
+    _unless_refused(answer.refused, bundle)
+    rows = []
+    for at in range(0, ROW * answer.rows, ROW):
+        place, length, size, time = room[at:at + ROW]
+        line = bundle[place:place + length]
+        rows.append(Row(place, length, size, time, path_of(line), records_of(line)))
+    return Listing(answer.version, answer.reader, answer.writer, answer.writable, rows)
+
+
+def read_at(bundle, version: int, query=b'[]') -> Listing:
+    """The files of the table at a version that a query picks; `[]` picks all."""
+    bundle, query, room = _bytes(bundle, 'bundle'), _bytes(query, 'query'), _room_64(ROWS_ROOM)
+    answer = _call('read_at', bundle, len(bundle), query, len(query), _number(version, 'version'), room, ROWS_ROOM)
+    return _listing(answer, room, bundle)
+
+
+def read_latest(bundle, query=b'[]') -> Listing:
+    """The same at the latest version that the log reaches."""
+    bundle, query, room = _bytes(bundle, 'bundle'), _bytes(query, 'query'), _room_64(ROWS_ROOM)
+    return _listing(_call('read_latest', bundle, len(bundle), query, len(query), room, ROWS_ROOM), room, bundle)
+
+
+def clean(bundle, now: int, retention: int) -> List[int]:
+    """Which files of the bundle may go, as entry numbers from 0, ascending (entry_name names them). Both times are in milliseconds."""
+    bundle, names, one, two = _bytes(bundle, 'bundle'), _room_32(NAMES_ROOM), _room_64(ROWS_ROOM), _room_64(ROWS_ROOM)
+    answer = _call('clean', bundle, len(bundle), _number(now, 'now'), _number(retention, 'retention'), names, NAMES_ROOM, one, ROWS_ROOM, two, ROWS_ROOM)
+    _unless_refused(answer.refused, bundle)
+    return names[:answer.count]
+
+
+def keep(state, query=b'[]') -> List[int]:
+    """Which manifests of a state manifest a query keeps, as numbers from 0, ascending."""
+    state, query, kept = _bytes(state, 'state'), _bytes(query, 'query'), _room_32(KEPT_ROOM)
+    answer = _call('keep', state, len(state), query, len(query), kept, KEPT_ROOM)
+    _unless_refused(answer.refused)
+    return kept[:answer.count]
+
+
+def directory(path, state_directory) -> bytes:
+    """The directory in which the manifest with this path (decoded) lies, without its closing slash."""
+    path, state_directory = _bytes(path, 'path'), _bytes(state_directory, 'state_directory')
+    shown = _call('directory', path, len(path), state_directory, len(state_directory))
+    return (path if shown.of_path else state_directory)[:shown.length]
+
+
+def path_of(line) -> bytes:
+    """The path as an add writes it, between its quotes; empty if the line is no well-formed add."""
+    line = _bytes(line, 'line')
+    place = _call('path_of', line, len(line))
+    return line[place.start:place.start + place.length]
+
+
+def records_of(line) -> Optional[int]:
+    """The number of records that an add states; None if it states none, ValueError if the line is no well-formed add."""
+    line = _bytes(line, 'line')
+    shown = _call('records_of', line, len(line))
+    if shown.stated == STATED:
+        return shown.number
+    if shown.stated == MISSING:
+        return None
+    raise ValueError('the line is no well-formed add')

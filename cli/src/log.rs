@@ -1,0 +1,270 @@
+//! What a log holds, and what the proved library says of each part: every version, every checkpoint, the marker, the cleaner. Nothing is decided here;
+//! where the library has no entry that says a thing, a small bundle is made whose answer says it.
+
+use kerumpase::bundle::{self, File, Name};
+use kerumpase::{Listing, Reason, Refusal};
+
+/// The query that picks all files.
+pub const ALL: &[u8] = b"[]";
+
+/// What a listing comes to.
+#[derive(Clone, Copy, Debug, PartialEq, Eq)]
+pub struct Summary {
+    pub version: u64,
+    pub files: usize,
+    /// Sizes added up; each is below 2^63, so 64 bits may be too few.
+    pub bytes: u128,
+    pub records: u128,
+    /// How many files say no number of records.
+    pub without_records: usize,
+    pub reader: u64,
+    pub writer: u64,
+    pub writable: bool,
+}
+
+impl Summary {
+    pub fn of(listing: &Listing) -> Summary {
+        let &Listing { version, reader, writer, writable, .. } = listing;
+        let files: Vec<_> = listing.files().collect();
+        Summary {
+            version,
+            files: files.len(),
+            bytes: files.iter().map(|file| u128::from(file.size)).sum(),
+            records: files.iter().filter_map(|file| file.num_records).map(u128::from).sum(),
+            without_records: files.iter().filter(|file| file.num_records.is_none()).count(),
+            reader,
+            writer,
+            writable,
+        }
+    }
+}
+
+/// A version of which the log has a file.
+#[derive(Clone, Debug)]
+pub struct VersionSeen {
+    pub version: u64,
+    /// The entries of its version file and its checkpoint.
+    pub file: Option<usize>,
+    pub checkpoint: Option<usize>,
+    /// The first malformed line of its version file, whether reading needs that file or not (0: it has no object).
+    pub malformed: Option<usize>,
+    pub answer: Result<Summary, Refusal>,
+}
+
+#[derive(Clone, Debug)]
+pub struct CheckpointSeen {
+    pub version: u64,
+    pub entry: usize,
+    /// Whether it is a start; if not, the line at which it is malformed (0: it has no object).
+    pub fault: Option<usize>,
+    pub marked: bool,
+}
+
+#[derive(Clone, Debug)]
+pub struct Survey {
+    pub latest: Result<Summary, Refusal>,
+    pub versions: Vec<VersionSeen>,
+    pub checkpoints: Vec<CheckpointSeen>,
+    /// The marker's entry.
+    pub marker: Option<usize>,
+    /// All that the cleaner would name if every file were old enough.
+    pub cleanable: Result<Vec<usize>, Refusal>,
+}
+
+impl Survey {
+    /// Looks at the whole log; `step` hears how many versions of all are done.
+    pub fn of(bytes: &[u8], mut step: impl FnMut(usize, usize)) -> Survey {
+        let latest = kerumpase::read_latest(bytes, ALL).map(|listing| Summary::of(&listing));
+        let mut survey = Survey {
+            latest,
+            versions: Vec::new(),
+            checkpoints: Vec::new(),
+            marker: None,
+            cleanable: kerumpase::clean(bytes, u64::MAX, 0),
+        };
+        if matches!(survey.latest, Err(Refusal { reason: Reason::BundleMalformed, .. })) {
+            return survey;
+        }
+        survey.checkpoints = checkpoints_of(bytes);
+        for (entry, file) in bundle::files(bytes).enumerate() {
+            match Name::of(file.name) {
+                Name::Version(version) => {
+                    let seen = survey.seen(version);
+                    seen.file = Some(entry);
+                    // Version 0 has rules of its own, and is always read.
+                    seen.malformed = if version == 0 { None } else { malformed_line(file.body) };
+                }
+                Name::Checkpoint(version) => survey.seen(version).checkpoint = Some(entry),
+                Name::Marker => survey.marker = Some(entry),
+                Name::TooLarge | Name::Other => (),
+            }
+        }
+        let all = survey.versions.len();
+        for (done, seen) in survey.versions.iter_mut().enumerate() {
+            seen.answer = kerumpase::read_at(bytes, ALL, seen.version).map(|listing| Summary::of(&listing));
+            step(done + 1, all);
+        }
+        survey
+    }
+
+    /// The row of a version; names ascend, so it is the last one or new.
+    fn seen(&mut self, version: u64) -> &mut VersionSeen {
+        if self.versions.last().map_or(true, |last| last.version != version) {
+            let answer = self.latest;
+            self.versions.push(VersionSeen { version, file: None, checkpoint: None, malformed: None, answer });
+        }
+        self.versions.last_mut().expect("one is there")
+    }
+
+    /// The checkpoint that the marker names and that is a start.
+    pub fn marked(&self) -> Option<u64> {
+        marked_of(&self.checkpoints)
+    }
+
+    /// The version numbers, first to last, of which no version file is there though one above is.
+    pub fn gaps(&self) -> Vec<(u64, u64)> {
+        let mut gaps = Vec::new();
+        let mut next = 0;
+        for seen in self.versions.iter().filter(|seen| seen.file.is_some()) {
+            if seen.version > next {
+                gaps.push((next, seen.version - 1));
+            }
+            next = seen.version + 1;
+        }
+        gaps
+    }
+}
+
+/// The checkpoints of a bundle, each judged.
+fn checkpoints_of(bytes: &[u8]) -> Vec<CheckpointSeen> {
+    let marker = bundle::files(bytes).find(|file| Name::of(file.name) == Name::Marker);
+    let mut checkpoints = Vec::new();
+    for (entry, file) in bundle::files(bytes).enumerate() {
+        if let Name::Checkpoint(version) = Name::of(file.name) {
+            let marked = marker.map_or(false, |marker| names(marker.body, version));
+            checkpoints.push(CheckpointSeen { version, entry, fault: fault_of(file.body), marked });
+        }
+    }
+    checkpoints
+}
+
+fn marked_of(checkpoints: &[CheckpointSeen]) -> Option<u64> {
+    checkpoints
+        .iter()
+        .find(|checkpoint| checkpoint.marked && checkpoint.fault.is_none())
+        .map(|checkpoint| checkpoint.version)
+}
+
+/// The checkpoint of a bundle that its marker names and that is a start.
+pub fn marked_in(bytes: &[u8]) -> Option<u64> {
+    marked_of(&checkpoints_of(bytes))
+}
+
+const ZERO: File =
+    File { name: b"00000000000000000000.json", time: 0, body: br#"{"metaData":{"id":"t","partitionColumns":[]}}"# };
+
+/// A version 0 of its own with these lines behind it, under a name of version 1.
+fn behind_zero(name: &[u8], body: &[u8]) -> Option<Vec<u8>> {
+    bundle::write(&[ZERO, File { name, time: 0, body }]).ok()
+}
+
+/// Whether a checkpoint is a start, asked of the library. If it is not, its first malformed line; nothing where it is one, or too long to ask.
+fn fault_of(body: &[u8]) -> Option<usize> {
+    let alone = behind_zero(b"00000000000000000001.checkpoint.json", body)?;
+    match kerumpase::read_at(&alone, ALL, 1) {
+        Err(Refusal { reason: Reason::NotKept, .. }) => malformed_line(body),
+        _ => None,
+    }
+}
+
+/// The first malformed line, asked of the library by putting the lines into a version file.
+fn malformed_line(body: &[u8]) -> Option<usize> {
+    match kerumpase::read_at(&behind_zero(b"00000000000000000001.json", body)?, ALL, 1) {
+        Err(Refusal { reason: Reason::Malformed, line, .. }) => Some(line),
+        _ => None,
+    }
+}
+
+/// Whether a marker can be used and names this checkpoint, asked of the library: beside a checkpoint that no reader may read, it makes the latest
+/// version unreadable, or, at version 0, the cleaner refuse.
+fn names(marker: &[u8], version: u64) -> bool {
+    let checkpoint = format!("{version:020}.checkpoint.json");
+    let files = [
+        ZERO,
+        File {
+            name: checkpoint.as_bytes(),
+            time: 0,
+            body: br#"{"protocol":{"minReaderVersion":4,"minWriterVersion":4}}"#,
+        },
+        File { name: b"_last_checkpoint", time: 0, body: marker },
+    ];
+    let asked = match bundle::write(&files) {
+        Ok(asked) => asked,
+        Err(_) => return false,
+    };
+    let refusal = match version {
+        0 => kerumpase::clean(&asked, 0, 0).err(),
+        _ => kerumpase::read_latest(&asked, ALL).err(),
+    };
+    refusal.map_or(false, |refusal| refusal.reason == Reason::ReaderTooHigh)
+}
+
+#[cfg(test)]
+mod tests {
+    use super::*;
+
+    fn bundle_of(files: &[(&str, &str)]) -> Vec<u8> {
+        let files: Vec<File> =
+            files.iter().map(|(name, body)| File { name: name.as_bytes(), time: 5, body: body.as_bytes() }).collect();
+        bundle::write(&files).unwrap()
+    }
+
+    const META: &str = r#"{"metaData":{"id":"t","partitionColumns":[]}}"#;
+    const ADD: &str =
+        r#"{"add":{"path":"a","size":3,"modificationTime":7,"dataChange":true,"partitionValues":{},"numRecords":2}}"#;
+
+    #[test]
+    fn a_log_with_a_gap() {
+        let marker = r#"{"version":4}"#;
+        let bytes = bundle_of(&[
+            ("00000000000000000000.json", META),
+            ("00000000000000000001.json", ADD),
+            ("00000000000000000004.checkpoint.json", ADD),
+            ("00000000000000000005.json", ADD),
+            ("_last_checkpoint", marker),
+        ]);
+        let survey = Survey::of(&bytes, |_, _| ());
+        assert_eq!(survey.gaps(), [(2, 4)]);
+        assert_eq!(survey.marked(), Some(4));
+        assert_eq!(survey.latest.unwrap().version, 5);
+        let said: Vec<_> = survey.versions.iter().map(|seen| (seen.version, seen.answer.is_ok())).collect();
+        assert_eq!(said, [(0, true), (1, true), (4, true), (5, true)]);
+        assert_eq!((survey.versions[2].file, survey.versions[2].checkpoint), (None, Some(2)));
+        assert_eq!(survey.cleanable, Ok(vec![]));
+        let one = survey.versions[1].answer.unwrap();
+        assert_eq!((one.files, one.bytes, one.records, one.without_records), (1, 3, 2, 0));
+    }
+
+    #[test]
+    fn checkpoints_are_judged_by_the_library() {
+        assert_eq!(fault_of(ADD.as_bytes()), None);
+        assert_eq!(fault_of(b""), Some(0));
+        assert_eq!(fault_of(b"\n\n{}"), Some(3));
+        assert_eq!(fault_of(format!("{ADD}\n{ADD}x\n").as_bytes()), Some(2));
+        let newer = br#"{"protocol":{"minReaderVersion":9,"minWriterVersion":9}}"#;
+        assert_eq!(fault_of(newer), None);
+    }
+
+    #[test]
+    fn markers_are_judged_by_the_library() {
+        for version in [0, 1, 10, i64::MAX as u64] {
+            let marker = format!("{{\"version\":{version}}}");
+            assert!(names(marker.as_bytes(), version));
+            assert!(!names(marker.as_bytes(), 7));
+            assert!(!names(format!("{{\"version\":{version},\"parts\":2}}").as_bytes(), version));
+            assert!(!names(format!("{{\"version\":0{version}}}").as_bytes(), version));
+        }
+        assert!(!names(b"", 0));
+        assert!(!names(b"{}", 0));
+    }
+}

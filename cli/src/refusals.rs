@@ -1,0 +1,149 @@
+//! Refusals as they are told: the paper's line, and from docs/REFUSALS.md, which is compiled in, what it means and what to do.
+
+use std::io::Write;
+
+use kerumpase::{bundle, Refusal};
+
+use crate::ending::{complain, Ended, Ending};
+use crate::json::{object, or_null, quoted};
+use crate::text::excerpt;
+
+const TABLE: &str = include_str!("../../docs/REFUSALS.md");
+
+/// How much of a malformed line is shown.
+const EXCERPT: usize = 60;
+
+/// A row of the table.
+#[derive(Clone, Copy, Debug, PartialEq, Eq)]
+pub struct Explained {
+    pub number: u32,
+    pub words: &'static str,
+    pub means: &'static str,
+    pub todo: &'static str,
+}
+
+/// All rows, in the order of their numbers.
+pub fn all() -> impl Iterator<Item = Explained> {
+    TABLE.lines().filter_map(|line| {
+        let mut cells = line.strip_prefix("| ")?.strip_suffix(" |")?.split(" | ");
+        let number = cells.next()?.parse().ok()?;
+        Some(Explained { number, words: cells.next()?, means: cells.next()?, todo: cells.next()? })
+    })
+}
+
+pub fn explained(number: u32) -> Explained {
+    let unknown = Explained {
+        number,
+        words: "a refusal of a later edition",
+        means: "This program is older than the library that it uses.",
+        todo: "Update this program.",
+    };
+    all().find(|row| row.number == number).unwrap_or(unknown)
+}
+
+/// What a refusal says of a bundle.
+#[derive(Clone, Debug)]
+pub struct Told {
+    pub refusal: Refusal,
+    pub explained: Explained,
+    /// The file that it names.
+    pub file: Option<String>,
+    /// How the line that it names begins; or what is odd about the whole file.
+    pub excerpt: Option<String>,
+}
+
+impl Told {
+    pub fn of(refusal: Refusal, bytes: &[u8]) -> Told {
+        let file = bundle::file(bytes, refusal.entry).filter(|_| refusal.names_a_line());
+        let excerpt = file.and_then(|file| match file.body {
+            body if body.starts_with(b"\x1f\x8b") => {
+                Some("the file is compressed by gzip; bodies are plain text".to_string())
+            }
+            body => bundle::line(body, refusal.line).map(|line| format!("the line begins: {}", excerpt(line, EXCERPT))),
+        });
+        let file = file.map(|file| String::from_utf8_lossy(file.name).to_string());
+        Told { refusal, explained: explained(refusal.number()), file, excerpt }
+    }
+
+    /// The file and the line that it names.
+    pub fn place(&self) -> String {
+        match (&self.file, self.refusal.line) {
+            (None, _) => String::new(),
+            (Some(file), 0) => format!(", in {file}, at its end"),
+            (Some(file), line) => format!(", in {file}, line {line}"),
+        }
+    }
+
+    /// The paper's words, with the place.
+    pub fn words(&self) -> String {
+        format!("refusal {}: {}{}", self.refusal.number(), self.explained.words, self.place())
+    }
+
+    pub fn json(&self) -> String {
+        object(&[
+            ("refused", self.refusal.number().to_string()),
+            ("entry", self.refusal.entry.to_string()),
+            ("line", self.refusal.line.to_string()),
+            ("file", or_null(self.file.as_ref().map(|file| quoted(file.as_bytes())))),
+            ("why", quoted(self.explained.words.as_bytes())),
+            ("means", quoted(self.explained.means.as_bytes())),
+            ("todo", quoted(self.explained.todo.as_bytes())),
+        ])
+    }
+}
+
+/// Tells a refusal: as JSON on standard output, or the paper's line there and the words beside it on standard error.
+pub fn tell(refusal: Refusal, bytes: &[u8], json: bool, out: &mut dyn Write) -> Ended {
+    let told = Told::of(refusal, bytes);
+    if json {
+        writeln!(out, "{}", told.json())?;
+    } else {
+        writeln!(out, "{refusal}")?;
+        out.flush()?;
+        complain(&told.words());
+        for line in told.excerpt.iter().map(String::as_str).chain([told.explained.means, told.explained.todo]) {
+            complain(line);
+        }
+    }
+    Ok(Ending::Refused)
+}
+
+#[cfg(test)]
+mod tests {
+    use super::*;
+
+    #[test]
+    fn every_number_is_explained_once() {
+        assert_eq!(all().map(|row| row.number).collect::<Vec<_>>(), (0..=15).collect::<Vec<_>>());
+        for row in all() {
+            assert!(!row.words.is_empty() && row.means.ends_with('.') && row.todo.ends_with('.'), "{row:?}");
+            assert!(!row.means.contains('|') && !row.todo.contains('|'));
+        }
+        assert_eq!(explained(5).words, "version not kept: no start reaches it");
+        assert_eq!(explained(99).number, 99);
+    }
+
+    #[test]
+    fn the_header_has_the_same_words() {
+        let header = include_str!("../../include/kerumpase_words.h");
+        for row in all() {
+            assert!(
+                header.contains(&format!("return \"{}\";", row.words)),
+                "kerumpase_words.h, refusal {}",
+                row.number
+            );
+        }
+    }
+
+    #[test]
+    fn the_script_list_has_the_same_words() {
+        let list = include_str!("../../list");
+        let words = |number: u32| {
+            let line = list.lines().find(|line| line.trim_start().starts_with(&format!("{number}) echo ")))?;
+            line.split('"').nth(1)
+        };
+        for number in 1..=11 {
+            assert_eq!(words(number), explained(number).words.split(';').next(), "./list, refusal {number}");
+        }
+    }
+}

@@ -1,0 +1,33 @@
+/*
+ * Kerumpase: the words of the rules for each refusal, as docs/REFUSALS.md has them.
+ */
+#ifndef KERUMPASE_WORDS_H
+#define KERUMPASE_WORDS_H
+
+#include "kerumpase.h"
+
+/* What refusal `number` is given for, or "unknown refusal". The text is never NULL. */
+static inline const char *kerumpase_refusal_text(uint32_t number)
+{
+    switch (number) {
+    case KERUMPASE_ACCEPTED: return "accepted";
+    case KERUMPASE_ROOM_TOO_SHORT: return "a lent room too short; all rooms untouched";
+    case KERUMPASE_BUNDLE_MALFORMED: return "bundle malformed";
+    case KERUMPASE_VERSION_TOO_LARGE: return "version in a name too large";
+    case KERUMPASE_NO_VERSION_ZERO: return "no version file 0";
+    case KERUMPASE_NOT_KEPT: return "version not kept: no start reaches it";
+    case KERUMPASE_MALFORMED: return "a line or file read is malformed";
+    case KERUMPASE_TOO_MANY_LIVE: return "more than 1,024 live after a line";
+    case KERUMPASE_READER_TOO_HIGH: return "minReaderVersion above 3";
+    case KERUMPASE_UNKNOWN_FEATURE: return "unknown reader feature";
+    case KERUMPASE_QUERY_MALFORMED: return "query malformed";
+    case KERUMPASE_NO_SUCH_COLUMN: return "condition on no partition column";
+    case KERUMPASE_NOT_WRITABLE: return "not writable (cleaner)";
+    case KERUMPASE_CHECKPOINT_DISAGREES: return "checkpoint disagrees (cleaner)";
+    case KERUMPASE_STATE_MALFORMED: return "state manifest malformed";
+    case KERUMPASE_TOO_MANY_MANIFESTS: return "over 256 manifests";
+    default: return "unknown refusal";
+    }
+}
+
+#endif

@@ -1,0 +1,11 @@
+# A version serves those who ask for an older one with the same first number.
+set(PACKAGE_VERSION "@VERSION@")
+string(REGEX MATCH "^[0-9]+" kerumpase_first "${PACKAGE_VERSION}")
+if("${PACKAGE_FIND_VERSION_MAJOR}" STREQUAL "${kerumpase_first}" AND NOT PACKAGE_VERSION VERSION_LESS PACKAGE_FIND_VERSION)
+    set(PACKAGE_VERSION_COMPATIBLE TRUE)
+    if(PACKAGE_VERSION VERSION_EQUAL PACKAGE_FIND_VERSION)
+        set(PACKAGE_VERSION_EXACT TRUE)
+    endif()
+else()
+    set(PACKAGE_VERSION_COMPATIBLE FALSE)
+endif()
