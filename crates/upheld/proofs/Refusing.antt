@@ -33,7 +33,7 @@ use Rattle.cleaning.proofs.Alone.{clean-alone}
 use Rattle.manifests.specs.Rooms.{keptIs, KeepIs}
 use Rattle.manifests.specs.declared.keeping.Kept.{Kept}
 use Rattle.manifests.specs.declared.keeping.Kept.the-variants.{Refused as NothingKept}
-use Rattle.manifests.proofs.Answering.{keep-alone}
+use Rattle.manifests.proofs.Alone.{keep-alone}
 use Rattle.upheld.specs.Refusing.{ReadingRule, CleaningRule, KeepingRule}
 
 -- a number that an entry never gives
