@@ -3,8 +3,9 @@
  * `probe` does, so that the same stored and generated cases are run over C's calling convention.
  * A request is a letter, then numbers of 8 bytes (little-endian), then byte strings behind their
  * 8-byte lengths. A request that is cut short, unknown or over a limit is answered by `end`.
- * `host stack` makes each call on a painted stack and says last, on standard error, how much of it
- * any call took; more than KERUMPASE_STACK ends it with status 1.
+ * `host stack` makes each call on a painted stack and says last, on standard error, how much of it the
+ * calls of each entry took at the most, a line `ENTRY BYTES` each (tools/stack --measured reads them),
+ * and how much any call; more than KERUMPASE_STACK ends it with status 1.
  */
 #include <kerumpase.h>
 
@@ -15,13 +16,14 @@
 #include <stdlib.h>
 #include <string.h>
 
-enum { MOST_NUMBERS = 5, MOST_STRINGS = 2, MOST_ROOMS = 3, MOST_REQUESTS = 1000000 };
+enum { MOST_NUMBERS = 5, MOST_STRINGS = 2, MOST_ROOMS = 3, MOST_REQUESTS = 1000000, ENTRIES = 7 };
 
 #define ANY UINT64_MAX
 
 /* The last numbers of a request are the lengths of its rooms, whose elements have these widths. */
 typedef struct {
     char letter;
+    const char *entry;
     int numbers;
     uint64_t most_number[MOST_NUMBERS];
     int strings;
@@ -30,14 +32,14 @@ typedef struct {
     size_t width[MOST_ROOMS];
 } shape;
 
-static const shape shapes[] = {
-    {'r', 2, {ANY, 4200}, 2, {5000, 1100000}, 1, {8}},                        /* version, room; query, bundle */
-    {'l', 1, {4200}, 2, {5000, 1100000}, 1, {8}},                             /* room; query, bundle */
-    {'c', 5, {ANY, ANY, 1100, 4200, 4200}, 1, {1100000}, 3, {4, 8, 8}},       /* today, retention, rooms; bundle */
-    {'m', 1, {1100}, 2, {5000, 1100000}, 1, {4}},                             /* room; query, state */
-    {'d', 0, {0}, 2, {70000, 70000}, 0, {0}},                                 /* path, directory */
-    {'p', 0, {0}, 1, {70000}, 0, {0}},                                        /* line */
-    {'n', 0, {0}, 1, {70000}, 0, {0}},                                        /* line */
+static const shape shapes[ENTRIES] = {
+    {'r', "kerumpase_read_at", 2, {ANY, 4200}, 2, {5000, 1100000}, 1, {8}},                        /* version, room; query, bundle */
+    {'l', "kerumpase_read_latest", 1, {4200}, 2, {5000, 1100000}, 1, {8}},                             /* room; query, bundle */
+    {'c', "kerumpase_clean", 5, {ANY, ANY, 1100, 4200, 4200}, 1, {1100000}, 3, {4, 8, 8}},       /* today, retention, rooms; bundle */
+    {'m', "kerumpase_keep", 1, {1100}, 2, {5000, 1100000}, 1, {4}},                             /* room; query, state */
+    {'d', "kerumpase_directory", 0, {0}, 2, {70000, 70000}, 0, {0}},                                 /* path, directory */
+    {'p', "kerumpase_path_of", 0, {0}, 1, {70000}, 0, {0}},                                        /* line */
+    {'n', "kerumpase_records_of", 0, {0}, 1, {70000}, 0, {0}},                                        /* line */
 };
 
 typedef struct {
@@ -53,6 +55,7 @@ typedef struct {
 
 typedef struct {
     char letter;
+    uintptr_t from;                      /* where the stack of the call begins */
     uint64_t number[MOST_NUMBERS];
     string string[MOST_STRINGS];
     room room[MOST_ROOMS];
@@ -98,7 +101,7 @@ static bool take_number(uint64_t *number, uint64_t most)
 
 static const shape *shape_of(int letter)
 {
-    for (size_t i = 0; i < sizeof shapes / sizeof shapes[0]; i++)
+    for (int i = 0; i < ENTRIES; i++)
         if (shapes[i].letter == letter)
             return &shapes[i];
     return NULL;
@@ -145,6 +148,7 @@ static void call(void *asked)
     request *r = asked;
     const string *s = r->string;
     const room *m = r->room;
+    r->from = stack_pointer();
     switch (r->letter) {
     case 'r':
         r->answer.listed = kerumpase_read_at(s[1].bytes, s[1].length, s[0].bytes, s[0].length, r->number[0],
@@ -172,6 +176,19 @@ static void call(void *asked)
         r->answer.records = kerumpase_records_of(s[0].bytes, s[0].length);
         break;
     }
+}
+
+/* The stack that the call of a request takes. */
+static size_t taken_by(request *r)
+{
+    uintptr_t lowest = stack_lowest(call, r);
+    return lowest < r->from ? r->from - lowest : 0;
+}
+
+static void note(size_t *most, size_t taken)
+{
+    if (taken > *most)
+        *most = taken;
 }
 
 /* ---- answers */
@@ -240,7 +257,7 @@ static void print(const request *r)
 int main(int count, char **words)
 {
     bool painted = count == 2 && strcmp(words[1], "stack") == 0;
-    size_t most = 0;
+    size_t most[ENTRIES] = {0}, most_of_all = 0;
     if (count > 1 && !painted) {
         fputs("usage: host [stack] <REQUESTS\n", stderr);
         return 2;
@@ -252,13 +269,10 @@ int main(int count, char **words)
             break;
         bool good = take_request(letter, &r);
         if (good) {
-            size_t taken = 0;
             if (painted)
-                taken = stack_taken(call, &r);
+                note(&most[shape_of(letter) - shapes], taken_by(&r));
             else
                 call(&r);
-            if (taken > most)
-                most = taken;
             print(&r);
         }
         drop(&r);
@@ -267,7 +281,11 @@ int main(int count, char **words)
             break;
         }
     }
+    for (int i = 0; painted && i < ENTRIES; i++) {
+        fprintf(stderr, "%s %zu\n", shapes[i].entry, most[i]);
+        note(&most_of_all, most[i]);
+    }
     if (painted)
-        fprintf(stderr, "the most stack of a call: %zu of %d bytes\n", most, KERUMPASE_STACK);
-    return most > KERUMPASE_STACK ? 1 : 0;
+        fprintf(stderr, "the most stack of a call: %zu of %d bytes\n", most_of_all, KERUMPASE_STACK);
+    return most_of_all > KERUMPASE_STACK ? 1 : 0;
 }

@@ -1,4 +1,8 @@
-/* How much stack a call takes, in bytes below its caller's frame. It is made in a thread, on a stack that is painted before. */
-#include <stddef.h>
+/* How much stack a call takes: it is made in a thread, on a stack that is painted before. */
+#include <stdint.h>
 
-size_t stack_taken(void (*call)(void *), void *argument);
+/* The lowest byte of the stack that `call` wrote to. */
+uintptr_t stack_lowest(void (*call)(void *), void *argument);
+
+/* Where the frame ends of the function that asks. */
+uintptr_t stack_pointer(void);

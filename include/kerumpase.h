@@ -15,7 +15,8 @@
  *     to what is lent before the call returns.
  *
  * Threads: calls are independent of each other, from any number of threads.
- * Stack: a call takes less than KERUMPASE_STACK bytes (measured on both machines, not proved).
+ * Stack: a call takes at most KERUMPASE_STACK bytes. This is counted in the machine code of the library
+ * for both machines, and measured (docs/PERFORMANCE.md); it is not proved.
  *
  * What must be believed besides the prover. On x86-64: the kit's compiler, which makes the library
  * from the module that was proved. On Arm: the kit proves and compiles for x86-64 alone; the library
@@ -66,8 +67,8 @@ extern "C" {
 /* Numbers per row. */
 #define KERUMPASE_ROW 4
 
-/* Bytes of stack that are enough for any call. */
-#define KERUMPASE_STACK 16384
+/* Bytes of stack that are enough for any call; tools/stack holds the library to it. */
+#define KERUMPASE_STACK 10240
 
 /* The refusals. Those of an entry are named with it; kerumpase_words.h has a text for each. */
 typedef enum kerumpase_refusal {

@@ -40,19 +40,26 @@ END
 made_again() {
     local words
     mapfile -t words <"$work/kept/words"
-    (cd "$work/kept" && "$clang" "${words[@]}" && "$ar" x "$top/target/staticlib/libfirmware.a" && cmp module.o firmware.o)
+    (cd "$work/kept" && "$clang" "${words[@]}" && "$ar" x "$top/target/staticlib/libentries_c.a" && cmp module.o entries_c.o)
 }
 
 prove() {
+    exec 8<"$top/crates.txt" # two runs of rt in one tree read each other's unfinished files
+    flock -n 8 || { say "rt is at work in this tree already, waiting for it"; flock 8; }
+    prove_alone
+    exec 8<&-
+}
+
+prove_alone() {
     local digest
     digest=$(sources | sha256sum)
     if [ -f "$work/kept/sources" ] && [ "$(cat "$work/kept/sources")" = "$digest" ]; then
-        step check "asking rt whether all is proved" env -C "$top" "$rt" check firmware || fail "not proved, so no library is made"
+        step check "asking rt whether all is proved" env -C "$top" "$rt" check entries_c || fail "not proved, so no library is made"
         return
     fi
     keeping_kit "$work/kit" "$work/kept"
-    step staticlib "proving the crate firmware and all below it: a minute, or some ten where nothing is proved yet" \
-        env -C "$top" RATTLE_HOME="$work/kit" "$rt" staticlib firmware || fail "not proved, so no library is made"
+    step staticlib "proving the crate entries_c and all below it: a minute, or some ten where nothing is proved yet" \
+        env -C "$top" RATTLE_HOME="$work/kit" "$rt" staticlib entries_c || fail "not proved, so no library is made"
     [ -f "$work/kept/module.bc" ] || fail "the kit did not hand a module to its compiler in the way that is known"
     step again "making the kit's object again of the module that was kept" made_again ||
         fail "the module that was kept does not give the kit's own object"

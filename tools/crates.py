@@ -1,4 +1,5 @@
 """The crates of this repository, for the scripts beside this file: what crates.txt lists, what stands on what, and whether one changed."""
+import fcntl
 import hashlib
 from pathlib import Path
 
@@ -29,6 +30,17 @@ def above(crates):
         if not more:
             return [c for c in needs if c in found]
         found |= more
+
+
+def rt_alone():
+    """Waits until no other script runs rt in this tree, where two at once read each other's unfinished files. Others wait until this is closed."""
+    held = open(TOP / 'crates.txt', 'rb')
+    try:
+        fcntl.flock(held, fcntl.LOCK_EX | fcntl.LOCK_NB)
+    except BlockingIOError:
+        print('rt is at work in this tree already; waiting for it', flush=True)
+        fcntl.flock(held, fcntl.LOCK_EX)
+    return held
 
 
 def digest_of(crate):

@@ -204,7 +204,8 @@ Examples:
 kerumpase unpack BUNDLE FOLDER
 
 Makes FOLDER with a folder _transaction_log that holds the bundle's files, and a file `times` with
-their times, so that packing it gives the same bundle. FOLDER must not be there.
+their times, so that packing it gives the same bundle. FOLDER must not be there; it gets its name
+when all is written, and where something cannot be written nothing is left.
 
 Examples:
   kerumpase pack examples/school >school.bundle

@@ -135,15 +135,22 @@ mod tests {
         }
     }
 
+    /// The script takes its words from the table too, by a line of its own, which is run here.
     #[test]
     fn the_script_list_has_the_same_words() {
         let list = include_str!("../../list");
-        let words = |number: u32| {
-            let line = list.lines().find(|line| line.trim_start().starts_with(&format!("{number}) echo ")))?;
-            line.split('"').nth(1)
-        };
-        for number in 1..=11 {
-            assert_eq!(words(number), explained(number).words.split(';').next(), "./list, refusal {number}");
+        let given_when = list.lines().find(|line| line.starts_with("given_when() ")).expect("./list has such a line");
+        for row in all() {
+            let line = format!("top=$1\n{given_when}\ngiven_when {}", row.number);
+            let top = concat!(env!("CARGO_MANIFEST_DIR"), "/..");
+            let said =
+                std::process::Command::new("sh").args(["-c", &line, "list", top]).output().expect("sh can be run");
+            assert_eq!(
+                String::from_utf8_lossy(&said.stdout),
+                format!("{}\n", row.words),
+                "./list, refusal {}",
+                row.number
+            );
         }
     }
 }

@@ -241,6 +241,41 @@ fn a_bundle_cannot_write_outside_its_folder() {
 }
 
 #[test]
+fn what_cannot_be_unpacked_whole_leaves_nothing() {
+    let folder = Folder::new("partly");
+    let there = || {
+        let names =
+            std::fs::read_dir(&folder.0).unwrap().map(|entry| entry.unwrap().file_name().into_string().unwrap());
+        let mut names: Vec<String> = names.collect();
+        names.sort();
+        names
+    };
+    let bundle_of = |name: &str, files: &[(&str, &[u8])]| {
+        let files: Vec<_> =
+            files.iter().map(|(name, body)| kerumpase::bundle::File { name: name.as_bytes(), time: 0, body }).collect();
+        folder.write(name, &kerumpase::bundle::write(&files).unwrap())
+    };
+    let into = folder.path("into");
+    let (zero, one) = ("00000000000000000000.json", "00000000000000000001.json");
+    // A limit of the size of files stands for a full disk: the first file is written, the second is not.
+    let full = bundle_of("full", &[(zero, b"{}\n"), (one, &[b' '; 5000])]);
+    let said = shell(&format!("trap '' XFSZ; ulimit -f 1; kerumpase unpack {full} {into}"));
+    fails(said, &format!("{into}/_transaction_log/{one} cannot be written"));
+    assert_eq!(there(), ["full"]);
+    // A file and a folder of one name, and a folder that cannot be made.
+    let both = bundle_of("both", &[(zero, b"{}\n"), (one, b""), ("00000000000000000001.json/more", b"")]);
+    fails(kerumpase(&["unpack", &both, &into]), "nothing was unpacked");
+    fails(kerumpase(&["unpack", &full, &folder.path("missing/into")]), "nothing was unpacked");
+    assert_eq!(there(), ["both", "full"]);
+    // What was there before stays, an empty folder too; and what can be unpacked is.
+    std::fs::create_dir(&into).unwrap();
+    fails(kerumpase(&["unpack", &full, &into]), "is there already");
+    std::fs::remove_dir(&into).unwrap();
+    assert_eq!(kerumpase(&["unpack", &full, &format!("{into}/")]).status, Some(0));
+    assert_eq!(there(), ["both", "full", "into"]);
+}
+
+#[test]
 fn refusals_say_what_they_mean_and_what_to_do() {
     let said = kerumpase(&["files", "examples/refused"]);
     assert_eq!((said.status, said.out.as_str()), (Some(1), "refused 6 entry 1 line 3\n"));

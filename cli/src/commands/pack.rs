@@ -2,12 +2,12 @@
 
 use std::fs;
 use std::io::{ErrorKind, Write};
-use std::path::{Component, Path};
+use std::path::{Component, Path, PathBuf};
 
 use kerumpase::bundle;
 
 use super::contents::is_bundle;
-use crate::ending::{system, usage, Ended, Ending, Fail};
+use crate::ending::{complain, system, usage, Ended, Ending, Fail};
 use crate::folder::{path_shown, Times, LOG};
 use crate::progress::is_terminal;
 use crate::refusals;
@@ -33,6 +33,48 @@ fn is_below(name: &Path) -> bool {
     name.components().all(|part| matches!(part, Component::Normal(_))) && name.components().count() > 0
 }
 
+/// A name of a file in a bundle, as text.
+fn text(name: &[u8]) -> String {
+    String::from_utf8_lossy(name).to_string()
+}
+
+fn cannot(path: &Path, error: std::io::Error) -> Fail {
+    Fail::System(format!("{} cannot be written: {error}; nothing was unpacked", path_shown(path)))
+}
+
+/// A new folder beside `to`, in which all is written before it gets that name.
+fn begun(to: &Path) -> Result<PathBuf, Fail> {
+    let mut number = 0;
+    loop {
+        let folder = to.with_file_name(format!(".kerumpase-unpack-{}-{number}", std::process::id()));
+        match fs::create_dir(&folder) {
+            Ok(()) => return Ok(folder),
+            Err(error) if error.kind() == ErrorKind::AlreadyExists => number += 1,
+            Err(error) => return Err(cannot(to, error)),
+        }
+    }
+}
+
+/// Writes a bundle's files and their times into a folder that will be called `to`, and says how many they are.
+fn write_all(bundle: &[u8], folder: &Path, to: &Path) -> Result<usize, Fail> {
+    let put = |name: &Path, bytes: &[u8]| {
+        let path = folder.join(name);
+        fs::create_dir_all(path.parent().expect("it is below the folder"))
+            .and_then(|()| fs::write(&path, bytes))
+            .map_err(|error| cannot(&to.join(name), error))
+    };
+    let mut times = String::from("# The times of the log's files, as the bundle has them.\n");
+    let mut count = 0;
+    fs::create_dir(folder.join(LOG)).map_err(|error| cannot(&to.join(LOG), error))?;
+    for file in bundle::files(bundle) {
+        put(&Path::new(LOG).join(text(file.name)), file.body)?;
+        times += &format!("{} {}\n", text(file.name), file.time);
+        count += 1;
+    }
+    put(Path::new("times"), times.as_bytes())?;
+    Ok(count)
+}
+
 pub fn unpack(words: &Words, out: &mut dyn Write) -> Ended {
     let (from, to) = match &words.operands[..] {
         [from, to] => (from, Path::new(to)),
@@ -42,33 +84,18 @@ pub fn unpack(words: &Words, out: &mut dyn Write) -> Ended {
     if let Err(refusal) = is_bundle(&table.bundle) {
         return refusals::tell(refusal, &table.bundle, false, out);
     }
-    let text = |name: &[u8]| String::from_utf8_lossy(name).to_string();
     if let Some(file) = bundle::files(&table.bundle).find(|file| !is_below(Path::new(&text(file.name)))) {
         return system(format!("the name {} leads out of the folder; nothing was unpacked", shown(&text(file.name))));
     }
-    let failed =
-        |path: &Path, error: std::io::Error| Fail::System(format!("{} cannot be written: {error}", path_shown(path)));
-    match fs::create_dir(to) {
-        Ok(()) => (),
-        Err(error) if error.kind() == ErrorKind::AlreadyExists => {
-            return system(format!("{} is there already; name a folder that is not", path_shown(to)));
-        }
-        Err(error) => return Err(failed(to, error)),
+    if fs::symlink_metadata(to).is_ok() {
+        return system(format!("{} is there already; name a folder that is not", path_shown(to)));
     }
-    let log = to.join(LOG);
-    fs::create_dir(&log).map_err(|error| failed(&log, error))?;
-    let mut times = String::from("# The times of the log's files, as the bundle has them.\n");
-    let mut count = 0;
-    for file in bundle::files(&table.bundle) {
-        let path = log.join(text(file.name));
-        let folder = path.parent().expect("it is below the log");
-        fs::create_dir_all(folder).map_err(|error| failed(folder, error))?;
-        fs::write(&path, file.body).map_err(|error| failed(&path, error))?;
-        times += &format!("{} {}\n", text(file.name), file.time);
-        count += 1;
+    let folder = begun(to)?;
+    let written = write_all(&table.bundle, &folder, to)
+        .and_then(|count| fs::rename(&folder, to).map(|()| count).map_err(|error| cannot(to, error)));
+    if written.is_err() && fs::remove_dir_all(&folder).is_err() {
+        complain(&format!("{} is not whole; remove it", path_shown(&folder)));
     }
-    let path = to.join("times");
-    fs::write(&path, times).map_err(|error| failed(&path, error))?;
-    writeln!(out, "{} unpacked to {}", counted(count, "file", "files"), path_shown(to))?;
+    writeln!(out, "{} unpacked to {}", counted(written?, "file", "files"), path_shown(to))?;
     Ok(Ending::Answered)
 }

@@ -9,11 +9,11 @@ use Rattle.rules.specs.Bundle.{File}
 use Rattle.rules.specs.Names.{Name as rName, version, checkpoint, marker, other, tooLarge, nameOf, versionIn}
 use Rattle.rules.specs.Cleaning.{isBetween, isOld, mayGo}
 use Rattle.rules.proofs.Tests.{and-fails-left}
-use Rattle.names.specs.Names.{nameIs}
-use Rattle.names.specs.declared.Name.{Name}
-use Rattle.names.specs.declared.Name.the-variants.{VersionFile, Checkpoint, Marker, Other, TooLarge}
-use Rattle.names.specs.declared.Version.{Version}
-use Rattle.agreement.proofs.Stated.{and-past}
+use Rattle.file_names.specs.Names.{nameIs}
+use Rattle.file_names.specs.declared.Name.{Name}
+use Rattle.file_names.specs.declared.Name.the-variants.{VersionFile, Checkpoint, Marker, Other, TooLarge}
+use Rattle.file_names.specs.declared.Version.{Version}
+use Rattle.log_agreement.proofs.Stated.{and-past}
 
 -- ---- the version
 

@@ -5,25 +5,25 @@ use mathlib.Core.Option.{Option, none, some}
 use mathlib.Core.List.{List}
 use Prim.Native.Nat.{ℕ}
 use native.Mathlib.Omega.{arith}
-use Rattle.rules.specs.Bytes.{Bytes}
-use Rattle.rules.specs.Bundle.{File, bundle}
+use Rattle.rules.specs.Bytes.{Bytes, isSome}
+use Rattle.rules.specs.Bundle.{File, bundle, IsBundle}
 use Rattle.rules.specs.Names.{anyTooLarge}
 use Rattle.rules.specs.Starts.{logOf, Way, startAt, otherWayTo}
 use Rattle.rules.specs.Marker.{marked}
 use Rattle.rules.specs.Cleaning.{named, compared, cleanedBy, cleanedAt}
 use Rattle.rules.specs.Refusals.{accepted, refused}
 use Rattle.rules.proofs.Tests.{apart, true-not-false}
-use Rattle.bundle.specs.Files.{isSome, filesOr, filesIn, fileIn}
-use Rattle.names.specs.declared.Version.{Version}
+use Rattle.file_bundle.specs.Files.{filesOr, filesIn, fileIn}
+use Rattle.file_names.specs.declared.Version.{Version}
 use Rattle.refusals.specs.Numbered.{numbered}
 use Rattle.refusals.specs.declared.Refusal.{Refusal as CodeRefusal}
 use Rattle.refusals.specs.declared.Refusal.the-variants.{BundleMalformed, VersionTooLarge, NoVersionZero}
-use Rattle.starts.specs.Marks.{markIs}
-use Rattle.starts.specs.Ways.{StartIs}
-use Rattle.starts.specs.declared.Mark.{Mark}
-use Rattle.starts.specs.declared.Mark.the-variants.{At, Nothing as Unmarked}
-use Rattle.starts.specs.declared.Start.{Start}
-use Rattle.starts.specs.declared.Start.the-variants.{Zero, Checkpoint, NoStart}
+use Rattle.log_starts.specs.Marks.{markIs}
+use Rattle.log_starts.specs.Ways.{StartIs}
+use Rattle.log_starts.specs.declared.Mark.{Mark}
+use Rattle.log_starts.specs.declared.Mark.the-variants.{At, Nothing as Unmarked}
+use Rattle.log_starts.specs.declared.Start.{Start}
+use Rattle.log_starts.specs.declared.Start.the-variants.{Zero, Checkpoint, NoStart}
 use Rattle.cleaning.specs.Ruled.{ComparedIs, CompareIs, isStart, ruledAt, ruled, RulingIs}
 use Rattle.cleaning.specs.declared.comparing.Compared.{Compared}
 use Rattle.cleaning.specs.declared.comparing.Compared.the-variants.{Agree, Refused}
@@ -51,25 +51,33 @@ module _ (src : Bytes) (entry₀ k : ℕ) (c : Version) (at : startAt (logOf (fi
   unfolding ruledAt cleanedAt
   ruled-by o e today retention = rw (at, e)
 
-  pub ruled-alone : (start : Start) → isStart start ≡ false → StartIs src (c .0) (otherWayTo (logOf (filesIn src)) (c .0)) start → RulingIs src (ruledAt src entry₀ (c .0)) Nothing
+  pub ruled-alone : (start : Start) → isStart start ≡ false → StartIs src (c .0) (otherWayTo (logOf (filesIn src)) (c .0)) start
+      → RulingIs src (ruledAt src entry₀ (c .0)) Nothing
   unfolding cleanedBy
   ruled-alone start e h today retention = ruled-by none (unstarted src (c .0) (otherWayTo (logOf (filesIn src)) (c .0)) start e h) today retention
 
-  module _ (start : Start) (e : isStart start ≡ true) (h : StartIs src (c .0) (otherWayTo (logOf (filesIn src)) (c .0)) start) (r : Compared) (f : CompareIs src entry₀ k start (c .0) r) where
-    pub ruled-agreed : isSome (bundle src) ≡ true → r ≡ Agree → RulingIs src (ruledAt src entry₀ (c .0)) (Before c)
-    unfolding cleanedBy
-    ruled-agreed g q =
-        let (w, p, s) = started src (c .0) (otherWayTo (logOf (filesIn src)) (c .0)) start e h in
-        let same : compared (fileIn src entry₀) (fileIn src k) w ≡ accepted tt = subst (ComparedIs (compared (fileIn src entry₀) (fileIn src k) w)) q (f w s) in
-        (λ today retention. ruled-by (some w) p today retention ∙ rw same, g)
+  module _
+      (start : Start)
+      (e : isStart start ≡ true)
+      (h : StartIs src (c .0) (otherWayTo (logOf (filesIn src)) (c .0)) start)
+      (r : Compared)
+      (f : CompareIs src entry₀ k start (c .0) r)
+    where
+      pub ruled-agreed : IsBundle src → r ≡ Agree → RulingIs src (ruledAt src entry₀ (c .0)) (Before c)
+      unfolding cleanedBy
+      ruled-agreed g q =
+          let (w, p, s) = started src (c .0) (otherWayTo (logOf (filesIn src)) (c .0)) start e h in
+          let same : compared (fileIn src entry₀) (fileIn src k) w ≡ accepted tt =
+          subst (ComparedIs (compared (fileIn src entry₀) (fileIn src k) w)) q (f w s) in
+          (λ today retention. ruled-by (some w) p today retention ∙ rw same, g)
 
-    pub ruled-refused : (x : CodeRefusal) → r ≡ Refused x → RulingIs src (ruledAt src entry₀ (c .0)) (NotRuled x)
-    unfolding cleanedBy
-    ruled-refused x q =
-        let (w, p, s) = started src (c .0) (otherWayTo (logOf (filesIn src)) (c .0)) start e h in
-        let d = subst (ComparedIs (compared (fileIn src entry₀) (fileIn src k) w)) q (f w s) in
-        let differ : compared (fileIn src entry₀) (fileIn src k) w ≡ refused (numbered x) = d .0 in
-        (λ today retention. ruled-by (some w) p today retention ∙ rw differ, d .1)
+      pub ruled-refused : (x : CodeRefusal) → r ≡ Refused x → RulingIs src (ruledAt src entry₀ (c .0)) (NotRuled x)
+      unfolding cleanedBy
+      ruled-refused x q =
+          let (w, p, s) = started src (c .0) (otherWayTo (logOf (filesIn src)) (c .0)) start e h in
+          let d = subst (ComparedIs (compared (fileIn src entry₀) (fileIn src k) w)) q (f w s) in
+          let differ : compared (fileIn src entry₀) (fileIn src k) w ≡ refused (numbered x) = d .0 in
+          (λ today retention. ruled-by (some w) p today retention ∙ rw differ, d .1)
 
 -- ---- the bundle
 
@@ -78,11 +86,11 @@ module _ (src : Bytes) where
   unfolding ruled numbered
   ruled-malformed e = (λ today retention. rw e, λ h. omega arith)
 
-  pub opened-some : (fs : List File) → bundle src ≡ some fs → isSome (bundle src) ≡ true
+  pub opened-some : (fs : List File) → bundle src ≡ some fs → IsBundle src
   unfolding isSome
   opened-some fs e = ap isSome e
 
-  module _ (g : isSome (bundle src) ≡ true) where
+  module _ (g : IsBundle src) where
     files : bundle src ≡ some (filesIn src)
     unfolding filesIn isSome filesOr
     files = go (bundle src) g
@@ -113,12 +121,14 @@ module _ (src : Bytes) where
 
         pub ruled-unmarked : m ≡ Unmarked → RulingIs src (ruled src) Nothing
         unfolding ruled cleanedAt
-        ruled-unmarked h today retention = let q : marked (logOf (filesIn src)) ≡ none = unmarked (marked (logOf (filesIn src))) (sym f ∙ h) in rw (files, ← small, e, q)
+        ruled-unmarked h today retention =
+            let q : marked (logOf (filesIn src)) ≡ none = unmarked (marked (logOf (filesIn src))) (sym f ∙ h) in rw (files, ← small, e, q)
 
         module _ (c : Version) (h : m ≡ At c) where
           ruled-marked : (today retention : ℕ) → ruledAt src entry₀ (c .0) today retention ≡ ruled src today retention
           unfolding ruled ruledAt
-          ruled-marked today retention = let q : marked (logOf (filesIn src)) ≡ some (c .0) = mark-at (marked (logOf (filesIn src))) c (sym f ∙ h) in sym (rw (files, ← small, e, q))
+          ruled-marked today retention =
+              let q : marked (logOf (filesIn src)) ≡ some (c .0) = mark-at (marked (logOf (filesIn src))) c (sym f ∙ h) in sym (rw (files, ← small, e, q))
 
           pub ruled-nowhere : startAt (logOf (filesIn src)) (c .0) ≡ none → RulingIs src (ruled src) Nothing
           unfolding ruledAt cleanedAt cleanedBy

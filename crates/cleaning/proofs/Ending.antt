@@ -19,7 +19,7 @@ use Rattle.rules.proofs.Rooms.{zeroed-filled, zeroed-none-filled, leaves-accept
 use Rattle.refusals.specs.Numbered.{numbered}
 use Rattle.refusals.specs.declared.Refusal.{Refusal as CodeRefusal}
 use Rattle.refusals.specs.declared.Refusal.the-variants.{RoomTooShort}
-use Rattle.replay.specs.Answers.{Left}
+use Rattle.log_replay.specs.Answers.{Left}
 use Rattle.cleaning.specs.Naming.{Naming}
 use Rattle.cleaning.specs.Ruled.{ruled}
 use Rattle.cleaning.specs.Answers.{cleanedIs, lent, CleanIs}
@@ -44,7 +44,8 @@ module _ (room one two : Room) where
   unfolding enough namesRoom rowsRoom
   short-two h = and-fails-right (leb 1024 (length room)) (and-fails-right (leb 4096 (length one)) (lt-leb 4096 (length two) h))
 
-  cleaning-long : 1024 ≤ length room → 4096 ≤ length one → 4096 ≤ length two → (src : Bytes) (today retention : ℕ) → cleaning (lent room one two) src today retention ≡ ruled src today retention
+  cleaning-long : 1024 ≤ length room → 4096 ≤ length one → 4096 ≤ length two → (src : Bytes) (today retention : ℕ)
+      → cleaning (lent room one two) src today retention ≡ ruled src today retention
   unfolding cleaning ruled enough namesRoom rowsRoom
   cleaning-long h k l src today retention = rw (le-leb 1024 (length room) h, le-leb 4096 (length one) k, le-leb 4096 (length two) l)
 
@@ -82,19 +83,28 @@ module _ (src : Bytes) (today retention : ℕ) (room one two : Room) where
   pub clean-two-short : length two < 4096 → CleanIs src today retention room room one one two two (Refused RoomTooShort)
   clean-two-short h = untouched (short-two room one two h)
 
-  module _ (h : 1024 ≤ length room) (k : 4096 ≤ length one) (l : 4096 ≤ length two) (one₁ two₁ : Room) (v : Left mostLive one one₁) (w : Left mostLive two two₁) (one′ two′ : Room)
+  module _
+      (h : 1024 ≤ length room)
+      (k : 4096 ≤ length one)
+      (l : 4096 ≤ length two)
+      (one₁ two₁ : Room)
+      (v : Left mostLive one one₁)
+      (w : Left mostLive two two₁)
+      (one′ two′ : Room)
       (a : one′ ≡ zeroed 0 4096 one₁) (b : two′ ≡ zeroed 0 4096 two₁) (room′ : Room) where
     long : cleaning (lent room one two) src today retention ≡ ruled src today retention
     long = cleaning-long room one two h k l src today retention
 
     tables : {o : Answer (List ℕ)} → cleaning (lent room one two) src today retention ≡ o → (numberOf o ≡ 1 → ⊥)
-        → (one′ ≡ tableAfterCleaning (cleaning (lent room one two) src today retention) one) × (two′ ≡ tableAfterCleaning (cleaning (lent room one two) src today retention) two)
+        → (one′ ≡ tableAfterCleaning (cleaning (lent room one two) src today retention) one)
+        × (two′ ≡ tableAfterCleaning (cleaning (lent room one two) src today retention) two)
     tables {o} e n = (
       a ∙ table-zeros o one one₁ n k v ∙ sym (ap (λ (x : Answer (List ℕ)). tableAfterCleaning x one) e),
       b ∙ table-zeros o two two₁ n l w ∙ sym (ap (λ (x : Answer (List ℕ)). tableAfterCleaning x two) e),
     )
 
-    pub clean-named : (es : List ℕ) → ruled src today retention ≡ accepted es → (between : Room) (n : ℕ) → Naming es room between n → room′ ≡ zeroed n 1024 between
+    pub clean-named : (es : List ℕ) → ruled src today retention ≡ accepted es → (between : Room) (n : ℕ) → Naming es room between n
+        → room′ ≡ zeroed n 1024 between
         → CleanIs src today retention room room′ one one′ two two′ (Named n)
     unfolding cleanedIs counted namesAfterCleaning namesRoom numberOf
     clean-named es e between n g z =
@@ -108,7 +118,8 @@ module _ (src : Bytes) (today retention : ℕ) (room one two : Room) where
           second = t .1;
         }
 
-    pub clean-nothing : ruled src today retention ≡ accepted [] → room′ ≡ zeroed 0 1024 room → CleanIs src today retention room room′ one one′ two two′ (Named 0)
+    pub clean-nothing : ruled src today retention ≡ accepted [] → room′ ≡ zeroed 0 1024 room
+        → CleanIs src today retention room room′ one one′ two two′ (Named 0)
     clean-nothing e z = clean-named [] e room 0 (record { count = refl; few = omega arith; front = refl; beyond = refl; same = refl }) z
 
     pub clean-refused : (x : CodeRefusal) → ruled src today retention ≡ refused (numbered x) → (numbered x .number ≡ 1 → ⊥) → room′ ≡ zeroed 0 1024 room
@@ -117,9 +128,10 @@ module _ (src : Bytes) (today retention : ℕ) (room one two : Room) where
     clean-refused x e n z =
         let q = long ∙ e in
         let t = tables q n in
+        let w = z ∙ zeroed-none-filled 1024 room room h refl in
         record {
           answer = sym (ap counted q);
-          names = z ∙ zeroed-none-filled 1024 room room h refl ∙ sym (ap (λ (y : Answer (List ℕ)). namesAfterCleaning y room) q ∙ leaves-zeros 1024 (λ es. es) room (numbered x) n);
+          names = w ∙ sym (ap (λ (y : Answer (List ℕ)). namesAfterCleaning y room) q ∙ leaves-zeros 1024 (λ es. es) room (numbered x) n);
           first = t .0;
           second = t .1;
         }

@@ -8,19 +8,19 @@ use native.Mathlib.Omega.{arith}
 use lib.ListN.{length, take, drop, getD, set, length-set, drop-of-length-le}
 use lib.Seq.{length-take-le, drop-set-lt}
 use Rattle.facts.proofs.Lists.{drop-here, take-set-here}
-use Rattle.rules.specs.Bytes.{Bytes, keepIf}
-use Rattle.rules.specs.Bundle.{File, mostEntries, bundle}
+use Rattle.rules.specs.Bytes.{Bytes, keepIf, isSome}
+use Rattle.rules.specs.Bundle.{File, mostEntries, bundle, IsBundle}
 use Rattle.rules.specs.Rooms.{Room}
 use Rattle.rules.specs.Cleaning.{mayGo, named}
 use Rattle.rules.proofs.Tests.{true-not-false}
 use Rattle.rules.proofs.Bundles.{bundle-sound}
-use Rattle.bundle.specs.Files.{isSome, filesOr, filesIn, fileIn, noFile}
-use Rattle.bundle.proofs.Reading.{found}
+use Rattle.file_bundle.specs.Files.{filesOr, filesIn, fileIn, noFile}
+use Rattle.file_bundle.proofs.Reading.{found}
 use Rattle.cleaning.specs.Naming.{Naming}
 
 -- ---- the files
 
-pub files-few : (src : Bytes) → isSome (bundle src) ≡ true → length (filesIn src) ≤ 1024
+pub files-few : (src : Bytes) → IsBundle src → length (filesIn src) ≤ 1024
 unfolding filesIn isSome filesOr mostEntries
 files-few src g = go (bundle src) refl g
   where
@@ -52,7 +52,7 @@ module _ (c today retention : ℕ) (src : Bytes) (room : Room) where
   pub going-start : Going c today retention src room room 0 0
   going-start = record { upto = omega arith; few = omega arith; same = refl; beyond = refl; rest = refl }
 
-  module _ (w : isSome (bundle src) ≡ true) (long : 1024 ≤ length room) (names : Room) (k n : ℕ) (g : Going c today retention src room names k n) where
+  module _ (w : IsBundle src) (long : 1024 ≤ length room) (names : Room) (k n : ℕ) (g : Going c today retention src room names k n) where
     going-room : n ≤ length names
     going-room = omega (arith, g .upto, g .few, g .same, files-few src w)
 
@@ -60,7 +60,8 @@ module _ (c today retention : ℕ) (src : Bytes) (room : Room) where
     unfolding named
     going-end h =
         let front : take n names ≡ named c today retention (filesIn src) =
-        sym (append-nil (take n names)) ∙ ap (λ (fs : List File). take n names ++ named c today retention fs) (sym (drop-of-length-le (filesIn src) {i = k} h)) ∙ g .rest in
+        sym (append-nil (take n names))
+        ∙ ap (λ (fs : List File). take n names ++ named c today retention fs) (sym (drop-of-length-le (filesIn src) {i = k} h)) ∙ g .rest in
         record {
           count = sym (ap length front) ∙ length-take-le n names going-room;
           few = omega (arith, g .upto, g .few, files-few src w);
@@ -84,7 +85,9 @@ module _ (c today retention : ℕ) (src : Bytes) (room : Room) where
             ap (λ (xs : List ℕ). xs ++ named c today retention (drop (k + 1) (filesIn src))) (take-set-here names n k going-place)
             ∙ append-assoc (take n names) (k ∷ []) (named c today retention (drop (k + 1) (filesIn src)))
             ∙ ap (λ (e : ℕ). take n names ++ (e ∷ named c today retention (drop (k + 1) (filesIn src)))) (sym (found src k h .file .number))
-            ∙ ap (λ (xs : List ℕ). take n names ++ xs) (sym (ap (named c today retention) (drop-here (filesIn src) k noFile h) ∙ named-here c today retention (getD (filesIn src) k noFile) (drop (k + 1) (filesIn src)) e))
+            ∙ ap (λ (xs : List ℕ). take n names ++ xs)
+            (sym (ap (named c today retention) (drop-here (filesIn src) k noFile h)
+            ∙ named-here c today retention (getD (filesIn src) k noFile) (drop (k + 1) (filesIn src)) e))
             ∙ g .rest;
       }
 
@@ -96,6 +99,9 @@ module _ (c today retention : ℕ) (src : Bytes) (room : Room) where
         same = g .same;
         beyond = g .beyond;
         rest =
-            ap (λ (xs : List ℕ). take n names ++ xs) (sym (ap (named c today retention) (drop-here (filesIn src) k noFile h) ∙ named-past c today retention (getD (filesIn src) k noFile) (drop (k + 1) (filesIn src)) e))
+            ap
+            (λ (xs : List ℕ). take n names ++ xs)
+            (sym (ap (named c today retention) (drop-here (filesIn src) k noFile h)
+            ∙ named-past c today retention (getD (filesIn src) k noFile) (drop (k + 1) (filesIn src)) e))
             ∙ g .rest;
       }

@@ -14,22 +14,22 @@ use Rattle.rules.specs.Gate.{gate, writable}
 use Rattle.rules.specs.Agreement.{agree}
 use Rattle.rules.specs.Cleaning.{compared}
 use Rattle.rules.specs.Refusals.{Refusal, Answer, accepted, refused, _>>=_, notWritable, checkpointDisagrees}
-use Rattle.bundle.specs.Files.{fileIn}
+use Rattle.file_bundle.specs.Files.{fileIn}
 use Rattle.refusals.specs.Numbered.{numbered}
-use Rattle.refusals.specs.declared.Refusal.the-variants.{Malformed as MalformedLine, TooManyLive, ReaderTooHigh, UnknownFeature, NotWritable, CheckpointDisagrees}
-use Rattle.starts.specs.declared.Start.{Start}
-use Rattle.replay.specs.Views.{protocolAt, stateOf, Carries}
-use Rattle.replay.specs.Answers.{Left, OutcomeIs, ZeroIs, Renewed}
-use Rattle.replay.specs.declared.State.{State}
-use Rattle.replay.specs.declared.Outcome.{Outcome}
-use Rattle.replay.specs.declared.Outcome.the-variants.{Done, Malformed, TooMany}
-use Rattle.replay.specs.declared.begin.Zero.{Zero}
-use Rattle.replay.specs.declared.begin.Zero.the-variants.{Says, Malformed as NoZero}
-use Rattle.gate.specs.Judged.{Passes, VerdictIs}
-use Rattle.gate.specs.declared.Numbers.{Numbers}
-use Rattle.gate.specs.declared.Verdict.{Verdict}
-use Rattle.gate.specs.declared.Verdict.the-variants.{TooHigh, Unknown, Passed}
-use Rattle.history.specs.Ends.{Reaches, FollowIs}
+use Rattle.refusals.specs.declared.Refusal.{Refusal as CodeRefusal}
+use Rattle.refusals.specs.declared.Refusal.the-variants.{ReaderTooHigh, UnknownFeature, NotWritable, CheckpointDisagrees}
+use Rattle.log_starts.specs.declared.Start.{Start}
+use Rattle.log_replay.specs.Views.{protocolAt, stateOf, Carries}
+use Rattle.log_replay.specs.Answers.{Left, OutcomeIs, ZeroIs, Renewed}
+use Rattle.log_replay.specs.declared.State.{State}
+use Rattle.log_replay.specs.declared.Outcome.{Outcome}
+use Rattle.log_replay.specs.declared.Outcome.the-variants.{Done, Refused as NotRead}
+use Rattle.log_gate.specs.Judged.{Passes, VerdictIs}
+use Rattle.log_gate.specs.declared.Numbers.{Numbers}
+use Rattle.log_gate.specs.declared.Verdict.{Verdict}
+use Rattle.log_gate.specs.declared.Verdict.the-variants.{TooHigh, Unknown, Passed}
+use Rattle.log_history.specs.Ends.{Reaches, FollowIs}
+use Rattle.rules.proofs.Later.{Later, later-readFile, later-follow, later-readZero}
 use Rattle.cleaning.specs.Ruled.{weighing, ComparedIs, WithIs, CompareIs}
 use Rattle.cleaning.specs.declared.comparing.Compared.{Compared}
 use Rattle.cleaning.specs.declared.comparing.Compared.the-variants.{Agree, Refused}
@@ -60,11 +60,17 @@ module _ (src : Bytes) (mine theirs : State) (one two : List ℕ) (v : Verdict) 
 
   pub weigh-high : v ≡ TooHigh → Weighed (Refused ReaderTooHigh)
   unfolding stateOf numbered
-  weigh-high e = (weighing-refused (stateOf src mine one) (stateOf src theirs two) (subst (VerdictIs (orUnstated (protocolAt src (mine .protocol)))) e g), λ h. omega arith)
+  weigh-high e = (
+    weighing-refused (stateOf src mine one) (stateOf src theirs two) (subst (VerdictIs (orUnstated (protocolAt src (mine .protocol)))) e g),
+    λ h. omega arith,
+  )
 
   pub weigh-unknown : v ≡ Unknown → Weighed (Refused UnknownFeature)
   unfolding stateOf numbered
-  weigh-unknown e = (weighing-refused (stateOf src mine one) (stateOf src theirs two) (subst (VerdictIs (orUnstated (protocolAt src (mine .protocol)))) e g), λ h. omega arith)
+  weigh-unknown e = (
+    weighing-refused (stateOf src mine one) (stateOf src theirs two) (subst (VerdictIs (orUnstated (protocolAt src (mine .protocol)))) e g),
+    λ h. omega arith,
+  )
 
   module _ (n : Numbers) (e : v ≡ Passed n) where
     passes : Passes (orUnstated (protocolAt src (mine .protocol))) n
@@ -85,35 +91,41 @@ module _ (src : Bytes) (mine theirs : State) (one two : List ℕ) (v : Verdict) 
 
 -- ---- the other start's way
 
-module _ (src : Bytes) (z : State) (start : Start) (c : ℕ) (mine : State) (one two two′ : List ℕ) (reach : Reaches src c start) (out : Outcome) (f : FollowIs src mostLive c z start two two′ out) where
-  weighed : rState → Answer (Unit {0})
-  weighed theirs = weighing (stateOf src mine one) theirs
+module _
+    (src : Bytes)
+    (z : State)
+    (start : Start)
+    (c : ℕ)
+    (mine : State)
+    (one two two′ : List ℕ)
+    (reach : Reaches src c start)
+    (out : Outcome)
+    (f : FollowIs src mostLive c z start two two′ out)
+  where
+    weighed : rState → Answer (Unit {0})
+    weighed theirs = weighing (stateOf src mine one) theirs
 
-  pub with-carries : (theirs : State) → out ≡ Done theirs → Carries src mostLive theirs two′
-  with-carries theirs e = subst (OutcomeIs src mostLive (follow mostLive (stateOf src z two) (reach .0)) two two′) e (f (reach .0) (reach .1)) .1 .carries
+    pub with-carries : (theirs : State) → out ≡ Done theirs → Carries src mostLive theirs two′
+    with-carries theirs e = subst (OutcomeIs src mostLive (follow mostLive (stateOf src z two) (reach .0)) two two′) e (f (reach .0) (reach .1)) .1 .carries
 
-  pub with-done : (theirs : State) → out ≡ Done theirs → (r : Compared) → ComparedIs (weighing (stateOf src mine one) (stateOf src theirs two′)) r → WithIs src z start c mine one two two′ r
-  unfolding weighed
-  with-done theirs e r h = (
-    λ w s.
-        let d = subst (OutcomeIs src mostLive (follow mostLive (stateOf src z two) w) two two′) e (f w s) in
-        subst (λ (o : Answer (Unit {0})). ComparedIs o r) (sym (ap (λ (o : Answer rState). o >>= weighed) (d .0))) h,
-    subst (OutcomeIs src mostLive (follow mostLive (stateOf src z two) (reach .0)) two two′) e (f (reach .0) (reach .1)) .1 .left,
-  )
+    pub with-done : (theirs : State) → out ≡ Done theirs → (r : Compared) → ComparedIs (weighing (stateOf src mine one) (stateOf src theirs two′)) r
+        → WithIs src z start c mine one two two′ r
+    unfolding weighed
+    with-done theirs e r h = (
+      λ w s.
+          let d = subst (OutcomeIs src mostLive (follow mostLive (stateOf src z two) w) two two′) e (f w s) in
+          subst (λ (o : Answer (Unit {0})). ComparedIs o r) (sym (ap (λ (o : Answer rState). o >>= weighed) (d .0))) h,
+      subst (OutcomeIs src mostLive (follow mostLive (stateOf src z two) (reach .0)) two two′) e (f (reach .0) (reach .1)) .1 .left,
+    )
 
-  pub with-malformed : (n l : ℕ) → out ≡ Malformed n l → WithIs src z start c mine one two two′ (Refused (MalformedLine n l))
-  unfolding weighed numbered
-  with-malformed n l e = (
-    λ w s. (ap (λ (o : Answer rState). o >>= weighed) (subst (OutcomeIs src mostLive (follow mostLive (stateOf src z two) w) two two′) e (f w s) .0), λ h. omega arith),
-    subst (OutcomeIs src mostLive (follow mostLive (stateOf src z two) (reach .0)) two two′) e (f (reach .0) (reach .1)) .1,
-  )
-
-  pub with-many : (n l : ℕ) → out ≡ TooMany n l → WithIs src z start c mine one two two′ (Refused (TooManyLive n l))
-  unfolding weighed numbered
-  with-many n l e = (
-    λ w s. (ap (λ (o : Answer rState). o >>= weighed) (subst (OutcomeIs src mostLive (follow mostLive (stateOf src z two) w) two two′) e (f w s) .0), λ h. omega arith),
-    subst (OutcomeIs src mostLive (follow mostLive (stateOf src z two) (reach .0)) two two′) e (f (reach .0) (reach .1)) .1,
-  )
+    pub with-refused : (x : CodeRefusal) → out ≡ NotRead x → WithIs src z start c mine one two two′ (Refused x)
+    unfolding weighed Later
+    with-refused x e = (
+      λ w s.
+          let d = subst (OutcomeIs src mostLive (follow mostLive (stateOf src z two) w) two two′) e (f w s) in
+          (ap (λ (o : Answer rState). o >>= weighed) (d .0), subst Later (d .0) (later-follow mostLive (stateOf src z two) w)),
+      subst (OutcomeIs src mostLive (follow mostLive (stateOf src z two) (reach .0)) two two′) e (f (reach .0) (reach .1)) .1,
+    )
 
 -- ---- version 0, then the checkpoint, then the way
 
@@ -127,32 +139,34 @@ module _ (zf f : File) (w : Way) where
     unfolding compared
     compared-mine g = rw (e, g)
 
-    compared-with : {mine : rState} → readFile mostLive f (nothingLive (z .table)) ≡ accepted mine → compared zf f w ≡ (follow mostLive z w >>= (λ theirs. weighing mine theirs))
+    compared-with : {mine : rState} → readFile mostLive f (nothingLive (z .table)) ≡ accepted mine
+        → compared zf f w ≡ (follow mostLive z w >>= (λ theirs. weighing mine theirs))
     unfolding compared weighing
     compared-with g = rw (e, g)
 
 module _ (src : Bytes) (entry₀ k : ℕ) (start : Start) (c : ℕ) where
-  pub compare-zero : (n l : ℕ) (r : Zero) → r ≡ NoZero n l → ZeroIs src (readZero (fileIn src entry₀)) r → CompareIs src entry₀ k start c (Refused (MalformedLine n l))
-  unfolding numbered
-  compare-zero n l r e d w s = (compared-zero (fileIn src entry₀) (fileIn src k) w (subst (ZeroIs src (readZero (fileIn src entry₀))) e d), λ h. omega arith)
+  pub compare-zero : (x : CodeRefusal) (r : Outcome) → r ≡ NotRead x → ZeroIs src (readZero (fileIn src entry₀)) r → CompareIs src entry₀ k start c (Refused x)
+  unfolding Later
+  compare-zero x r e d w s =
+      let q : readZero (fileIn src entry₀) ≡ refused (numbered x) = subst (ZeroIs src (readZero (fileIn src entry₀))) e d in
+      (compared-zero (fileIn src entry₀) (fileIn src k) w q, subst Later q (later-readZero (fileIn src entry₀)))
 
-  module _ (z : State) (d : ZeroIs src (readZero (fileIn src entry₀)) (Says z)) (empty : State) (n : Renewed z empty) (one one′ two : List ℕ) (out : Outcome)
+  module _ (z : State) (d : ZeroIs src (readZero (fileIn src entry₀)) (Done z)) (empty : State) (n : Renewed z empty) (one one′ two : List ℕ) (out : Outcome)
       (f : OutcomeIs src mostLive (readFile mostLive (fileIn src k) (stateOf src empty one)) one one′ out) where
     begun : readFile mostLive (fileIn src k) (nothingLive (stateOf src z two .table)) ≡ readFile mostLive (fileIn src k) (stateOf src empty one)
     unfolding stateOf
     begun = ap (readFile mostLive (fileIn src k)) (sym (n .0 src one))
 
-    pub compare-malformed : (m l : ℕ) → out ≡ Malformed m l → CompareIs src entry₀ k start c (Refused (MalformedLine m l)) × Left mostLive one one′
-    unfolding numbered
-    compare-malformed m l e =
-        let p = subst (OutcomeIs src mostLive (readFile mostLive (fileIn src k) (stateOf src empty one)) one one′) e f in
-        (λ w s. (compared-mine (fileIn src entry₀) (fileIn src k) w (stateOf src z two) (d .0 two) (begun ∙ p .0), λ h. omega arith), p .1)
-
-    pub compare-many : (m l : ℕ) → out ≡ TooMany m l → CompareIs src entry₀ k start c (Refused (TooManyLive m l)) × Left mostLive one one′
-    unfolding numbered
-    compare-many m l e =
-        let p = subst (OutcomeIs src mostLive (readFile mostLive (fileIn src k) (stateOf src empty one)) one one′) e f in
-        (λ w s. (compared-mine (fileIn src entry₀) (fileIn src k) w (stateOf src z two) (d .0 two) (begun ∙ p .0), λ h. omega arith), p .1)
+    pub compare-refused : (x : CodeRefusal) → out ≡ NotRead x → CompareIs src entry₀ k start c (Refused x) × Left mostLive one one′
+    unfolding Later
+    compare-refused x e =
+        let p = subst (OutcomeIs src mostLive (readFile mostLive (fileIn src k) (stateOf src empty one)) one one′) e f in (
+          λ w s. (
+            compared-mine (fileIn src entry₀) (fileIn src k) w (stateOf src z two) (d .0 two) (begun ∙ p .0),
+            subst Later (p .0) (later-readFile mostLive (fileIn src k) (stateOf src empty one)),
+          ),
+          p .1,
+        )
 
     pub compare-carries : (mine : State) → out ≡ Done mine → Carries src mostLive mine one′
     compare-carries mine e = subst (OutcomeIs src mostLive (readFile mostLive (fileIn src k) (stateOf src empty one)) one one′) e f .1 .carries
@@ -161,7 +175,10 @@ module _ (src : Bytes) (entry₀ k : ℕ) (start : Start) (c : ℕ) where
         → CompareIs src entry₀ k start c r × Left mostLive one one′ × Left mostLive two two′
     compare-done mine e two′ r h =
         let p = subst (OutcomeIs src mostLive (readFile mostLive (fileIn src k) (stateOf src empty one)) one one′) e f in (
-          λ w s. subst (λ (o : Answer (Unit {0})). ComparedIs o r) (sym (compared-with (fileIn src entry₀) (fileIn src k) w (stateOf src z two) (d .0 two) (begun ∙ p .0))) (h .0 w s),
+          λ w s. subst
+              (λ (o : Answer (Unit {0})). ComparedIs o r)
+              (sym (compared-with (fileIn src entry₀) (fileIn src k) w (stateOf src z two) (d .0 two) (begun ∙ p .0)))
+              (h .0 w s),
           p .1 .left,
           h .1,
         )

@@ -5,7 +5,7 @@ use mathlib.Core.Option.{some}
 use mathlib.Core.List.{List, []}
 use Prim.Native.Nat.{ℕ}
 use Rattle.rules.specs.Bytes.{Bytes}
-use Rattle.rules.specs.Bundle.{bundle}
+use Rattle.rules.specs.Bundle.{bundle, IsBundle}
 use Rattle.rules.specs.Names.{anyTooLarge}
 use Rattle.rules.specs.Live.{mostLive}
 use Rattle.rules.specs.History.{State as rState}
@@ -14,15 +14,16 @@ use Rattle.rules.specs.Marker.{marked}
 use Rattle.rules.specs.Gate.{gate, writable}
 use Rattle.rules.specs.Agreement.{agree}
 use Rattle.rules.specs.Cleaning.{named, compared, cleanedAt}
-use Rattle.rules.specs.Refusals.{Answer, accepted, refused, _>>=_, orRefuse, require, bundleMalformed, versionTooLarge, noVersionZero, notWritable, checkpointDisagrees}
-use Rattle.bundle.specs.Files.{isSome, filesIn, fileIn}
+use Rattle.rules.specs.Refusals.{Answer, accepted, refused, _>>=_, orRefuse, require, bundleMalformed}
+use Rattle.rules.specs.Refusals.{versionTooLarge, noVersionZero, notWritable, checkpointDisagrees}
+use Rattle.file_bundle.specs.Files.{filesIn, fileIn}
 use Rattle.refusals.specs.Numbered.{numbered}
-use Rattle.starts.specs.Ways.{StartIs}
-use Rattle.starts.specs.declared.Start.{Start}
-use Rattle.starts.specs.declared.Start.the-variants.{Zero, Checkpoint, NoStart}
-use Rattle.replay.specs.Views.{stateOf}
-use Rattle.replay.specs.Answers.{Left}
-use Rattle.replay.specs.declared.State.{State}
+use Rattle.log_starts.specs.Ways.{StartIs}
+use Rattle.log_starts.specs.declared.Start.{Start}
+use Rattle.log_starts.specs.declared.Start.the-variants.{Zero, Checkpoint, NoStart}
+use Rattle.log_replay.specs.Views.{stateOf}
+use Rattle.log_replay.specs.Answers.{Left}
+use Rattle.log_replay.specs.declared.State.{State}
 use Rattle.cleaning.specs.declared.comparing.Compared.{Compared}
 use Rattle.cleaning.specs.declared.comparing.Compared.the-variants.{Agree, Refused}
 use Rattle.cleaning.specs.declared.comparing.Ruling.{Ruling}
@@ -45,7 +46,8 @@ ComparedIs o (Refused x) = (o ≡ refused (numbered x)) × (numbered x .number �
 -- of the way from a start to c, where version 0 gave z, weighed against the state `mine`
 abbrev pub WithIs : Bytes → State → Start → (c : ℕ) → State → (one two two′ : List ℕ) → Compared → Type 0
 WithIs src z start c mine one two two′ r =
-    ((w : Way) → StartIs src c (some w) start → ComparedIs (follow mostLive (stateOf src z two) w >>= (λ theirs. weighing (stateOf src mine one) theirs)) r) × Left mostLive two two′
+    ((w : Way) → StartIs src c (some w) start → ComparedIs (follow mostLive (stateOf src z two) w >>= (λ theirs. weighing (stateOf src mine one) theirs)) r)
+    × Left mostLive two two′
 
 -- of version 0, the checkpoint, and the way from a start to c
 abbrev pub CompareIs : Bytes → (entry₀ k : ℕ) → Start → (c : ℕ) → Compared → Type 0
@@ -75,6 +77,6 @@ ruled src today retention = do
   cleanedAt (marked (logOf fs)) zf today retention fs
 
 abbrev pub RulingIs : Bytes → Asked → Ruling → Type 0
-RulingIs src o (Before c) = ((today retention : ℕ) → o today retention ≡ accepted (named (c .0) today retention (filesIn src))) × (isSome (bundle src) ≡ true)
+RulingIs src o (Before c) = ((today retention : ℕ) → o today retention ≡ accepted (named (c .0) today retention (filesIn src))) × IsBundle src
 RulingIs src o Nothing = (today retention : ℕ) → o today retention ≡ accepted []
 RulingIs src o (NotRuled x) = ((today retention : ℕ) → o today retention ≡ refused (numbered x)) × (numbered x .number ≡ 1 → ⊥)

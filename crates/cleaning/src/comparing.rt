@@ -1,33 +1,30 @@
 // Whether the version files before the marker's checkpoint may go: the checkpoint is read into one table, the way of the
 // highest other start into another, and the two states are compared.
-use bundle::Opened;
-use gate::Verdict;
-use logs::Place;
-use names::Version;
+use file_bundle::Opened;
+use file_names::Version;
+use log_files::Place;
+use log_gate::Verdict;
+use log_replay::Outcome;
+use log_replay::State;
+use log_starts::Mark;
+use log_starts::Start;
 use refusals::Refusal;
-use replay::Outcome;
-use replay::State;
-use replay::Zero;
-use starts::Mark;
-use starts::Start;
+use rooms::MOST_LIVE;
 ghost use mathlib.Core.Path.{_≡_};
 ghost use mathlib.Core.Bool.{true};
 ghost use Prim.Native.Nat.{_<_};
 ghost use lib.ListN.{length};
-ghost use Rattle.rules.specs.Bundle.{bundle as rBundle};
+ghost use Rattle.rules.specs.Bundle.{IsBundle};
 ghost use Rattle.rules.specs.Live.{mostLive};
 ghost use Rattle.rules.specs.Starts.{logOf, startAt};
-ghost use Rattle.bundle.specs.Files.{isSome, filesIn};
-ghost use Rattle.logs.specs.Logs.{PlaceIs};
-ghost use Rattle.logs.specs.declared.Place.the-variants.{At};
-ghost use Rattle.table.specs.Table.{Room};
-ghost use Rattle.replay.specs.Views.{stateOf, Carries};
-ghost use Rattle.replay.specs.Answers.{Left};
-ghost use Rattle.history.specs.Ends.{Reaches};
+ghost use Rattle.file_bundle.specs.Files.{filesIn};
+ghost use Rattle.log_files.specs.Logs.{PlaceIs};
+ghost use Rattle.log_files.specs.declared.Place.the-variants.{At};
+ghost use Rattle.row_table.specs.Table.{Room};
+ghost use Rattle.log_replay.specs.Views.{stateOf, Carries};
+ghost use Rattle.log_replay.specs.Answers.{Left};
+ghost use Rattle.log_history.specs.Ends.{Reaches};
 ghost use Rattle.cleaning.specs.Ruled.{weighing, ComparedIs, WithIs, CompareIs, isStart, ruledAt, ruled, RulingIs};
-
-// More than so many live after a line is refused.
-const MOST_LIVE: usize = 1024;
 
 // ---- two states
 
@@ -43,8 +40,8 @@ fn weigh(src: &[u8], mine: State, one: &[u64], theirs: State, two: &[u64]) -> Co
     ensures { λ r. ⌜ ComparedIs (weighing (stateOf (now (src .entry)) mine (now (one .entry))) (stateOf (now (src .entry)) theirs (now (two .entry)))) r ⌝ }
 {
     let protocol = mine.protocol;
-    let same = agreement::agree(src, mine, one, theirs, two);
-    match gate::judge(src, protocol) {
+    let same = log_agreement::agree(src, mine, one, theirs, two);
+    match log_gate::judge(src, protocol) {
         Verdict::TooHigh => Compared::Refused(Refusal::ReaderTooHigh),
         Verdict::Unknown => Compared::Refused(Refusal::UnknownFeature),
         Verdict::Passed(n) => {
@@ -69,13 +66,12 @@ fn compare_with(
     one: &[u64],
     two: &mut [u64],
 ) -> Compared
-    requires { ⌜ (isSome (rBundle (now src)) ≡ true) × Carries (now src) mostLive z (now two) × Reaches (now src) (c .0) start × Carries (now src) mostLive mine (now one) ⌝ }
+    requires { ⌜ IsBundle (now src) × Carries (now src) mostLive z (now two) × Reaches (now src) (c .0) start × Carries (now src) mostLive mine (now one) ⌝ }
     ensures { λ r. ⌜ WithIs (now (src .entry)) z start (c .0) mine (now (one .entry)) (now (two .entry)) (now (two .exit)) r ⌝ }
 {
-    match history::follow(src, z, start, c, two, MOST_LIVE) {
+    match log_history::follow(src, z, start, c, two, MOST_LIVE) {
         Outcome::Done(theirs) => weigh(src, mine, one, theirs, two),
-        Outcome::Malformed(e, l) => Compared::Refused(Refusal::Malformed(e, l)),
-        Outcome::TooMany(e, l) => Compared::Refused(Refusal::TooManyLive(e, l)),
+        Outcome::Refused(x) => Compared::Refused(x),
     }
 }
 
@@ -90,19 +86,20 @@ fn compare(
     one: &mut [u64],
     two: &mut [u64],
 ) -> Compared
-    requires { ⌜ (isSome (rBundle (now src)) ≡ true) × (zero < length (filesIn (now src))) × (k < length (filesIn (now src))) × Reaches (now src) (c .0) start × Room mostLive (now one) × Room mostLive (now two) ⌝ }
-    ensures { λ r. ⌜ CompareIs (now (src .entry)) zero k start (c .0) r × Left mostLive (now (one .entry)) (now (one .exit)) × Left mostLive (now (two .entry)) (now (two .exit)) ⌝ }
+    requires { ⌜ IsBundle (now src) × (zero < length (filesIn (now src))) × (k < length (filesIn (now src))) × Reaches (now src) (c .0) start
+        × Room mostLive (now one) × Room mostLive (now two) ⌝ }
+    ensures { λ r. ⌜ CompareIs (now (src .entry)) zero k start (c .0) r × Left mostLive (now (one .entry)) (now (one .exit))
+        × Left mostLive (now (two .entry)) (now (two .exit)) ⌝ }
 {
-    match replay::read_zero(src, zero) {
-        Zero::Says(z) => {
-            let empty = replay::nothing_live(z);
-            match replay::read_file(src, k, empty, one, MOST_LIVE) {
+    match log_replay::read_zero(src, zero) {
+        Outcome::Done(z) => {
+            let empty = log_replay::nothing_live(z);
+            match log_replay::read_file(src, k, empty, one, MOST_LIVE) {
                 Outcome::Done(mine) => compare_with(src, z, start, c, mine, one, two),
-                Outcome::Malformed(e, l) => Compared::Refused(Refusal::Malformed(e, l)),
-                Outcome::TooMany(e, l) => Compared::Refused(Refusal::TooManyLive(e, l)),
+                Outcome::Refused(x) => Compared::Refused(x),
             }
         }
-        Zero::Malformed(e, l) => Compared::Refused(Refusal::Malformed(e, l)),
+        Outcome::Refused(x) => Compared::Refused(x),
     }
 }
 
@@ -135,10 +132,12 @@ fn rule_at(
     one: &mut [u64],
     two: &mut [u64],
 ) -> Ruling
-    requires { ⌜ (isSome (rBundle (now src)) ≡ true) × (zero < length (filesIn (now src))) × PlaceIs (now src) (startAt (logOf (filesIn (now src))) (c .0)) (At k) × Room mostLive (now one) × Room mostLive (now two) ⌝ }
-    ensures { λ r. ⌜ RulingIs (now (src .entry)) (ruledAt (now (src .entry)) zero (c .0)) r × Left mostLive (now (one .entry)) (now (one .exit)) × Left mostLive (now (two .entry)) (now (two .exit)) ⌝ }
+    requires { ⌜ IsBundle (now src) × (zero < length (filesIn (now src))) × PlaceIs (now src) (startAt (logOf (filesIn (now src))) (c .0)) (At k)
+        × Room mostLive (now one) × Room mostLive (now two) ⌝ }
+    ensures { λ r. ⌜ RulingIs (now (src .entry)) (ruledAt (now (src .entry)) zero (c .0)) r × Left mostLive (now (one .entry)) (now (one .exit))
+        × Left mostLive (now (two .entry)) (now (two .exit)) ⌝ }
 {
-    let other = starts::other_start_for(src, c);
+    let other = log_starts::other_start_for(src, c);
     if is_start(other) {
         match compare(src, zero, k, other, c, one, two) {
             Compared::Agree => Ruling::Before(c),
@@ -152,21 +151,22 @@ fn rule_at(
 // The ruling on a bundle: refusals 2 to 4; nothing where no marker is usable; then as above.
 pub fn rule(src: &[u8], one: &mut [u64], two: &mut [u64]) -> Ruling
     requires { ⌜ Room mostLive (now one) × Room mostLive (now two) ⌝ }
-    ensures { λ r. ⌜ RulingIs (now (src .entry)) (ruled (now (src .entry))) r × Left mostLive (now (one .entry)) (now (one .exit)) × Left mostLive (now (two .entry)) (now (two .exit)) ⌝ }
+    ensures { λ r. ⌜ RulingIs (now (src .entry)) (ruled (now (src .entry))) r × Left mostLive (now (one .entry)) (now (one .exit))
+        × Left mostLive (now (two .entry)) (now (two .exit)) ⌝ }
 {
-    let Opened::Entries(_) = bundle::open(src) else {
+    let Opened::Entries(_) = file_bundle::open(src) else {
         return Ruling::Refused(Refusal::BundleMalformed);
     };
-    if bundle::any_too_large(src) {
+    if file_bundle::any_too_large(src) {
         return Ruling::Refused(Refusal::VersionTooLarge);
     }
-    let Place::At(zero) = logs::version_file(src, Version(0), 0) else {
+    let Place::At(zero) = log_files::version_file(src, Version(0), 0) else {
         return Ruling::Refused(Refusal::NoVersionZero);
     };
-    let Mark::At(c) = starts::marked(src) else {
+    let Mark::At(c) = log_starts::marked(src) else {
         return Ruling::Nothing;
     };
-    let Place::At(k) = starts::start_at(src, c, 0) else {
+    let Place::At(k) = log_starts::start_at(src, c, 0) else {
         return Ruling::Nothing; // never: the marker is usable
     };
     rule_at(src, zero, k, c, one, two)

@@ -3,26 +3,22 @@ mod comparing;
 
 use comparing::Ruling;
 use comparing::rule;
-use names::Millis;
-use names::Name;
-use names::Version;
+use file_names::Millis;
+use file_names::Name;
+use file_names::Version;
 use refusals::Refusal;
+use rooms::NAMES_ROOM;
+use rooms::ROWS_ROOM;
 ghost use mathlib.Core.Path.{_≡_};
-ghost use mathlib.Core.Bool.{true, _&&_};
+ghost use mathlib.Core.Bool.{_&&_};
 ghost use Prim.Native.Nat.{_≤_, _<_};
 ghost use lib.Dec.{ltb};
 ghost use lib.ListN.{length};
-ghost use Rattle.rules.specs.Bundle.{bundle as rBundle};
+ghost use Rattle.rules.specs.Bundle.{IsBundle};
 ghost use Rattle.rules.specs.Cleaning.{isOld, mayGo, named};
-ghost use Rattle.bundle.specs.Files.{isSome, filesIn, fileIn};
+ghost use Rattle.file_bundle.specs.Files.{filesIn, fileIn};
 ghost use Rattle.cleaning.specs.Naming.{Naming};
 ghost use Rattle.cleaning.specs.Answers.{CleanIs};
-
-// A room for the names of entries has so many numbers at least.
-const NAMES_ROOM: usize = 1024;
-
-// A table of rows has so many numbers at least.
-const ROWS_ROOM: usize = 4096;
 
 // ---- the files that may go
 
@@ -51,8 +47,8 @@ fn may_go(src: &[u8], k: usize, c: Version, today: Millis, retention: Millis) ->
     requires { ⌜ k < length (filesIn (now src)) ⌝ }
     ensures { λ r. ⌜ r ≡ mayGo (c .0) (today .0) (retention .0) (fileIn (now (src .entry)) k) ⌝ }
 {
-    let e = bundle::entry_at(src, k);
-    match bundle::kind(src, k) {
+    let e = file_bundle::entry_at(src, k);
+    match file_bundle::kind(src, k) {
         Name::VersionFile(w) => {
             if is_between(w, c) {
                 let modified = e.time;
@@ -69,10 +65,10 @@ fn may_go(src: &[u8], k: usize, c: Version, today: Millis, retention: Millis) ->
 
 // The numbers of the files before c that may go, ascending, in front of the room. Answers how many there are.
 fn name_old(src: &[u8], c: Version, today: Millis, retention: Millis, names: &mut [u32]) -> usize
-    requires { ⌜ (isSome (rBundle (now src)) ≡ true) × (1024 ≤ length (now names)) ⌝ }
+    requires { ⌜ IsBundle (now src) × (1024 ≤ length (now names)) ⌝ }
     ensures { λ r. ⌜ Naming (named (c .0) (today .0) (retention .0) (filesIn (now (src .entry)))) (now (names .entry)) (now (names .exit)) r ⌝ }
 {
-    let count = logs::count(src);
+    let count = log_files::count(src);
     let mut k = 0;
     let mut n = 0;
     while k < count {
@@ -105,7 +101,17 @@ pub fn clean(
     one: &mut [u64],
     two: &mut [u64],
 ) -> Cleaned
-    ensures { λ r. ⌜ CleanIs (now (src .entry)) (today .0) (retention .0) (now (names .entry)) (now (names .exit)) (now (one .entry)) (now (one .exit)) (now (two .entry)) (now (two .exit)) r ⌝ }
+    ensures { λ r. ⌜ CleanIs
+        (now (src .entry))
+        (today .0)
+        (retention .0)
+        (now (names .entry))
+        (now (names .exit))
+        (now (one .entry))
+        (now (one .exit))
+        (now (two .entry))
+        (now (two .exit))
+        r ⌝ }
 {
     if names.len() < NAMES_ROOM {
         return Cleaned::Refused(Refusal::RoomTooShort);
@@ -117,20 +123,20 @@ pub fn clean(
         return Cleaned::Refused(Refusal::RoomTooShort);
     }
     let ruling = rule(src, one, two);
-    table::zero(one, 0, ROWS_ROOM);
-    table::zero(two, 0, ROWS_ROOM);
+    rooms::zero(one, 0, ROWS_ROOM);
+    rooms::zero(two, 0, ROWS_ROOM);
     match ruling {
         Ruling::Before(c) => {
             let n = name_old(src, c, today, retention, names);
-            table::zero_u32(names, n, NAMES_ROOM);
+            rooms::zero_u32(names, n, NAMES_ROOM);
             Cleaned::Named(n)
         }
         Ruling::Nothing => {
-            table::zero_u32(names, 0, NAMES_ROOM);
+            rooms::zero_u32(names, 0, NAMES_ROOM);
             Cleaned::Named(0)
         }
         Ruling::Refused(x) => {
-            table::zero_u32(names, 0, NAMES_ROOM);
+            rooms::zero_u32(names, 0, NAMES_ROOM);
             Cleaned::Refused(x)
         }
     }

@@ -15,7 +15,7 @@ use Rattle.rules.specs.Numbers.{little}
 use Rattle.rules.specs.Bundle.{Entry, File, mostBytes, mostEntries, entryBytes, field, entryOf, entries, ascending, filesFrom, filesOf, bundle}
 use Rattle.rules.specs.Keyed.{Ascends}
 use Rattle.rules.specs.Samples.{littleOf}
-use Rattle.rules.proofs.Order.{le-among}
+use Rattle.rules.proofs.Ranges.{among-within}
 use Rattle.demands.specs.Removed.{AreBytes, RemovalKeepsABundle}
 use Rattle.demands.proofs.LittleEndian.{length-littleOf, little-littleOf, littleOf-bytes, fits-4}
 use Rattle.demands.proofs.KeptFiles.{Kept, Fit, Of, no-more, of, bodies, keptPadded, source, some-all, some-ascends, some-fewer, left, same-files}
@@ -164,7 +164,7 @@ module _ (xs : List Kept) (h : All Fit xs) (up : Ascends keptPadded xs) (few : l
       let size = length-written in
       let es : entries (length xs) (drop 4 (written xs)) ≡ entriesFrom (first xs) xs =
       ap (entries (length xs)) behind-count ∙ entries-written (first xs) xs (bodies xs) h (omega arith) in
-      let sized = le-among 4 1_048_576 (length (written xs)) (omega arith) (omega arith) in
+      let sized = among-within 4 1_048_576 (length (written xs)) (omega arith) (omega arith) in
       let within = le-leb (first xs) (length (written xs)) (omega arith) in
       let up-there = ascending-written (first xs) xs up in
       rw (bundle, sized, written-count, le-leb (length xs) 1_024 few, within, es, up-there, behind-contents) (files-read 0 (first xs) xs h)

@@ -15,7 +15,8 @@ use Rattle.rules.specs.Manifests.{Bounds, Manifest, outsideAs, bothThere, dropp
 use Rattle.rules.specs.Manifests as Rules
 use Rattle.rules.proofs.Tests.{apart, true-not-false, true-of}
 use Rattle.rules.proofs.Dropping.{outsideTexts-true, excludes-outsideTexts, outsideNumbers-true, excludes-outsideNumbers}
-use Rattle.demands.specs.Choosing.{MeetsAs, Meets, MeetsEvery, Picks, no-more, picks, passes, PicksExactly, ExcludesAs, boundsAt, Drops, Dropped, Keeps, keeps, drops, KeepsExactly, WritableExactly}
+use Rattle.demands.specs.Choosing.{MeetsAs, Meets, MeetsEvery, Picks, no-more, picks, passes, PicksExactly, ExcludesAs}
+use Rattle.demands.specs.Choosing.{boundsAt, Drops, Dropped, Keeps, keeps, drops, KeepsExactly, WritableExactly}
 use Rattle.demands.proofs.CleaningWords.{notWritable-false, false-notWritable}
 
 -- ---- picking
@@ -56,7 +57,8 @@ unfolding meetsAll All
 meetsAll-true [] f h = tt
 meetsAll-true (c ∷ cs) f h = go (meetsValue c (valueAt (c .column) (f .partitionValues))) refl h (meetsAll-true cs f)
   where
-    go : (b : Bool) → meetsValue c (valueAt (c .column) (f .partitionValues)) ≡ b → elim b [ true ↦ meetsAll cs f | false ↦ false ] ≡ true → (meetsAll cs f ≡ true → MeetsEvery cs f) → MeetsEvery (c ∷ cs) f
+    go : (b : Bool) → meetsValue c (valueAt (c .column) (f .partitionValues)) ≡ b → elim b [ true ↦ meetsAll cs f | false ↦ false ] ≡ true
+        → (meetsAll cs f ≡ true → MeetsEvery cs f) → MeetsEvery (c ∷ cs) f
     go true e h ih = (meetsValue-true c f e, ih h)
     go false e h ih = apart (cc)
 
@@ -87,9 +89,11 @@ true-outsideAs : (kind : As) (op : Op) (b lo hi : Bytes) → ExcludesAs kind op 
 unfolding outsideAs
 true-outsideAs asText op b lo hi e = excludes-outsideTexts (record { rises = e .rises; none-meets = e .none-meets })
 true-outsideAs asNumber op b lo hi (x, y, z, p, q, r, e) =
-    excludes-outsideNumbers (record { bound = x; min = y; max = z; bound-read = p; min-read = q; max-read = r; excludes = record { rises = e .rises; none-meets = e .none-meets } })
+    excludes-outsideNumbers
+    (record { bound = x; min = y; max = z; bound-read = p; min-read = q; max-read = r; excludes = record { rises = e .rises; none-meets = e .none-meets } })
 
-bothThere-true : (c : Condition) (lo hi : Option Bytes) → bothThere c lo hi ≡ true → (x y : Bytes) × (lo ≡ some x) × (hi ≡ some y) × ExcludesAs (c .kind) (c .op) (c .bound) x y
+bothThere-true : (c : Condition) (lo hi : Option Bytes) → bothThere c lo hi ≡ true
+    → (x y : Bytes) × (lo ≡ some x) × (hi ≡ some y) × ExcludesAs (c .kind) (c .op) (c .bound) x y
 unfolding bothThere
 bothThere-true c none hi h = apart (cc)
 bothThere-true c (some x) none h = apart (cc)
@@ -106,7 +110,8 @@ drops-is c [] = refl
 drops-is c (b ∷ bs) = go (same (c .column) (b .0)) (drops-is c bs)
   where
     go : (t : Bool) → Rules.drops c bs ≡ testAt c (boundsAt (c .column) bs)
-        → elim t [ true ↦ bothThere c (b .1 .min) (b .1 .max) | false ↦ Rules.drops c bs ] ≡ testAt c (elim t as (λ _. Option Bounds) [ true ↦ some (b .1) | false ↦ boundsAt (c .column) bs ])
+        → elim t [ true ↦ bothThere c (b .1 .min) (b .1 .max) | false ↦ Rules.drops c bs ]
+        ≡ testAt c (elim t as (λ _. Option Bounds) [ true ↦ some (b .1) | false ↦ boundsAt (c .column) bs ])
     go true ih = refl
     go false ih = ih
 
@@ -130,7 +135,8 @@ unfolding dropped
 dropped-true [] m h = apart (cc)
 dropped-true (c ∷ cs) m h = go (Rules.drops c (m .bounds)) refl h (dropped-true cs m)
   where
-    go : (b : Bool) → Rules.drops c (m .bounds) ≡ b → elim b [ true ↦ true | false ↦ dropped cs m ] ≡ true → (dropped cs m ≡ true → Dropped cs m) → Dropped (c ∷ cs) m
+    go : (b : Bool) → Rules.drops c (m .bounds) ≡ b → elim b [ true ↦ true | false ↦ dropped cs m ] ≡ true → (dropped cs m ≡ true → Dropped cs m)
+        → Dropped (c ∷ cs) m
     go true e h ih = inl (drops-true c m e)
     go false e h ih = inr (ih h)
 

@@ -4,7 +4,7 @@ use mathlib.Core.Logic.{_⊎_, inl, inr}
 use mathlib.Core.Bool.{Bool, true, false}
 use mathlib.Core.Option.{Option, none, some}
 use mathlib.Core.List.{List, []}
-use Prim.Native.Nat.{ℕ, zero, _-_, _≤_, _<_}
+use Prim.Native.Nat.{ℕ, zero, _≤_, _<_}
 use lib.Dec.{leb}
 use borrow.Author.Tests.{leb-true, leb-false, le-leb, lt-leb}
 use Rattle.rules.specs.Bytes.{Bytes, allAmong}
@@ -18,16 +18,19 @@ use Rattle.rules.specs.Gate.{knownReader, readerNames, gate, writable}
 use Rattle.rules.specs.Agreement.{agree}
 use Rattle.rules.specs.Cleaning.{named, compared, cleanedBy, cleanedAt, Lent, enough, cleaning}
 use Rattle.rules.specs.Same.{SameState}
-use Rattle.rules.specs.Refusals.{Refusal, Answer, accepted, refused, roomTooShort, bundleMalformed, versionTooLarge, noVersionZero, malformed, tooManyLive, readerTooHigh, unknownFeature, notWritable, checkpointDisagrees}
+use Rattle.rules.specs.Refusals.{Refusal, Answer, accepted, refused, roomTooShort, bundleMalformed, versionTooLarge, noVersionZero}
+use Rattle.rules.specs.Refusals.{malformed, tooManyLive, readerTooHigh, unknownFeature, notWritable, checkpointDisagrees}
 use Rattle.rules.proofs.Tests.{true-not-false, false-of, true-of}
 use Rattle.rules.proofs.Agreement.{agree-true, same-agree}
 use Rattle.demands.specs.Reaching.{There}
 use Rattle.demands.specs.Exactly.{SomeTooLarge, Unknown, Readable}
-use Rattle.demands.specs.CleaningExactly.{Enough, NotWritable, NothingToName, Begun, Comparing, MetComparing, in-zero, in-checkpoint, on-way, Compared, CleaningRefusesExactly}
+use Rattle.demands.specs.CleaningExactly.{Enough, NotWritable, NothingToName, Begun, Comparing, MetComparing}
+use Rattle.demands.specs.CleaningExactly.{in-zero, in-checkpoint, on-way, Compared, CleaningRefusesExactly}
 use Rattle.demands.proofs.Upward.{marked-start}
 use Rattle.demands.proofs.FirstMet.{readFile-met, met-readFile}
 use Rattle.demands.proofs.WayMet.{readZero-met, met-readZero, follow-met, met-follow, SixOrSeven, metIn-number, metInZero-number, metOn-number}
-use Rattle.demands.proofs.Words.{anyTooLarge-some, some-anyTooLarge, none-anyTooLarge, allAmong-unknown, unknown-allAmong, known-allAmong, allAmong-known}
+use Rattle.demands.proofs.Words.{anyTooLarge-some, some-anyTooLarge, none-anyTooLarge}
+use Rattle.demands.proofs.Words.{allAmong-unknown, unknown-allAmong, known-allAmong, allAmong-known}
 use Rattle.demands.proofs.CleaningWords.{enough-true, true-enough, notWritable-false, false-notWritable, no-other, some-other}
 
 -- ---- the first line met
@@ -57,11 +60,14 @@ module _ (lent : Lent) (s : Bytes) (now retention : ℕ) where
     six : (e l : ℕ) (c : Comparing lent s) → MetComparing (c .begun .zero) (c .checkpoint) (c .way) (malformed e l) → Says (refused (malformed e l))
     seven : (e l : ℕ) (c : Comparing lent s) → MetComparing (c .begun .zero) (c .checkpoint) (c .way) (tooManyLive e l) → Says (refused (tooManyLive e l))
     high : (c : Compared lent s) → knownReader < c .mine .inForce .minReaderVersion → Says (refused readerTooHigh)
-    unknown : (c : Compared lent s) → c .mine .inForce .minReaderVersion ≤ knownReader → Unknown readerNames (c .mine .inForce .readerFeatures) → Says (refused unknownFeature)
+    unknown : (c : Compared lent s) → c .mine .inForce .minReaderVersion ≤ knownReader → Unknown readerNames (c .mine .inForce .readerFeatures)
+        → Says (refused unknownFeature)
     not-writable : (c : Compared lent s) → Readable (c .mine .inForce) → NotWritable (c .mine .inForce) → Says (refused notWritable)
-    disagrees : (c : Compared lent s) → Readable (c .mine .inForce) → (NotWritable (c .mine .inForce) → ⊥) → (SameState (c .mine) (c .theirs) → ⊥) → Says (refused checkpointDisagrees)
+    disagrees : (c : Compared lent s) → Readable (c .mine .inForce) → (NotWritable (c .mine .inForce) → ⊥) → (SameState (c .mine) (c .theirs) → ⊥)
+        → Says (refused checkpointDisagrees)
     nothing : (b : Begun lent s) → NothingToName (logOf (b .fs)) → Says (accepted [])
-    names : (c : Compared lent s) → Readable (c .mine .inForce) → (NotWritable (c .mine .inForce) → ⊥) → SameState (c .mine) (c .theirs) → Says (accepted (namesOf c))
+    names : (c : Compared lent s) → Readable (c .mine .inForce) → (NotWritable (c .mine .inForce) → ⊥) → SameState (c .mine) (c .theirs)
+        → Says (accepted (namesOf c))
 
   -- ---- each gives its answer
 
@@ -70,7 +76,8 @@ module _ (lent : Lent) (s : Bytes) (now retention : ℕ) where
   begun-is b = rw (enough-true lent (b .long), b .bundle-read, none-anyTooLarge (b .fs) (b .none-large), b .zero-there)
 
   -- with a checkpoint and another way the answer is the comparison's, or the names
-  comparing-refused : (c : Comparing lent s) (r : Refusal) → compared (c .begun .zero) (c .checkpoint) (c .way) ≡ refused r → cleaning lent s now retention ≡ refused r
+  comparing-refused : (c : Comparing lent s) (r : Refusal) → compared (c .begun .zero) (c .checkpoint) (c .way) ≡ refused r
+      → cleaning lent s now retention ≡ refused r
   unfolding cleanedAt cleanedBy
   comparing-refused c r h = begun-is (c .begun) ∙ rw (c .marked-there, c .checkpoint-there, c .way-there, h)
 
@@ -87,13 +94,30 @@ module _ (lent : Lent) (s : Bytes) (now retention : ℕ) where
   says-cleaning _ (no-zero l fs e t z) = rw (enough-true lent l, e, none-anyTooLarge fs t, z)
   says-cleaning _ (six e l c m) = comparing-refused c (malformed e l) (comparing-met (c .begun .zero) (c .checkpoint) (c .way) (malformed e l) m)
   says-cleaning _ (seven e l c m) = comparing-refused c (tooManyLive e l) (comparing-met (c .begun .zero) (c .checkpoint) (c .way) (tooManyLive e l) m)
-  says-cleaning _ (high c l) = comparing-refused (c .comparing) readerTooHigh (rw (c .zero-read, c .mine-read, c .theirs-read, lt-leb (c .mine .inForce .minReaderVersion) knownReader l))
+  says-cleaning _ (high c l) =
+      comparing-refused
+      (c .comparing)
+      readerTooHigh
+      (rw (c .zero-read, c .mine-read, c .theirs-read, lt-leb (c .mine .inForce .minReaderVersion) knownReader l))
   says-cleaning _ (unknown c l u) =
       comparing-refused (c .comparing) unknownFeature
-      (rw (c .zero-read, c .mine-read, c .theirs-read, le-leb (c .mine .inForce .minReaderVersion) knownReader l, unknown-allAmong readerNames (c .mine .inForce .readerFeatures) u))
+      (rw (
+        c .zero-read,
+        c .mine-read,
+        c .theirs-read,
+        le-leb (c .mine .inForce .minReaderVersion) knownReader l,
+        unknown-allAmong readerNames (c .mine .inForce .readerFeatures) u,
+      ))
   says-cleaning _ (not-writable c p n) =
       comparing-refused (c .comparing) notWritable
-      (rw (c .zero-read, c .mine-read, c .theirs-read, le-leb (c .mine .inForce .minReaderVersion) knownReader (p .0), known-allAmong readerNames (c .mine .inForce .readerFeatures) (p .1), notWritable-false (c .mine .inForce) n))
+      (rw (
+        c .zero-read,
+        c .mine-read,
+        c .theirs-read,
+        le-leb (c .mine .inForce .minReaderVersion) knownReader (p .0),
+        known-allAmong readerNames (c .mine .inForce .readerFeatures) (p .1),
+        notWritable-false (c .mine .inForce) n,
+      ))
   says-cleaning _ (disagrees c p w d) =
       comparing-refused (c .comparing) checkpointDisagrees
       (rw (
@@ -106,7 +130,8 @@ module _ (lent : Lent) (s : Bytes) (now retention : ℕ) where
         false-of (agree (c .mine) (c .theirs)) (λ e. d (agree-true (c .mine) (c .theirs) e)),
       ))
   says-cleaning _ (nothing b (inl e)) = begun-is b ∙ rw e
-  says-cleaning _ (nothing b (inr (c, e, n))) = begun-is b ∙ ap (λ (o : Option ℕ). cleanedAt o (b .zero) now retention (b .fs)) e ∙ go (startAt (logOf (b .fs)) c) (otherWayTo (logOf (b .fs)) c) refl
+  says-cleaning _ (nothing b (inr (c, e, n))) =
+      begun-is b ∙ ap (λ (o : Option ℕ). cleanedAt o (b .zero) now retention (b .fs)) e ∙ go (startAt (logOf (b .fs)) c) (otherWayTo (logOf (b .fs)) c) refl
     where
       go : (o : Option File) (w : Option Way) → otherWayTo (logOf (b .fs)) c ≡ w → cleanedBy (b .zero) o w (named c now retention (b .fs)) ≡ accepted []
       go none w q = refl
@@ -128,14 +153,27 @@ module _ (lent : Lent) (s : Bytes) (now retention : ℕ) where
 
   said-compared : (c : Compared lent s) → (a : Answer (List ℕ)) × Says a
   said-compared c =
-      go (leb (c .mine .inForce .minReaderVersion) knownReader) refl (allAmong readerNames (c .mine .inForce .readerFeatures)) refl (writable (c .mine .inForce)) refl (agree (c .mine) (c .theirs)) refl
+      go
+      (leb (c .mine .inForce .minReaderVersion) knownReader)
+      refl
+      (allAmong readerNames (c .mine .inForce .readerFeatures))
+      refl
+      (writable (c .mine .inForce))
+      refl
+      (agree (c .mine) (c .theirs))
+      refl
     where
       go : (a : Bool) → leb (c .mine .inForce .minReaderVersion) knownReader ≡ a → (b : Bool) → allAmong readerNames (c .mine .inForce .readerFeatures) ≡ b
           → (d : Bool) → writable (c .mine .inForce) ≡ d → (g : Bool) → agree (c .mine) (c .theirs) ≡ g → (x : Answer (List ℕ)) × Says x
       go false e b f d h g k = (_, high c (leb-false (c .mine .inForce .minReaderVersion) knownReader e))
-      go true e false f d h g k = (_, unknown c (leb-true (c .mine .inForce .minReaderVersion) knownReader e) (allAmong-unknown readerNames (c .mine .inForce .readerFeatures) f))
-      go true e true f false h g k =
-          (_, not-writable c (leb-true (c .mine .inForce .minReaderVersion) knownReader e, allAmong-known readerNames (c .mine .inForce .readerFeatures) f) (false-notWritable (c .mine .inForce) h))
+      go true e false f d h g k =
+          (_, unknown c (leb-true (c .mine .inForce .minReaderVersion) knownReader e) (allAmong-unknown readerNames (c .mine .inForce .readerFeatures) f))
+      go true e true f false h g k = (
+        _,
+        not-writable c
+            (leb-true (c .mine .inForce .minReaderVersion) knownReader e, allAmong-known readerNames (c .mine .inForce .readerFeatures) f)
+            (false-notWritable (c .mine .inForce) h),
+      )
       go true e true f true h false k = (
         _,
         disagrees c (leb-true (c .mine .inForce .minReaderVersion) knownReader e, allAmong-known readerNames (c .mine .inForce .readerFeatures) f)
@@ -159,10 +197,12 @@ module _ (lent : Lent) (s : Bytes) (now retention : ℕ) where
 
       of-way : (z mine : State) → readZero (c .begun .zero) ≡ accepted z → readFile mostLive (c .checkpoint) (nothingLive (z .table)) ≡ accepted mine
           → (a : Answer State) → follow mostLive z (c .way) ≡ a → (x : Answer (List ℕ)) × Says x
-      of-way z mine e q (accepted theirs) h = said-compared (record { comparing = c; z = z; mine = mine; theirs = theirs; zero-read = e; mine-read = q; theirs-read = h })
+      of-way z mine e q (accepted theirs) h =
+          said-compared (record { comparing = c; z = z; mine = mine; theirs = theirs; zero-read = e; mine-read = q; theirs-read = h })
       of-way z mine e q (refused r) h = refuses r (on-way z mine e q (follow-met z (c .way) r h))
 
-      of-checkpoint : (z : State) → readZero (c .begun .zero) ≡ accepted z → (a : Answer State) → readFile mostLive (c .checkpoint) (nothingLive (z .table)) ≡ a → (x : Answer (List ℕ)) × Says x
+      of-checkpoint : (z : State) → readZero (c .begun .zero) ≡ accepted z → (a : Answer State)
+          → readFile mostLive (c .checkpoint) (nothingLive (z .table)) ≡ a → (x : Answer (List ℕ)) × Says x
       of-checkpoint z e (accepted mine) q = of-way z mine e q (follow mostLive z (c .way)) refl
       of-checkpoint z e (refused r) q = refuses r (in-checkpoint z e (readFile-met (c .checkpoint) (nothingLive (z .table)) r q))
 
@@ -173,9 +213,11 @@ module _ (lent : Lent) (s : Bytes) (now retention : ℕ) where
   said-begun : (b : Begun lent s) → (a : Answer (List ℕ)) × Says a
   said-begun b = go (marked (logOf (b .fs))) refl
     where
-      other : (c : ℕ) → marked (logOf (b .fs)) ≡ some c → There (startAt (logOf (b .fs)) c) → (w : Option Way) → otherWayTo (logOf (b .fs)) c ≡ w → (a : Answer (List ℕ)) × Says a
+      other : (c : ℕ) → marked (logOf (b .fs)) ≡ some c → There (startAt (logOf (b .fs)) c) → (w : Option Way) → otherWayTo (logOf (b .fs)) c ≡ w
+          → (a : Answer (List ℕ)) × Says a
       other c e f none q = (_, nothing b (inr (c, e, no-other (logOf (b .fs)) c (b .zero, b .zero-there) q)))
-      other c e f (some w) q = said-comparing (record { begun = b; c = c; checkpoint = f .0; way = w; marked-there = e; checkpoint-there = f .1; way-there = q })
+      other c e f (some w) q =
+          said-comparing (record { begun = b; c = c; checkpoint = f .0; way = w; marked-there = e; checkpoint-there = f .1; way-there = q })
 
       go : (o : Option ℕ) → marked (logOf (b .fs)) ≡ o → (a : Answer (List ℕ)) × Says a
       go none e = (_, nothing b (inl e))
@@ -184,7 +226,8 @@ module _ (lent : Lent) (s : Bytes) (now retention : ℕ) where
   said : (a : Answer (List ℕ)) × Says a
   said = go (enough lent) refl (bundle s) refl
     where
-      found : Enough lent → (fs : List File) → bundle s ≡ some fs → (SomeTooLarge fs → ⊥) → (z : Option File) → logOf fs .versionFile 0 ≡ z → (a : Answer (List ℕ)) × Says a
+      found : Enough lent → (fs : List File) → bundle s ≡ some fs → (SomeTooLarge fs → ⊥) → (z : Option File) → logOf fs .versionFile 0 ≡ z
+          → (a : Answer (List ℕ)) × Says a
       found l fs eb t none e = (_, no-zero l fs eb t e)
       found l fs eb t (some zf) e = said-begun (record { fs = fs; zero = zf; long = l; bundle-read = eb; none-large = t; zero-there = e })
 
@@ -232,35 +275,42 @@ cleaning-exactly lent s now retention = record {
     f3 : Says lent s now retention (refused versionTooLarge) → Enough lent × ((fs : List File) × (bundle s ≡ some fs) × SomeTooLarge fs)
     f3 (large l fs e t) = (l, (fs, e, t))
 
-    f4 : Says lent s now retention (refused noVersionZero) → Enough lent × ((fs : List File) × (bundle s ≡ some fs) × (SomeTooLarge fs → ⊥) × (logOf fs .versionFile 0 ≡ none))
+    f4 : Says lent s now retention (refused noVersionZero)
+        → Enough lent × ((fs : List File) × (bundle s ≡ some fs) × (SomeTooLarge fs → ⊥) × (logOf fs .versionFile 0 ≡ none))
     f4 (no-zero l fs e t z) = (l, (fs, e, t, z))
 
-    f6 : (e l : ℕ) → Says lent s now retention (refused (malformed e l)) → (c : Comparing lent s) × MetComparing (c .begun .zero) (c .checkpoint) (c .way) (malformed e l)
+    f6 : (e l : ℕ) → Says lent s now retention (refused (malformed e l))
+        → (c : Comparing lent s) × MetComparing (c .begun .zero) (c .checkpoint) (c .way) (malformed e l)
     f6 e l (six _ _ c m) = (c, m)
 
-    f7 : (e l : ℕ) → Says lent s now retention (refused (tooManyLive e l)) → (c : Comparing lent s) × MetComparing (c .begun .zero) (c .checkpoint) (c .way) (tooManyLive e l)
+    f7 : (e l : ℕ) → Says lent s now retention (refused (tooManyLive e l))
+        → (c : Comparing lent s) × MetComparing (c .begun .zero) (c .checkpoint) (c .way) (tooManyLive e l)
     f7 e l (seven _ _ c m) = (c, m)
 
     f8 : Says lent s now retention (refused readerTooHigh) → (c : Compared lent s) × (knownReader < c .mine .inForce .minReaderVersion)
     f8 (high c l) = (c, l)
 
-    f9 : Says lent s now retention (refused unknownFeature) → (c : Compared lent s) × (c .mine .inForce .minReaderVersion ≤ knownReader) × Unknown readerNames (c .mine .inForce .readerFeatures)
+    f9 : Says lent s now retention (refused unknownFeature)
+        → (c : Compared lent s) × (c .mine .inForce .minReaderVersion ≤ knownReader) × Unknown readerNames (c .mine .inForce .readerFeatures)
     f9 (unknown c l u) = (c, l, u)
 
     f12 : Says lent s now retention (refused notWritable) → (c : Compared lent s) × Readable (c .mine .inForce) × NotWritable (c .mine .inForce)
     f12 (not-writable c p n) = (c, p, n)
 
-    f13 : Says lent s now retention (refused checkpointDisagrees) → (c : Compared lent s) × Readable (c .mine .inForce) × (NotWritable (c .mine .inForce) → ⊥) × (SameState (c .mine) (c .theirs) → ⊥)
+    f13 : Says lent s now retention (refused checkpointDisagrees)
+        → (c : Compared lent s) × Readable (c .mine .inForce) × (NotWritable (c .mine .inForce) → ⊥) × (SameState (c .mine) (c .theirs) → ⊥)
     f13 (disagrees c p w d) = (c, p, w, d)
 
     f0 : (es : List ℕ) → Says lent s now retention (accepted es)
         → ((b : Begun lent s) × NothingToName (logOf (b .fs)) × ([] ≡ es))
-        ⊎ ((c : Compared lent s) × Readable (c .mine .inForce) × (NotWritable (c .mine .inForce) → ⊥) × SameState (c .mine) (c .theirs) × (namesOf lent s now retention c ≡ es))
+        ⊎ ((c : Compared lent s) × Readable (c .mine .inForce) × (NotWritable (c .mine .inForce) → ⊥) × SameState (c .mine) (c .theirs)
+        × (namesOf lent s now retention c ≡ es))
     f0 _ (nothing b n) = inl (b, n, refl)
     f0 _ (names c p w d) = inr (c, p, w, d, refl)
 
     g0 : (es : List ℕ) → ((b : Begun lent s) × NothingToName (logOf (b .fs)) × ([] ≡ es))
-        ⊎ ((c : Compared lent s) × Readable (c .mine .inForce) × (NotWritable (c .mine .inForce) → ⊥) × SameState (c .mine) (c .theirs) × (namesOf lent s now retention c ≡ es))
+        ⊎ ((c : Compared lent s) × Readable (c .mine .inForce) × (NotWritable (c .mine .inForce) → ⊥) × SameState (c .mine) (c .theirs)
+        × (namesOf lent s now retention c ≡ es))
         → cleaning lent s now retention ≡ accepted es
     g0 es (inl (b, n, e)) = gives _ (nothing b n) ∙ ap accepted e
     g0 es (inr (c, p, w, d, e)) = gives _ (names c p w d) ∙ ap accepted e

@@ -18,7 +18,8 @@ use Rattle.rules.specs.Gate.{knownWriter, writerNames, writable}
 use Rattle.rules.specs.Rooms.{rowsRoom, namesRoom}
 use Rattle.rules.specs.Cleaning.{isBetween, isOld, mayGo, named, Lent, enough}
 use Rattle.rules.proofs.Tests.{apart, and-left, and-right, and-both, and-fails-left, and-fails-right, true-not-false}
-use Rattle.demands.specs.Reaching.{There, IsStart, Reaches, From, at-checkpoint, at-zero, and-then, Highest, IsOther, FromOther, other-checkpoint, version-zero, and-after, HighestOther, OtherFromTheHighest}
+use Rattle.demands.specs.Reaching.{There, IsStart, Reaches, From, at-checkpoint, at-zero, and-then, Highest, IsOther}
+use Rattle.demands.specs.Reaching.{FromOther, other-checkpoint, version-zero, and-after, HighestOther, OtherFromTheHighest}
 use Rattle.demands.specs.CleaningExactly.{Enough, NotWritable, NoOther, IsNamed, Names, no-more, names, passes, NamedExactly}
 use Rattle.demands.proofs.Starts.{byFile-none, byFile-some, no-way-no-start, way-some-start, reaches-next, read-from-the-highest, not-there}
 use Rattle.demands.proofs.Words.{allAmong-unknown, unknown-allAmong}
@@ -36,8 +37,11 @@ true-enough lent e =
     let a : Bool = leb namesRoom (lent .names) in
     let b : Bool = leb rowsRoom (lent .table₁) in
     let c : Bool = leb rowsRoom (lent .table₂) in
-    let f : (b && c) ≡ true = and-right a (b && c) e in
-    (leb-true namesRoom (lent .names) (and-left a (b && c) e), leb-true rowsRoom (lent .table₁) (and-left b c f), leb-true rowsRoom (lent .table₂) (and-right b c f))
+    let f : (b && c) ≡ true = and-right a (b && c) e in (
+      leb-true namesRoom (lent .names) (and-left a (b && c) e),
+      leb-true rowsRoom (lent .table₁) (and-left b c f),
+      leb-true rowsRoom (lent .table₂) (and-right b c f),
+    )
 
 pub notWritable-false : (p : Protocol) → NotWritable p → writable p ≡ false
 unfolding writable
@@ -112,12 +116,17 @@ other-highest log (suc c) w e =
     let u = b .2 .0 in
     let p : Highest log c u = read-from-the-highest log c u .0 (b .2 .1) in
     subst (HighestOther log (suc c)) (b .2 .2)
-    (record { s = p .s; begins = and-after (from-other log c (p .s) c u (omega arith) (p .begins)) (b .1); highest = λ t i r. below-it u p t i r (other-below log c t i (r .below)) })
+    (record {
+      s = p .s;
+      begins = and-after (from-other log c (p .s) c u (omega arith) (p .begins)) (b .1);
+      highest = λ t i r. below-it u p t i r (other-below log c t i (r .below));
+    })
   where
     below-it : (u : Way) (p : Highest log c u) (t : ℕ) → IsOther log (suc c) t → Reaches log t (suc c) → t ≤ c → t ≤ p .s
     below-it u p t i r l = p .highest t (other-start log (suc c) t i) (record { below = l; between = λ x a b. r .between x a (omega arith) })
 
-highest-other : (log : Log) (s c v : ℕ) (w : Way) → v ≡ c → FromOther log c s v w → ((t : ℕ) → IsOther log c t → Reaches log t c → t ≤ s) → otherWayTo log c ≡ some w
+highest-other : (log : Log) (s c v : ℕ) (w : Way) → v ≡ c → FromOther log c s v w → ((t : ℕ) → IsOther log c t → Reaches log t c → t ≤ s)
+    → otherWayTo log c ≡ some w
 unfolding otherWayTo byFile onwardBy
 highest-other log s c _ _ q (other-checkpoint e n) h = absurd (n q)
 highest-other log s zero _ _ q (version-zero e) h = refl
@@ -125,12 +134,15 @@ highest-other log s (suc c) _ _ q (version-zero e) h = absurd (omega arith)
 highest-other log s zero _ _ q (and-after f e) h = absurd (omega arith)
 highest-other log s (suc c) _ _ q (and-after {v = v} {w = w} {g = g} f e) h = go v (omega arith) f e
   where
-    go : (v : ℕ) → v ≡ c → FromOther log (suc c) s v w → log .versionFile (suc v) ≡ some g → byFile (log .versionFile (suc c)) (λ _. wayTo log c) ≡ some (andThen w g)
+    go : (v : ℕ) → v ≡ c → FromOther log (suc c) s v w → log .versionFile (suc v) ≡ some g
+        → byFile (log .versionFile (suc c)) (λ _. wayTo log c) ≡ some (andThen w g)
     go v q f e =
         let there : log .versionFile (suc c) ≡ some g = subst (λ (x : ℕ). log .versionFile (suc x) ≡ some g) q e in
         let from : From log s c w = subst (λ (x : ℕ). From log s x w) q (other-from log c s v w f) in
         let way : wayTo log c ≡ some w =
-        read-from-the-highest log c w .1 (record { s = s; begins = from; highest = λ t i r. h t (start-other log c t (r .below) i) (reaches-next log t c r (g, there)) }) in
+        read-from-the-highest log c
+        w .1
+        (record { s = s; begins = from; highest = λ t i r. h t (start-other log c t (r .below) i) (reaches-next log t c r (g, there)) }) in
         rw (there, way)
 
 pub other-from-the-highest : OtherFromTheHighest
@@ -144,8 +156,11 @@ mayGo-named c now retention f e =
     let a : Bool = isBetween c (versionIn (nameOf (f .name))) in
     let b : Bool = leb (f .time) now in
     let d : Bool = ltb retention (now - f .time) in
-    let old : (b && d) ≡ true = and-right a (b && d) e in
-    (isBetween-version c (nameOf (f .name)) (and-left a (b && d) e), leb-true (f .time) now (and-left b d old), ltb-true retention (now - f .time) (and-right b d old))
+    let old : (b && d) ≡ true = and-right a (b && d) e in (
+      isBetween-version c (nameOf (f .name)) (and-left a (b && d) e),
+      leb-true (f .time) now (and-left b d old),
+      ltb-true retention (now - f .time) (and-right b d old),
+    )
 
 named-mayGo : (c now retention : ℕ) (f : File) → IsNamed c now retention f → mayGo c now retention f ≡ true
 unfolding mayGo isOld isBetween versionIn
@@ -158,6 +173,7 @@ unfolding named keepIf
 named-exactly c now retention [] = no-more
 named-exactly c now retention (f ∷ fs) = go (mayGo c now retention f) refl (named-exactly c now retention fs)
   where
-    go : (b : Bool) → mayGo c now retention f ≡ b → Names c now retention fs (named c now retention fs) → Names c now retention (f ∷ fs) (keepIf b (f .entry) (named c now retention fs))
+    go : (b : Bool) → mayGo c now retention f ≡ b → Names c now retention fs (named c now retention fs)
+        → Names c now retention (f ∷ fs) (keepIf b (f .entry) (named c now retention fs))
     go true e ih = names (mayGo-named c now retention f e) ih
     go false e ih = passes (λ h. true-not-false (named-mayGo c now retention f h) e) ih

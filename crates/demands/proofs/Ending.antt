@@ -106,28 +106,39 @@ module _ (numbers : List ℕ) where
     unfolding readLines
     readLines-ends limit e k at [] st = answered st
     readLines-ends limit e k at (l ∷ ls) st =
-        ends-bind (λ next. readLines limit e (suc k) (at + length l + 1) ls next) (readLine-ends limit e k at l st) (λ next. readLines-ends limit e (suc k) (at + length l + 1) ls next)
+        ends-bind
+        (λ next. readLines limit e (suc k) (at + length l + 1) ls next)
+        (readLine-ends limit e k at l st)
+        (λ next. readLines-ends limit e (suc k) (at + length l + 1) ls next)
 
     readFile-ends : (limit : ℕ) (f : File) (st : State) → Ends numbers (readFile limit f st)
     unfolding readFile
     readFile-ends limit f st =
-        ends-bind (λ next. require (malformed (f .entry) 0) (anyObject (lines (f .body))) >>= (λ _. accepted next)) (readLines-ends limit (f .entry) 1 (f .start) (lines (f .body)) st)
-        (λ next. ends-bind (λ _. accepted next) (ends-require (malformed (f .entry) 0) (anyObject (lines (f .body))) (malformed-listed (f .entry) 0 six)) (λ _. answered next))
+        ends-bind
+        (λ next. require (malformed (f .entry) 0) (anyObject (lines (f .body))) >>= (λ _. accepted next))
+        (readLines-ends limit (f .entry) 1 (f .start) (lines (f .body)) st)
+        (λ next. ends-bind (λ _. accepted next) (ends-require (malformed (f .entry) 0) (anyObject (lines (f .body))) (malformed-listed (f .entry) 0 six))
+        (λ _. answered next))
 
     zeroLines-ends : (e k : ℕ) (ls : List Bytes) (s : Said) → Ends numbers (zeroLines e k ls s)
     unfolding zeroLines
     zeroLines-ends e k [] s = answered s
     zeroLines-ends e k ([] ∷ ls) s = zeroLines-ends e (suc k) ls s
     zeroLines-ends e k ((b ∷ bs) ∷ ls) s =
-        ends-bind (λ a. orRefuse (malformed e k) (say a s) >>= (λ next. zeroLines e (suc k) ls next)) (ends-orRefuse (malformed e k) (action (b ∷ bs)) (malformed-listed e k six))
-        (λ a. ends-bind (λ next. zeroLines e (suc k) ls next) (ends-orRefuse (malformed e k) (say a s) (malformed-listed e k six)) (λ next. zeroLines-ends e (suc k) ls next))
+        ends-bind
+        (λ a. orRefuse (malformed e k) (say a s) >>= (λ next. zeroLines e (suc k) ls next))
+        (ends-orRefuse (malformed e k) (action (b ∷ bs)) (malformed-listed e k six))
+        (λ a. ends-bind (λ next. zeroLines e (suc k) ls next) (ends-orRefuse (malformed e k) (say a s) (malformed-listed e k six))
+        (λ next. zeroLines-ends e (suc k) ls next))
 
     readZero-ends : (f : File) → Ends numbers (readZero f)
     unfolding readZero
     readZero-ends f =
-        ends-bind (λ s. orRefuse (malformed (f .entry) 0) (s .ofTable) >>= (λ m. accepted (record { table = m; inForce = orUnstated (s .ofProtocol); live = [] })))
+        ends-bind
+        (λ s. orRefuse (malformed (f .entry) 0) (s .ofTable) >>= (λ m. accepted (record { table = m; inForce = orUnstated (s .ofProtocol); live = [] })))
         (zeroLines-ends (f .entry) 1 (lines (f .body)) saidNothing)
-        (λ s. ends-bind (λ m. accepted (record { table = m; inForce = orUnstated (s .ofProtocol); live = [] })) (ends-orRefuse (malformed (f .entry) 0) (s .ofTable) (malformed-listed (f .entry) 0 six)) (λ m. answered _))
+        (λ s. ends-bind (λ m. accepted (record { table = m; inForce = orUnstated (s .ofProtocol); live = [] }))
+        (ends-orRefuse (malformed (f .entry) 0) (s .ofTable) (malformed-listed (f .entry) 0 six)) (λ m. answered _))
 
     follow-ends : (limit : ℕ) (z : State) (w : Way) → Ends numbers (follow limit z w)
     unfolding follow
@@ -138,7 +149,9 @@ module _ (numbers : List ℕ) where
   gate-ends : isIn 8 numbers ≡ true → isIn 9 numbers ≡ true → (p : Protocol) → Ends numbers (gate p)
   unfolding gate
   gate-ends eight nine p =
-      ends-bind (λ _. require unknownFeature (allAmong readerNames (p .readerFeatures))) (ends-require readerTooHigh (leb (p .minReaderVersion) knownReader) (plain-listed 8 eight))
+      ends-bind
+      (λ _. require unknownFeature (allAmong readerNames (p .readerFeatures)))
+      (ends-require readerTooHigh (leb (p .minReaderVersion) knownReader) (plain-listed 8 eight))
       (λ _. ends-require unknownFeature (allAmong readerNames (p .readerFeatures)) (plain-listed 9 nine))
 
 -- ---- reading
@@ -150,7 +163,8 @@ listing-ends : (cs : List Condition) (v : ℕ) (st : State) → Ends forReading 
 unfolding listing isIn forReading
 listing-ends cs v st =
     ends-bind forReading _ (gate-ends forReading refl refl (st .inForce))
-    (λ _. ends-bind forReading _ (ends-require forReading noSuchColumn (allAmong (st .table .partitionColumns) (map columnOf cs)) (plain-listed forReading 11 refl)) (λ _. answered _))
+    (λ _. ends-bind forReading _
+    (ends-require forReading noSuchColumn (allAmong (st .table .partitionColumns) (map columnOf cs)) (plain-listed forReading 11 refl)) (λ _. answered _))
 
 stateBy-ends : (log : Log) (way : Option Way) → Ends forReading (stateBy log way)
 unfolding stateBy isIn forReading
@@ -166,7 +180,8 @@ reading-ends room s q asked =
     (λ _. ends-bind forReading _ (ends-orRefuse forReading queryMalformed (query q) (plain-listed forReading 10 refl))
     (λ cs. ends-bind forReading _ (ends-orRefuse forReading bundleMalformed (bundle s) (plain-listed forReading 2 refl))
     (λ fs. ends-bind forReading _ (ends-require forReading versionTooLarge (not (anyTooLarge fs)) (plain-listed forReading 3 refl))
-    (λ _. ends-bind forReading _ (stateBy-ends (logOf fs) (wayTo (logOf fs) (versionAsked asked (logOf fs)))) (λ st. listing-ends cs (versionAsked asked (logOf fs)) st)))))
+    (λ _. ends-bind forReading _ (stateBy-ends (logOf fs) (wayTo (logOf fs) (versionAsked asked (logOf fs))))
+    (λ st. listing-ends cs (versionAsked asked (logOf fs)) st)))))
 
 -- ---- keeping
 
@@ -179,7 +194,8 @@ keeping-ends room state q =
     ends-bind forKeeping _ (ends-require forKeeping roomTooShort (leb keptRoom room) (plain-listed forKeeping 1 refl))
     (λ _. ends-bind forKeeping _ (ends-orRefuse forKeeping queryMalformed (query q) (plain-listed forKeeping 10 refl))
     (λ cs. ends-bind forKeeping _ (ends-orRefuse forKeeping stateMalformed (manifests state) (plain-listed forKeeping 14 refl))
-    (λ ms. ends-bind forKeeping _ (ends-require forKeeping tooManyManifests (leb (length ms) mostManifests) (plain-listed forKeeping 15 refl)) (λ _. answered _))))
+    (λ ms. ends-bind forKeeping _ (ends-require forKeeping tooManyManifests (leb (length ms) mostManifests) (plain-listed forKeeping 15 refl))
+    (λ _. answered _))))
 
 -- ---- cleaning
 

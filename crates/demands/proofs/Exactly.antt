@@ -16,7 +16,8 @@ use Rattle.rules.specs.Gate.{knownReader, readerNames, gate}
 use Rattle.rules.specs.Query.{Condition, query}
 use Rattle.rules.specs.Rooms.{rowsRoom}
 use Rattle.rules.specs.Reading.{Asked, Listing, stateBy, listing, listingBy, listingAt, reading}
-use Rattle.rules.specs.Refusals.{Refusal, Answer, accepted, refused, roomTooShort, bundleMalformed, versionTooLarge, noVersionZero, notKept, malformed, tooManyLive, readerTooHigh, unknownFeature, queryMalformed, noSuchColumn}
+use Rattle.rules.specs.Refusals.{Refusal, Answer, accepted, refused, roomTooShort, bundleMalformed, versionTooLarge, noVersionZero}
+use Rattle.rules.specs.Refusals.{notKept, malformed, tooManyLive, readerTooHigh, unknownFeature, queryMalformed, noSuchColumn}
 use Rattle.rules.proofs.Tests.{true-not-false}
 use Rattle.rules.proofs.Readings.{reading-is}
 use Rattle.demands.specs.Reaching.{There, NoStart}
@@ -25,7 +26,8 @@ use Rattle.demands.specs.Exactly.{SomeTooLarge, Unknown, Readable, Opene
 use Rattle.demands.proofs.Starts.{no-way-no-start, way-some-start}
 use Rattle.demands.proofs.Readable.{stateBy-is}
 use Rattle.demands.proofs.WayMet.{SixOrSeven, met-number, fromZeroOn, way-met, met-way}
-use Rattle.demands.proofs.Words.{anyTooLarge-some, some-anyTooLarge, none-anyTooLarge, allAmong-unknown, unknown-allAmong, known-allAmong, allAmong-known}
+use Rattle.demands.proofs.Words.{anyTooLarge-some, some-anyTooLarge, none-anyTooLarge}
+use Rattle.demands.proofs.Words.{allAmong-unknown, unknown-allAmong, known-allAmong, allAmong-known}
 
 -- ---- the conditions of reading, each with its answer
 
@@ -40,9 +42,12 @@ module _ (room : ℕ) (s q : Bytes) (asked : Asked) where
     six : (e l : ℕ) (r : Reached room s q asked) → Met (r .zero) (r .way) (malformed e l) → Says (refused (malformed e l))
     seven : (e l : ℕ) (r : Reached room s q asked) → Met (r .zero) (r .way) (tooManyLive e l) → Says (refused (tooManyLive e l))
     high : (r : Read room s q asked) → knownReader < r .state .inForce .minReaderVersion → Says (refused readerTooHigh)
-    unknown : (r : Read room s q asked) → r .state .inForce .minReaderVersion ≤ knownReader → Unknown readerNames (r .state .inForce .readerFeatures) → Says (refused unknownFeature)
-    no-column : (r : Read room s q asked) → Readable (r .state .inForce) → Unknown (r .state .table .partitionColumns) (columnsAsked r) → Says (refused noSuchColumn)
-    answer : (r : Read room s q asked) → Readable (r .state .inForce) → (Unknown (r .state .table .partitionColumns) (columnsAsked r) → ⊥) → Says (accepted (answerOf r))
+    unknown : (r : Read room s q asked) → r .state .inForce .minReaderVersion ≤ knownReader → Unknown readerNames (r .state .inForce .readerFeatures)
+        → Says (refused unknownFeature)
+    no-column : (r : Read room s q asked) → Readable (r .state .inForce) → Unknown (r .state .table .partitionColumns) (columnsAsked r)
+        → Says (refused noSuchColumn)
+    answer : (r : Read room s q asked) → Readable (r .state .inForce) → (Unknown (r .state .table .partitionColumns) (columnsAsked r) → ⊥)
+        → Says (accepted (answerOf r))
 
   -- ---- each gives its answer
 
@@ -53,7 +58,11 @@ module _ (room : ℕ) (s q : Bytes) (asked : Asked) where
   unfolding listingAt listingBy
   reached-is r x m =
       let o = r .opened in
-      opened-is o ∙ rw (stateBy-is (logIn asked o) (wayTo (logIn asked o) (versionIn asked o)) (r .zero) (r .way) (r .zero-there) (r .way-there), met-way (r .zero) (r .way) x m)
+      opened-is o
+      ∙ rw (
+        stateBy-is (logIn asked o) (wayTo (logIn asked o) (versionIn asked o)) (r .zero) (r .way) (r .zero-there) (r .way-there),
+        met-way (r .zero) (r .way) x m,
+      )
 
   read-is : (r : Read room s q asked) → reading room s q asked ≡ listing (r .opened .cs) (versionIn asked (r .opened)) (r .state)
   unfolding listingAt listingBy
@@ -74,25 +83,52 @@ module _ (room : ℕ) (s q : Bytes) (asked : Asked) where
   says-reading _ (six e l r m) = reached-is r (malformed e l) m
   says-reading _ (seven e l r m) = reached-is r (tooManyLive e l) m
   says-reading _ (high r l) = read-is r ∙ rw (lt-leb (r .state .inForce .minReaderVersion) knownReader l)
-  says-reading _ (unknown r l u) = read-is r ∙ rw (le-leb (r .state .inForce .minReaderVersion) knownReader l, unknown-allAmong readerNames (r .state .inForce .readerFeatures) u)
+  says-reading _ (unknown r l u) =
+      read-is r ∙ rw (le-leb (r .state .inForce .minReaderVersion) knownReader l, unknown-allAmong readerNames (r .state .inForce .readerFeatures) u)
   says-reading _ (no-column r p u) =
-      read-is r ∙ rw (le-leb (r .state .inForce .minReaderVersion) knownReader (p .0), known-allAmong readerNames (r .state .inForce .readerFeatures) (p .1), unknown-allAmong (r .state .table .partitionColumns) (columnsAsked r) u)
+      read-is r
+      ∙ rw (
+        le-leb (r .state .inForce .minReaderVersion) knownReader (p .0),
+        known-allAmong readerNames (r .state .inForce .readerFeatures) (p .1),
+        unknown-allAmong (r .state .table .partitionColumns) (columnsAsked r) u,
+      )
   says-reading _ (answer r p k) =
-      read-is r ∙ rw (le-leb (r .state .inForce .minReaderVersion) knownReader (p .0), known-allAmong readerNames (r .state .inForce .readerFeatures) (p .1), known-allAmong (r .state .table .partitionColumns) (columnsAsked r) k)
+      read-is r
+      ∙ rw (
+        le-leb (r .state .inForce .minReaderVersion) knownReader (p .0),
+        known-allAmong readerNames (r .state .inForce .readerFeatures) (p .1),
+        known-allAmong (r .state .table .partitionColumns) (columnsAsked r) k,
+      )
 
   -- ---- one holds for every input
 
   said-read : (r : Read room s q asked) → (a : Answer Listing) × Says a
-  said-read r = go (leb (r .state .inForce .minReaderVersion) knownReader) refl (allAmong readerNames (r .state .inForce .readerFeatures)) refl (allAmong (r .state .table .partitionColumns) (columnsAsked r)) refl
+  said-read r =
+      go
+      (leb (r .state .inForce .minReaderVersion) knownReader)
+      refl
+      (allAmong readerNames (r .state .inForce .readerFeatures))
+      refl
+      (allAmong (r .state .table .partitionColumns) (columnsAsked r))
+      refl
     where
       go : (a : Bool) → leb (r .state .inForce .minReaderVersion) knownReader ≡ a → (b : Bool) → allAmong readerNames (r .state .inForce .readerFeatures) ≡ b
           → (c : Bool) → allAmong (r .state .table .partitionColumns) (columnsAsked r) ≡ c → (x : Answer Listing) × Says x
       go false e b f c g = (_, high r (leb-false (r .state .inForce .minReaderVersion) knownReader e))
-      go true e false f c g = (_, unknown r (leb-true (r .state .inForce .minReaderVersion) knownReader e) (allAmong-unknown readerNames (r .state .inForce .readerFeatures) f))
-      go true e true f false g =
-          (_, no-column r (leb-true (r .state .inForce .minReaderVersion) knownReader e, allAmong-known readerNames (r .state .inForce .readerFeatures) f) (allAmong-unknown (r .state .table .partitionColumns) (columnsAsked r) g))
-      go true e true f true g =
-          (_, answer r (leb-true (r .state .inForce .minReaderVersion) knownReader e, allAmong-known readerNames (r .state .inForce .readerFeatures) f) (allAmong-known (r .state .table .partitionColumns) (columnsAsked r) g))
+      go true e false f c g =
+          (_, unknown r (leb-true (r .state .inForce .minReaderVersion) knownReader e) (allAmong-unknown readerNames (r .state .inForce .readerFeatures) f))
+      go true e true f false g = (
+        _,
+        no-column r
+            (leb-true (r .state .inForce .minReaderVersion) knownReader e, allAmong-known readerNames (r .state .inForce .readerFeatures) f)
+            (allAmong-unknown (r .state .table .partitionColumns) (columnsAsked r) g),
+      )
+      go true e true f true g = (
+        _,
+        answer r
+            (leb-true (r .state .inForce .minReaderVersion) knownReader e, allAmong-known readerNames (r .state .inForce .readerFeatures) f)
+            (allAmong-known (r .state .table .partitionColumns) (columnsAsked r) g),
+      )
 
   said-reached : (r : Reached room s q asked) → (a : Answer Listing) × Says a
   said-reached r = go (fromZeroOn (r .zero) (r .way)) refl
@@ -104,13 +140,18 @@ module _ (room : ℕ) (s q : Bytes) (asked : Asked) where
       go : (a : Answer State) → fromZeroOn (r .zero) (r .way) ≡ a → (x : Answer Listing) × Says x
       go (accepted st) e =
           let o = r .opened in
-          said-read (record { opened = o; state = st; state-read = stateBy-is (logIn asked o) (wayTo (logIn asked o) (versionIn asked o)) (r .zero) (r .way) (r .zero-there) (r .way-there) ∙ e })
+          said-read (record {
+            opened = o;
+            state = st;
+            state-read = stateBy-is (logIn asked o) (wayTo (logIn asked o) (versionIn asked o)) (r .zero) (r .way) (r .zero-there) (r .way-there) ∙ e;
+          })
       go (refused x) e = let m = way-met (r .zero) (r .way) x e in met x m (met-number (r .zero) (r .way) x m)
 
   said-opened : (o : Opened room s q) → (a : Answer Listing) × Says a
   said-opened o = go (logIn asked o .versionFile 0) refl (wayTo (logIn asked o) (versionIn asked o)) refl
     where
-      go : (z : Option File) → logIn asked o .versionFile 0 ≡ z → (w : Option Way) → wayTo (logIn asked o) (versionIn asked o) ≡ w → (a : Answer Listing) × Says a
+      go : (z : Option File) → logIn asked o .versionFile 0 ≡ z → (w : Option Way) → wayTo (logIn asked o) (versionIn asked o) ≡ w
+          → (a : Answer Listing) × Says a
       go none e w f = (_, no-zero o e)
       go (some zf) e none f = (_, not-kept o (zf, e) (no-way-no-start (logIn asked o) (versionIn asked o) f))
       go (some zf) e (some w) f = said-reached (record { opened = o; zero = zf; way = w; zero-there = e; way-there = f })
@@ -118,12 +159,14 @@ module _ (room : ℕ) (s q : Bytes) (asked : Asked) where
   said : (a : Answer Listing) × Says a
   said = go (leb rowsRoom room) refl (query q) refl (bundle s) refl
     where
-      named : (l : rowsRoom ≤ room) (cs : List Condition) → query q ≡ some cs → (fs : List File) → bundle s ≡ some fs → (b : Bool) → anyTooLarge fs ≡ b → (a : Answer Listing) × Says a
+      named : (l : rowsRoom ≤ room) (cs : List Condition) → query q ≡ some cs → (fs : List File) → bundle s ≡ some fs → (b : Bool) → anyTooLarge fs ≡ b
+          → (a : Answer Listing) × Says a
       named l cs eq fs eb true e = (_, large l (cs, eq) fs eb (anyTooLarge-some fs e))
       named l cs eq fs eb false e =
           said-opened (record { cs = cs; fs = fs; long = l; query-read = eq; bundle-read = eb; none-large = λ t. true-not-false (some-anyTooLarge fs t) e })
 
-      go : (b : Bool) → leb rowsRoom room ≡ b → (c : Option (List Condition)) → query q ≡ c → (f : Option (List File)) → bundle s ≡ f → (a : Answer Listing) × Says a
+      go : (b : Bool) → leb rowsRoom room ≡ b → (c : Option (List Condition)) → query q ≡ c → (f : Option (List File)) → bundle s ≡ f
+          → (a : Answer Listing) × Says a
       go false e c eq f eb = (_, short (leb-false rowsRoom room e))
       go true e none eq f eb = (_, bad-query (leb-true rowsRoom room e) eq)
       go true e (some cs) eq none eb = (_, bad-bundle (leb-true rowsRoom room e) (cs, eq) eb)
@@ -180,11 +223,14 @@ reading-exactly room s q asked = record {
     f8 : Says room s q asked (refused readerTooHigh) → (r : Read room s q asked) × (knownReader < r .state .inForce .minReaderVersion)
     f8 (high r l) = (r, l)
 
-    f9 : Says room s q asked (refused unknownFeature) → (r : Read room s q asked) × (r .state .inForce .minReaderVersion ≤ knownReader) × Unknown readerNames (r .state .inForce .readerFeatures)
+    f9 : Says room s q asked (refused unknownFeature)
+        → (r : Read room s q asked) × (r .state .inForce .minReaderVersion ≤ knownReader) × Unknown readerNames (r .state .inForce .readerFeatures)
     f9 (unknown r l u) = (r, l, u)
 
-    f11 : Says room s q asked (refused noSuchColumn) → (r : Read room s q asked) × Readable (r .state .inForce) × Unknown (r .state .table .partitionColumns) (columnsAsked r)
+    f11 : Says room s q asked (refused noSuchColumn)
+        → (r : Read room s q asked) × Readable (r .state .inForce) × Unknown (r .state .table .partitionColumns) (columnsAsked r)
     f11 (no-column r p u) = (r, p, u)
 
-    f0 : (l : Listing) → Says room s q asked (accepted l) → (r : Read room s q asked) × Readable (r .state .inForce) × (Unknown (r .state .table .partitionColumns) (columnsAsked r) → ⊥) × (answerOf r ≡ l)
+    f0 : (l : Listing) → Says room s q asked (accepted l)
+        → (r : Read room s q asked) × Readable (r .state .inForce) × (Unknown (r .state .table .partitionColumns) (columnsAsked r) → ⊥) × (answerOf r ≡ l)
     f0 l (answer r p k) = (r, p, k, refl)

@@ -134,11 +134,13 @@ agreeing-true c f h = go (stateBy log (some (fromCheckpoint f))) (stateBy log (h
 
 -- ---- computed
 
-readable-files : (passes zeroReadable (log .versionFile 0) ≡ true) × (passes readable (log .versionFile 1) ≡ true) × (passes readable (log .versionFile 2) ≡ true) × (passes (trueAt 1) (log .checkpointFile 1) ≡ true)
+readable-files : (passes zeroReadable (log .versionFile 0) ≡ true) × (passes readable (log .versionFile 1) ≡ true)
+    × (passes readable (log .versionFile 2) ≡ true) × (passes (trueAt 1) (log .checkpointFile 1) ≡ true)
 unfolding rules log files found whole Example.zero Example.one Example.checkpointAtOne Example.two passes readable zeroReadable isAccepted trueAt agreeing
 readable-files = (refl, refl, refl, refl)
 
-history-files : (isAccepted (stateBy log (historyTo log 0)) ≡ true) × (isAccepted (stateBy log (historyTo log 1)) ≡ true) × (isAccepted (stateBy log (historyTo log 2)) ≡ true)
+history-files : (isAccepted (stateBy log (historyTo log 0)) ≡ true) × (isAccepted (stateBy log (historyTo log 1)) ≡ true)
+    × (isAccepted (stateBy log (historyTo log 2)) ≡ true)
 unfolding rules log files found whole Example.zero Example.one Example.checkpointAtOne Example.two isAccepted
 history-files = (refl, refl, refl)
 

@@ -18,14 +18,15 @@ use Rattle.rules.specs.History.{State, effect, withinLimit, readLine, readLines
 use Rattle.rules.specs.Refusals.{Refusal, Answer, accepted, refused, _>>=_, orRefuse, require, malformed, tooManyLive}
 use Rattle.rules.proofs.Tests.{apart}
 use Rattle.rules.proofs.Answers.{bind-refused, orRefuse-refused, orRefuse-accepted, require-refused}
-use Rattle.rules.proofs.Moving.{effect-same, same-held-refl, same-rows-length}
+use Rattle.rules.proofs.Moving.{effect-same, same-held-refl}
+use Rattle.rules.proofs.Sameness.{length-same-rows}
 use Rattle.demands.specs.Met.{Line, MetIn, malformed-line, too-many, no-object}
 
 -- ---- one line
 
 -- how many are live does not depend on where the line stands
 effect-length : (at size : ℕ) (a : Action) (st : State) → length (effect at size a st .live) ≡ length (effect 0 0 a st .live)
-effect-length at size a st = same-rows-length (effect-same at 0 size 0 a st st (same-held-refl st) .state .live)
+effect-length at size a st = length-same-rows (effect-same at 0 size 0 a st st (same-held-refl st) .state .live)
 
 -- a line that is not empty is refused as malformed, or for too many live
 data Refuses (e k : ℕ) (l : Bytes) (st : State) : Refusal → Type 0 where
@@ -35,22 +36,29 @@ data Refuses (e k : ℕ) (l : Bytes) (st : State) : Refusal → Type 0 where
 readLine-refused : (e k at : ℕ) (l : Bytes) (st : State) (r : Refusal) → readLine mostLive e k at l st ≡ refused r → (l ≡ [] → ⊥) × Refuses e k l st r
 unfolding readLine withinLimit
 readLine-refused e k at [] st r h = apart (cc)
-readLine-refused e k at (b ∷ bs) st r h = ((λ q. apart (cc)), go (bind-refused (orRefuse (malformed e k) (action (b ∷ bs))) (λ a. withinLimit mostLive e k (effect at (length (b ∷ bs)) a st)) h))
+readLine-refused e k at (b ∷ bs) st r h =
+    ((λ q. apart (cc)), go (bind-refused (orRefuse (malformed e k) (action (b ∷ bs))) (λ a. withinLimit mostLive e k (effect at (length (b ∷ bs)) a st)) h))
   where
     over : (a : Action) → action (b ∷ bs) ≡ some a → withinLimit mostLive e k (effect at (length (b ∷ bs)) a st) ≡ refused r → Refuses e k (b ∷ bs) st r
-    over a q h = by-cases (bind-refused (require (tooManyLive e k) (leb (length (effect at (length (b ∷ bs)) a st .live)) mostLive)) (λ _. accepted (effect at (length (b ∷ bs)) a st)) h)
+    over a q h =
+        by-cases (bind-refused (require (tooManyLive e k) (leb (length (effect at (length (b ∷ bs)) a st .live)) mostLive))
+        (λ _. accepted (effect at (length (b ∷ bs)) a st)) h)
       where
         by-cases : (require (tooManyLive e k) (leb (length (effect at (length (b ∷ bs)) a st .live)) mostLive) ≡ refused r)
-            ⊎ ((u : Unit {0}) × (require (tooManyLive e k) (leb (length (effect at (length (b ∷ bs)) a st .live)) mostLive) ≡ accepted u) × (accepted (effect at (length (b ∷ bs)) a st) ≡ refused r))
+            ⊎ ((u : Unit {0}) × (require (tooManyLive e k) (leb (length (effect at (length (b ∷ bs)) a st .live)) mostLive) ≡ accepted u)
+            × (accepted (effect at (length (b ∷ bs)) a st) ≡ refused r))
             → Refuses e k (b ∷ bs) st r
         by-cases (inl x) =
             let p = require-refused (tooManyLive e k) (leb (length (effect at (length (b ∷ bs)) a st .live)) mostLive) x in
             subst (Refuses e k (b ∷ bs) st) (p .1)
-            (by-number a q (subst (λ (n : ℕ). mostLive < n) (effect-length at (length (b ∷ bs)) a st) (leb-false (length (effect at (length (b ∷ bs)) a st .live)) mostLive (p .0))))
+            (by-number a q
+            (subst (λ (n : ℕ). mostLive < n) (effect-length at (length (b ∷ bs)) a st)
+            (leb-false (length (effect at (length (b ∷ bs)) a st .live)) mostLive (p .0))))
         by-cases (inr (u, x, y)) = apart (cc)
 
     go : (orRefuse (malformed e k) (action (b ∷ bs)) ≡ refused r)
-        ⊎ ((a : Action) × (orRefuse (malformed e k) (action (b ∷ bs)) ≡ accepted a) × (withinLimit mostLive e k (effect at (length (b ∷ bs)) a st) ≡ refused r)) → Refuses e k (b ∷ bs) st r
+        ⊎ ((a : Action) × (orRefuse (malformed e k) (action (b ∷ bs)) ≡ accepted a)
+        × (withinLimit mostLive e k (effect at (length (b ∷ bs)) a st) ≡ refused r)) → Refuses e k (b ∷ bs) st r
     go (inl x) = let p = orRefuse-refused (malformed e k) (action (b ∷ bs)) x in subst (Refuses e k (b ∷ bs) st) (p .1) (by-form (p .0))
     go (inr (a, x, y)) = over a (orRefuse-accepted (malformed e k) (action (b ∷ bs)) x) y
 
@@ -80,11 +88,29 @@ record Stop (e k at : ℕ) (ls : List Bytes) (st : State) (r : Refusal) : Type 0
 readLines-stop : (e k at : ℕ) (ls : List Bytes) (st : State) (r : Refusal) → readLines mostLive e k at ls st ≡ refused r → Stop e k at ls st r
 unfolding readLines
 readLines-stop e k at [] st r h = apart (cc)
-readLines-stop e k at (l ∷ ls) st r h = go (bind-refused (readLine mostLive e k at l st) (λ next. readLines mostLive e (suc k) (at + length l + 1) ls next) h) (λ next. readLines-stop e (suc k) (at + length l + 1) ls next r)
+readLines-stop e k at (l ∷ ls) st r h =
+    go
+    (bind-refused (readLine mostLive e k at l st) (λ next. readLines mostLive e (suc k) (at + length l + 1) ls next) h)
+    (λ next. readLines-stop e (suc k) (at + length l + 1) ls next r)
   where
-    go : (readLine mostLive e k at l st ≡ refused r) ⊎ ((next : State) × (readLine mostLive e k at l st ≡ accepted next) × (readLines mostLive e (suc k) (at + length l + 1) ls next ≡ refused r))
-        → ((next : State) → readLines mostLive e (suc k) (at + length l + 1) ls next ≡ refused r → Stop e (suc k) (at + length l + 1) ls next r) → Stop e k at (l ∷ ls) st r
-    go (inl x) ih = record { before = []; line = l; behind = ls; split = refl; come-to = st; accepted-before = refl; number = k; numbered = omega arith; at-line = at; refuses = x }
+    go : (readLine mostLive e k at l st ≡ refused r)
+        ⊎
+        ((next : State) × (readLine mostLive e k at l st ≡ accepted next) × (readLines mostLive e (suc k) (at + length l + 1) ls next ≡ refused r))
+        → ((next : State) → readLines mostLive e (suc k) (at + length l + 1) ls next ≡ refused r → Stop e (suc k) (at + length l + 1) ls next r)
+        → Stop e k at (l ∷ ls) st r
+    go (inl x) ih =
+        record {
+          before = [];
+          line = l;
+          behind = ls;
+          split = refl;
+          come-to = st;
+          accepted-before = refl;
+          number = k;
+          numbered = omega arith;
+          at-line = at;
+          refuses = x;
+        }
     go (inr (next, x, y)) ih =
         let p = ih next y in
         record {
@@ -106,14 +132,17 @@ readLines-past : (e k at : ℕ) (before rest : List Bytes) (st to : State) → r
 unfolding readLines
 readLines-past e k at [] rest st to h =
     let q : st ≡ to = cc in
-    let n : k ≡ 0 + k = omega arith in
-    (at, subst (λ (x : State). readLines mostLive e k at rest st ≡ readLines mostLive e k at rest x) q refl ∙ ap (λ (x : ℕ). readLines mostLive e x at rest to) n)
+    let n : k ≡ 0 + k = omega arith in (
+      at,
+      subst (λ (x : State). readLines mostLive e k at rest st ≡ readLines mostLive e k at rest x) q refl ∙ ap (λ (x : ℕ). readLines mostLive e x at rest to) n,
+    )
 readLines-past e k at (l ∷ ls) rest st to h = go (readLine mostLive e k at l st) h (λ next. readLines-past e (suc k) (at + length l + 1) ls rest next to)
   where
     go : (a : Answer State) → (a >>= (λ next. readLines mostLive e (suc k) (at + length l + 1) ls next)) ≡ accepted to
         → ((next : State) → readLines mostLive e (suc k) (at + length l + 1) ls next ≡ accepted to
         → (at′ : ℕ) × (readLines mostLive e (suc k) (at + length l + 1) (ls ++ rest) next ≡ readLines mostLive e (length ls + suc k) at′ rest to))
-        → (at′ : ℕ) × ((a >>= (λ next. readLines mostLive e (suc k) (at + length l + 1) (ls ++ rest) next)) ≡ readLines mostLive e (suc (length ls) + k) at′ rest to)
+        → (at′ : ℕ)
+        × ((a >>= (λ next. readLines mostLive e (suc k) (at + length l + 1) (ls ++ rest) next)) ≡ readLines mostLive e (suc (length ls) + k) at′ rest to)
     go (accepted next) h ih =
         let p = ih next h in
         let n : length ls + suc k ≡ suc (length ls) + k = omega arith in
@@ -136,11 +165,21 @@ readFile-met f st r h = go (bind-refused (readLines mostLive (f .entry) 1 (f .st
     ended : State → Answer State
     ended next = require (malformed (f .entry) 0) (anyObject (lines (f .body))) >>= (λ _. accepted next)
 
-    at-line : (p : Stop (f .entry) 1 (f .start) (lines (f .body)) st r) → Refuses (f .entry) (p .number) (p .line) (p .come-to) r → (p .line ≡ [] → ⊥) → MetIn f st r
+    at-line : (p : Stop (f .entry) 1 (f .start) (lines (f .body)) st r) → Refuses (f .entry) (p .number) (p .line) (p .come-to) r → (p .line ≡ [] → ⊥)
+        → MetIn f st r
     at-line p h n = by-cause (p .number) (p .numbered ∙ omega arith) h
       where
         here : Line f st
-        here = record { before = p .before; line = p .line; behind = p .behind; split = p .split; not-empty = n; come-to = p .come-to; accepted-before = p .accepted-before }
+        here =
+            record {
+              before = p .before;
+              line = p .line;
+              behind = p .behind;
+              split = p .split;
+              not-empty = n;
+              come-to = p .come-to;
+              accepted-before = p .accepted-before;
+            }
 
         by-cause : {x : Refusal} (k : ℕ) → k ≡ suc (length (p .before)) → Refuses (f .entry) k (p .line) (p .come-to) x → MetIn f st x
         by-cause k q (by-form e) = subst (λ (n : ℕ). MetIn f st (malformed (f .entry) n)) (sym q) (malformed-line here e)
@@ -169,7 +208,8 @@ met-readFile f st r h = go h
     ended : State → Answer State
     ended next = require (malformed (f .entry) 0) (anyObject (lines (f .body))) >>= (λ _. accepted next)
 
-    at-line : (l : Line f st) (x : Refusal) → Refuses (f .entry) (suc (length (l .before))) (l .line) (l .come-to) x → (readLines mostLive (f .entry) 1 (f .start) (lines (f .body)) st >>= ended) ≡ refused x
+    at-line : (l : Line f st) (x : Refusal) → Refuses (f .entry) (suc (length (l .before))) (l .line) (l .come-to) x
+        → (readLines mostLive (f .entry) 1 (f .start) (lines (f .body)) st >>= ended) ≡ refused x
     at-line l x h =
         let p = readLines-past (f .entry) 1 (f .start) (l .before) (l .line ∷ l .behind) st (l .come-to) (l .accepted-before) in
         let n : length (l .before) + 1 ≡ suc (length (l .before)) = omega arith in

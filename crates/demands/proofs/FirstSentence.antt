@@ -46,14 +46,16 @@ module _ (z z′ : State) where
   onwardBy-agree : (f g : File) {u w : Option Way} → SameFile f g → Agree u w → Agree (onwardBy f u) (onwardBy g w)
   unfolding onwardBy follow
   onwardBy-agree f g p unreached = unreached
-  onwardBy-agree f g p (reached r) = reached (same-bind (λ st. readFile mostLive f st) (λ st. readFile mostLive g st) r (λ a b q. readFile-same mostLive f g a b (p .body) q))
+  onwardBy-agree f g p (reached r) =
+      reached (same-bind (λ st. readFile mostLive f st) (λ st. readFile mostLive g st) r (λ a b q. readFile-same mostLive f g a b (p .body) q))
 
   byFile-agree : {o o′ : Option File} (k l : Unit {0} → Option Way) → Left o o′ → Agree (k tt) (l tt) → Agree (byFile o k) (byFile o′ l)
   unfolding byFile
   byFile-agree k l gone a = unreached
   byFile-agree k l (kept {f = f} {g = g} p) a = onwardBy-agree f g p a
 
-  byStart-agree : (st : Option File) {o : Option Way} (l : Unit {0} → Option Way) → ((g : File) → st ≡ some g → Agree o (some (fromCheckpoint g))) → Agree o (l tt) → Agree o (byStart st l)
+  byStart-agree : (st : Option File) {o : Option Way} (l : Unit {0} → Option Way) → ((g : File) → st ≡ some g → Agree o (some (fromCheckpoint g)))
+      → Agree o (l tt) → Agree o (byStart st l)
   unfolding byStart
   byStart-agree none l h a = a
   byStart-agree (some g) l h a = h g refl
@@ -71,7 +73,8 @@ agree-reached : (z z′ : State) {h w : Way} → Agree z z′ (some h) (some w) 
 agree-reached z z′ (reached r) = r
 
 -- what is accepted from version 0 on is what the way gives
-from-zero : (zf : File) (w : Way) (z st : State) → readZero zf ≡ accepted z → (readZero zf >>= (λ x. follow mostLive x w)) ≡ accepted st → follow mostLive z w ≡ accepted st
+from-zero : (zf : File) (w : Way) (z st : State) → readZero zf ≡ accepted z → (readZero zf >>= (λ x. follow mostLive x w)) ≡ accepted st
+    → follow mostLive z w ≡ accepted st
 from-zero zf w z st e h =
     let p = bind-accepted (readZero zf) (λ x. follow mostLive x w) h in
     let q : accepted (p .0) ≡ accepted z = sym (p .1) ∙ e in
@@ -79,11 +82,13 @@ from-zero zf w z st e h =
     subst (λ (x : State). follow mostLive x w ≡ accepted st) r (p .2)
 
 module _ (fs gs : List File) (n : ℕ) (full : FullHistory fs n)
-    (versions : (w : ℕ) → Left (logOf fs .versionFile w) (logOf gs .versionFile w)) (checkpoints : (c : ℕ) → Left (logOf fs .checkpointFile c) (logOf gs .checkpointFile c))
+    (versions : (w : ℕ) → Left (logOf fs .versionFile w) (logOf gs .versionFile w))
+    (checkpoints : (c : ℕ) → Left (logOf fs .checkpointFile c) (logOf gs .checkpointFile c))
     (zf zf′ : File) (z z′ : State) (e : logOf fs .versionFile 0 ≡ some zf) (e′ : logOf gs .versionFile 0 ≡ some zf′)
     (ez : readZero zf ≡ accepted z) (ez′ : readZero zf′ ≡ accepted z′) (same : SameHeld z z′) where
   -- what the whole history gives
-  told : (v : ℕ) (st : State) → v ≤ n → stateBy (logOf fs) (historyTo (logOf fs) v) ≡ accepted st → (h : Way) × (historyTo (logOf fs) v ≡ some h) × (follow mostLive z h ≡ accepted st)
+  told : (v : ℕ) (st : State) → v ≤ n → stateBy (logOf fs) (historyTo (logOf fs) v) ≡ accepted st
+      → (h : Way) × (historyTo (logOf fs) v ≡ some h) × (follow mostLive z h ≡ accepted st)
   told v st l q =
       let p = history-way (logOf fs) n (full .all) v l in
       (p .0, p .1, from-zero zf (p .0) z st ez (sym (stateBy-is (logOf fs) (historyTo (logOf fs) v) zf (p .0) e (p .1)) ∙ q))
@@ -95,17 +100,20 @@ module _ (fs gs : List File) (n : ℕ) (full : FullHistory fs n)
       let p = left-there g (start-left (logOf fs) (logOf gs) v (checkpoints v)) eg in
       let f = p .0 in
       let t = full .checkpoints-true v f (start-found (logOf fs) v f (p .1)) in
-      let own : readFile mostLive f (nothingLive (z .table)) ≡ accepted (t .own) = from-zero zf (fromCheckpoint f) z (t .own) ez (sym (stateBy-is (logOf fs) (some (fromCheckpoint f)) zf (fromCheckpoint f) e refl) ∙ t .own-read) in
+      let own : readFile mostLive f (nothingLive (z .table)) ≡ accepted (t .own) =
+      from-zero zf (fromCheckpoint f) z (t .own) ez (sym (stateBy-is (logOf fs) (some (fromCheckpoint f)) zf (fromCheckpoint f) e refl) ∙ t .own-read) in
       let h = told v (t .history) l (t .history-read) in
       let held : SameHeld (t .history) (t .own) = record {
         table = follow-table mostLive z (h .0) (t .history) (h .2) ∙ sym (follow-table mostLive z (fromCheckpoint f) (t .own) own);
         state = same-state-sym (t .same);
       } in
       let a : SameAnswer SameHeld (follow mostLive z (h .0)) (readFile mostLive f (nothingLive (z .table))) = rw (h .2, own) (both-accepted held) in
-      let b = readFile-same mostLive f g (nothingLive (z .table)) (nothingLive (z′ .table)) (p .2 .body) (nothingLive-same (z .table) (z′ .table) (same .table)) in
+      let b =
+      readFile-same mostLive f g (nothingLive (z .table)) (nothingLive (z′ .table)) (p .2 .body) (nothingLive-same (z .table) (z′ .table) (same .table)) in
       rw (h .1) (reached (same-answer-trans (λ x y u. same-held-trans) a b))
 
-  way-same : (v : ℕ) → v ≤ n → (w : Way) → wayTo (logOf gs) v ≡ some w → SameAnswer SameHeld (stateBy (logOf fs) (historyTo (logOf fs) v)) (stateBy (logOf gs) (wayTo (logOf gs) v))
+  way-same : (v : ℕ) → v ≤ n → (w : Way) → wayTo (logOf gs) v ≡ some w
+      → SameAnswer SameHeld (stateBy (logOf fs) (historyTo (logOf fs) v)) (stateBy (logOf gs) (wayTo (logOf gs) v))
   way-same v l w ew =
       let h = history-way (logOf fs) n (full .all) v l in
       let a : Agree z z′ (historyTo (logOf fs) v) (wayTo (logOf gs) v) = all-agree z z′ (logOf fs) (logOf gs) n versions same left-true v l in
@@ -118,12 +126,18 @@ module _ (fs gs : List File) (n : ℕ) (full : FullHistory fs n)
 -- the gate and the columns refuse by 8, 9 and 11
 listing-kept : (cs : List Condition) (v : ℕ) (st : State) → listing cs v st ≡ refused notKept → ⊥
 unfolding listing gate
-listing-kept cs v st e = go (leb (st .inForce .minReaderVersion) knownReader) (allAmong readerNames (st .inForce .readerFeatures)) (allAmong (st .table .partitionColumns) (map columnOf cs)) listed e
+listing-kept cs v st e =
+    go
+    (leb (st .inForce .minReaderVersion) knownReader)
+    (allAmong readerNames (st .inForce .readerFeatures))
+    (allAmong (st .table .partitionColumns) (map columnOf cs))
+    listed e
   where
     listed : Listing
     listed = record { version = v; table = st .table; inForce = st .inForce; canWrite = writable (st .inForce); rows = picked cs (st .live) }
 
-    go : (a b c : Bool) (l : Listing) → ((require readerTooHigh a >>= (λ _. require unknownFeature b)) >>= (λ _. require noSuchColumn c >>= (λ _. accepted l))) ≡ refused notKept → ⊥
+    go : (a b c : Bool) (l : Listing)
+        → ((require readerTooHigh a >>= (λ _. require unknownFeature b)) >>= (λ _. require noSuchColumn c >>= (λ _. accepted l))) ≡ refused notKept → ⊥
     go false b c l e = let q : _≡_ {A = ℕ} 8 5 = refused-number e in omega arith
     go true false c l e = let q : _≡_ {A = ℕ} 9 5 = refused-number e in omega arith
     go true true false l e = let q : _≡_ {A = ℕ} 11 5 = refused-number e in omega arith
@@ -138,7 +152,8 @@ unfolding stateBy
 not-reached log zf o e q = rw (e, q)
 
 module _ (fs gs : List File) (n : ℕ) (full : FullHistory fs n)
-    (versions : (w : ℕ) → Left (logOf fs .versionFile w) (logOf gs .versionFile w)) (checkpoints : (c : ℕ) → Left (logOf fs .checkpointFile c) (logOf gs .checkpointFile c))
+    (versions : (w : ℕ) → Left (logOf fs .versionFile w) (logOf gs .versionFile w))
+    (checkpoints : (c : ℕ) → Left (logOf fs .checkpointFile c) (logOf gs .checkpointFile c))
     (first : SameFound (logOf fs .versionFile 0) (logOf gs .versionFile 0)) where
   kept-or-not : (cs : List Condition) (v : ℕ) → v ≤ n → KeptOrNot (logOf gs) v (historyListing cs (logOf fs) v) (listingAt cs (logOf gs) v)
   unfolding historyListing listingAt listingBy
@@ -149,14 +164,21 @@ module _ (fs gs : List File) (n : ℕ) (full : FullHistory fs n)
       let zeros = readZero-same (z .0) (z′ .0) (z′ .2 .body) in
       let x′ = same-accepted (x .0) zeros (x .1) in
       let held : SameHeld (x .0) (x′ .0) = both-held (x .0) (x′ .0) zeros (x .1) (x′ .1) in
-      go (wayTo (logOf gs) v) refl (z′ .0) (z′ .1) (way-same fs gs n full versions checkpoints (z .0) (z′ .0) (x .0) (x′ .0) (z .1) (z′ .1) (x .1) (x′ .1) held v l)
+      go
+      (wayTo (logOf gs) v)
+      refl
+      (z′ .0)
+      (z′ .1)
+      (way-same fs gs n full versions checkpoints (z .0) (z′ .0) (x .0) (x′ .0) (z .1) (z′ .1) (x .1) (x′ .1) held v l)
     where
       both-held : {a b : Answer State} (x y : State) → SameAnswer SameHeld a b → a ≡ accepted x → b ≡ accepted y → SameHeld x y
-      both-held x y (both-accepted {a = x₁} {b = y₁} r) e f = let p : x₁ ≡ x = cc in let q : y₁ ≡ y = cc in subst (λ (u : State). SameHeld u y) p (subst (λ (u : State). SameHeld x₁ u) q r)
+      both-held x y (both-accepted {a = x₁} {b = y₁} r) e f =
+          let p : x₁ ≡ x = cc in let q : y₁ ≡ y = cc in subst (λ (u : State). SameHeld u y) p (subst (λ (u : State). SameHeld x₁ u) q r)
       both-held x y (both-refused r) e f = apart (cc)
 
       go : (o : Option Way) → wayTo (logOf gs) v ≡ o → (zf : File) → logOf gs .versionFile 0 ≡ some zf
-          → ((w : Way) → wayTo (logOf gs) v ≡ some w → SameAnswer SameHeld (stateBy (logOf fs) (historyTo (logOf fs) v)) (stateBy (logOf gs) (wayTo (logOf gs) v)))
+          → ((w : Way) → wayTo (logOf gs) v ≡ some w
+          → SameAnswer SameHeld (stateBy (logOf fs) (historyTo (logOf fs) v)) (stateBy (logOf gs) (wayTo (logOf gs) v)))
           → KeptOrNot (logOf gs) v (historyListing cs (logOf fs) v) (listingAt cs (logOf gs) v)
       go none e zf ez same =
           let q : listingAt cs (logOf gs) v ≡ refused notKept = rw (not-reached (logOf gs) zf (wayTo (logOf gs) v) ez e) in
@@ -193,9 +215,11 @@ pub full-log-is-history : FullLogIsHistory
 full-log-is-history s q fs cs n v room es full l eq r = go (first-sentence s s q fs fs cs n v room es full es (none-removed NotVersionZero fs) l eq r)
   where
     reaches : SomeStart (logOf fs) v
-    reaches = record { s = 0; start = inl (refl, full .all 0 (omega arith)); reaches = record { below = omega arith; between = λ w a b. full .all w (omega arith) } }
+    reaches =
+        record { s = 0; start = inl (refl, full .all 0 (omega arith)); reaches = record { below = omega arith; between = λ w a b. full .all w (omega arith) } }
 
-    go : KeptOrNot (logOf fs) v (historyListing cs (logOf fs) v) (reading room s q (theVersion v)) → SameAnswer SameListing (historyListing cs (logOf fs) v) (reading room s q (theVersion v))
+    go : KeptOrNot (logOf fs) v (historyListing cs (logOf fs) v) (reading room s q (theVersion v))
+        → SameAnswer SameListing (historyListing cs (logOf fs) v) (reading room s q (theVersion v))
     go k = sides (k .either)
       where
         sides : SameAnswer SameListing (historyListing cs (logOf fs) v) (reading room s q (theVersion v)) ⊎ (reading room s q (theVersion v) ≡ refused notKept)

@@ -22,7 +22,8 @@ module _ (room : ℕ) (state q : Bytes) where
     bad-query : keptRoom ≤ room → query q ≡ none → Says (refused queryMalformed)
     bad-state : keptRoom ≤ room → There (query q) → manifests state ≡ none → Says (refused stateMalformed)
     many : keptRoom ≤ room → There (query q) → (ms : List Manifest) → manifests state ≡ some ms → mostManifests < length ms → Says (refused tooManyManifests)
-    answer : keptRoom ≤ room → (cs : List Condition) → query q ≡ some cs → (ms : List Manifest) → manifests state ≡ some ms → length ms ≤ mostManifests → Says (accepted (keptFrom 0 cs ms))
+    answer : keptRoom ≤ room → (cs : List Condition) → query q ≡ some cs → (ms : List Manifest) → manifests state ≡ some ms → length ms ≤ mostManifests
+        → Says (accepted (keptFrom 0 cs ms))
 
   says-keeping : (a : Answer (List ℕ)) → Says a → keeping room state q ≡ a
   unfolding keeping
@@ -35,11 +36,13 @@ module _ (room : ℕ) (state q : Bytes) where
   said : (a : Answer (List ℕ)) × Says a
   said = go (leb keptRoom room) refl (query q) refl (manifests state) refl
     where
-      counted : keptRoom ≤ room → (cs : List Condition) → query q ≡ some cs → (ms : List Manifest) → manifests state ≡ some ms → (b : Bool) → leb (length ms) mostManifests ≡ b → (a : Answer (List ℕ)) × Says a
+      counted : keptRoom ≤ room → (cs : List Condition) → query q ≡ some cs → (ms : List Manifest) → manifests state ≡ some ms → (b : Bool)
+          → leb (length ms) mostManifests ≡ b → (a : Answer (List ℕ)) × Says a
       counted l cs eq ms em true e = (_, answer l cs eq ms em (leb-true (length ms) mostManifests e))
       counted l cs eq ms em false e = (_, many l (cs, eq) ms em (leb-false (length ms) mostManifests e))
 
-      go : (b : Bool) → leb keptRoom room ≡ b → (c : Option (List Condition)) → query q ≡ c → (m : Option (List Manifest)) → manifests state ≡ m → (a : Answer (List ℕ)) × Says a
+      go : (b : Bool) → leb keptRoom room ≡ b → (c : Option (List Condition)) → query q ≡ c → (m : Option (List Manifest)) → manifests state ≡ m
+          → (a : Answer (List ℕ)) × Says a
       go false e c eq m em = (_, short (leb-false keptRoom room e))
       go true e none eq m em = (_, bad-query (leb-true keptRoom room e) eq)
       go true e (some cs) eq none em = (_, bad-state (leb-true keptRoom room e) (cs, eq) em)
@@ -53,7 +56,10 @@ keeping-exactly room state q = record {
   no-1 = ((λ e. f1 (keeping-says room state q (refused roomTooShort) e)), λ l. says-keeping room state q _ (short l));
   no-10 = ((λ e. f10 (keeping-says room state q (refused queryMalformed) e)), λ c. says-keeping room state q _ (bad-query (c .0) (c .1)));
   no-14 = ((λ e. f14 (keeping-says room state q (refused stateMalformed) e)), λ c. says-keeping room state q _ (bad-state (c .0) (c .1) (c .2)));
-  no-15 = ((λ e. f15 (keeping-says room state q (refused tooManyManifests) e)), λ c. says-keeping room state q _ (many (c .0) (c .1) (c .2 .0) (c .2 .1) (c .2 .2)));
+  no-15 = (
+    (λ e. f15 (keeping-says room state q (refused tooManyManifests) e)),
+    λ c. says-keeping room state q _ (many (c .0) (c .1) (c .2 .0) (c .2 .1) (c .2 .2)),
+  );
   no-0 = λ ks. (
     (λ e. f0 ks (keeping-says room state q (accepted ks) e)),
     λ c. says-keeping room state q _ (answer (c .0) (c .1 .0) (c .1 .1) (c .1 .2 .0) (c .1 .2 .1) (c .1 .2 .2)) ∙ ap accepted (c .1 .2 .3),
@@ -69,9 +75,12 @@ keeping-exactly room state q = record {
     f14 : Says room state q (refused stateMalformed) → (keptRoom ≤ room) × There (query q) × (manifests state ≡ none)
     f14 (bad-state l c e) = (l, c, e)
 
-    f15 : Says room state q (refused tooManyManifests) → (keptRoom ≤ room) × There (query q) × ((ms : List Manifest) × (manifests state ≡ some ms) × (mostManifests < length ms))
+    f15 : Says room state q (refused tooManyManifests)
+        → (keptRoom ≤ room) × There (query q) × ((ms : List Manifest) × (manifests state ≡ some ms) × (mostManifests < length ms))
     f15 (many l c ms e m) = (l, c, (ms, e, m))
 
     f0 : (ks : List ℕ) → Says room state q (accepted ks)
-        → (keptRoom ≤ room) × ((cs : List Condition) × (query q ≡ some cs) × ((ms : List Manifest) × (manifests state ≡ some ms) × (length ms ≤ mostManifests) × (keptFrom 0 cs ms ≡ ks)))
+        → (keptRoom ≤ room)
+        × ((cs : List Condition) × (query q ≡ some cs)
+        × ((ms : List Manifest) × (manifests state ≡ some ms) × (length ms ≤ mostManifests) × (keptFrom 0 cs ms ≡ ks)))
     f0 ks (answer l cs c ms e m) = (l, (cs, c, (ms, e, m, refl)))

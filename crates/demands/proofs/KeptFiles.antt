@@ -19,9 +19,9 @@ use Rattle.rules.specs.Keyed.{Ascends}
 use Rattle.rules.proofs.Tests.{apart}
 use Rattle.rules.proofs.Json.Suffix.{some-same}
 use Rattle.rules.proofs.Ascending.{ascends-cons}
-use Rattle.rules.proofs.Order.{among-true}
+use Rattle.rules.proofs.Ranges.{among-true}
 use Rattle.rules.proofs.Bundles.{length-entries}
-use Rattle.rules.proofs.SoleNames.{bind-some, guard-some}
+use Rattle.rules.proofs.Choices.{bind-some, guard-some}
 use Rattle.demands.specs.Removed.{Without, end, keep, remove, AreBytes}
 use Rattle.demands.proofs.LittleEndian.{Fits, fits-little}
 

@@ -55,10 +55,13 @@ module _ (c now retention : ℕ) where
   unfolding named keepIf
   named-may-go es k u h end = end
   named-may-go es k u h (keep {f = f} {fs = fs} p w) =
-      keep p (named-may-go es (suc k) (u .1) (λ n l m. in-later (f .entry) n (named c now retention fs) (mayGo c now retention f) (omega (arith, u .0)) (h n (omega arith) m)) w)
+      keep p
+      (named-may-go es (suc k) (u .1)
+      (λ n l m. in-later (f .entry) n (named c now retention fs) (mayGo c now retention f) (omega (arith, u .0)) (h n (omega arith) m)) w)
   named-may-go es k u h (remove {f = f} {fs = fs} m w) =
       remove (go (mayGo c now retention f) refl (h (f .entry) (omega (arith, u .0)) m))
-      (named-may-go es (suc k) (u .1) (λ n l m. in-later (f .entry) n (named c now retention fs) (mayGo c now retention f) (omega (arith, u .0)) (h n (omega arith) m)) w)
+      (named-may-go es (suc k) (u .1)
+      (λ n l m. in-later (f .entry) n (named c now retention fs) (mayGo c now retention f) (omega (arith, u .0)) (h n (omega arith) m)) w)
     where
       go : (b : Bool) → mayGo c now retention f ≡ b → In (f .entry) (keepIf b (f .entry) (named c now retention fs)) → mayGo c now retention f ≡ true
       go true e i = e
@@ -78,7 +81,8 @@ isBetween-version c tooLarge e = apart (cc)
 
 mayGo-between : (c now retention : ℕ) (f : File) → mayGo c now retention f ≡ true → Between c f
 unfolding mayGo
-mayGo-between c now retention f e = isBetween-version c (nameOf (f .name)) (and-left (isBetween c (versionIn (nameOf (f .name)))) (isOld now retention (f .time)) e)
+mayGo-between c now retention f e =
+    isBetween-version c (nameOf (f .name)) (and-left (isBetween c (versionIn (nameOf (f .name)))) (isOld now retention (f .time)) e)
 
 pub without-weaken : {P Q : File → Type 0} {fs gs : List File} → ((f : File) → P f → Q f) → Without P fs gs → Without Q fs gs
 without-weaken h end = end
@@ -110,12 +114,15 @@ unfolding cleaning
 cleaning-names lent s now retention fs es eb h =
     let a = bind-accepted (require roomTooShort (enough lent)) (λ _. orRefuse bundleMalformed (bundle s) >>= passed) h in
     let b : (orRefuse bundleMalformed (some fs) >>= passed) ≡ accepted es = rw eb at (a .2) in
-    let c = bind-accepted (require versionTooLarge (not (anyTooLarge fs))) (λ _. orRefuse noVersionZero (logOf fs .versionFile 0) >>= (λ zf. cleanedAt (marked (logOf fs)) zf now retention fs)) b in
+    let c = bind-accepted (require versionTooLarge (not (anyTooLarge fs)))
+    (λ _. orRefuse noVersionZero (logOf fs .versionFile 0) >>= (λ zf. cleanedAt (marked (logOf fs)) zf now retention fs)) b in
     let d = bind-accepted (orRefuse noVersionZero (logOf fs .versionFile 0)) (λ zf. cleanedAt (marked (logOf fs)) zf now retention fs) (c .2) in
     cleaned-names (d .0) now retention fs (marked (logOf fs)) es (d .2)
   where
     passed : List File → Answer (List ℕ)
-    passed fs = require versionTooLarge (not (anyTooLarge fs)) >>= (λ _. orRefuse noVersionZero (logOf fs .versionFile 0) >>= (λ zf. cleanedAt (marked (logOf fs)) zf now retention fs))
+    passed fs =
+        require versionTooLarge (not (anyTooLarge fs))
+        >>= (λ _. orRefuse noVersionZero (logOf fs .versionFile 0) >>= (λ zf. cleanedAt (marked (logOf fs)) zf now retention fs))
 
 -- ---- what is left
 
@@ -127,8 +134,13 @@ module _ (c : ℕ) (test : Name → Bool) where
 without-same : (c : ℕ) (fs gs : List File) → Without (Between c) fs gs → SameFrom c (logOf fs) (logOf gs)
 unfolding logOf is versionIn checkpointIn isMarker
 without-same c fs gs w = record {
-  first = find-same (Between c) (λ (n : Name). is 0 (versionIn n)) (between-fails c (λ (n : Name). is 0 (versionIn n)) (λ x a b. ne-eqb 0 x (λ q. omega arith))) w;
-  versions = λ v l. find-same (Between c) (λ (n : Name). is v (versionIn n)) (between-fails c (λ (n : Name). is v (versionIn n)) (λ x a b. ne-eqb v x (λ q. omega arith))) w;
+  first =
+      find-same (Between c) (λ (n : Name). is 0 (versionIn n)) (between-fails c (λ (n : Name). is 0 (versionIn n)) (λ x a b. ne-eqb 0 x (λ q. omega arith))) w;
+  versions = λ v l. find-same
+      (Between c)
+      (λ (n : Name). is v (versionIn n))
+      (between-fails c (λ (n : Name). is v (versionIn n)) (λ x a b. ne-eqb v x (λ q. omega arith)))
+      w;
   checkpoints = λ s. find-same (Between c) (λ (n : Name). is s (checkpointIn n)) (between-fails c (λ (n : Name). is s (checkpointIn n)) (λ x a b. refl)) w;
   marker = find-same (Between c) isMarker (between-fails c isMarker (λ x a b. refl)) w;
 }
@@ -139,7 +151,8 @@ without-large c fs gs w = large-same (Between c) (between-fails c isTooLarge (λ
 
 -- reading two bundles alike, as far as their logs answer alike
 reading-same : (room : ℕ) (s t q : Bytes) (asked : Asked) (fs gs : List File) → bundle s ≡ some fs → bundle t ≡ some gs → anyTooLarge fs ≡ anyTooLarge gs
-    → ((cs : List Condition) → SameAnswer SameListing (listingAt cs (logOf fs) (versionAsked asked (logOf fs))) (listingAt cs (logOf gs) (versionAsked asked (logOf gs))))
+    → ((cs : List Condition)
+    → SameAnswer SameListing (listingAt cs (logOf fs) (versionAsked asked (logOf fs))) (listingAt cs (logOf gs) (versionAsked asked (logOf gs))))
     → SameAnswer SameListing (reading room s q asked) (reading room t q asked)
 unfolding reading
 reading-same room s t q asked fs gs es et large h =
@@ -163,7 +176,8 @@ run-same : (s t : Bytes) (fs gs : List File) → Run s t fs gs → SameFrom (che
 run-same s t fs gs r =
     let c = checkpointOf fs in
     let w = without-weaken (mayGo-between c (r .now) (r .retention))
-    (named-may-go c (r .now) (r .retention) (r .es) 0 (bundle-sound s fs (r .before) .numbered) (λ n l h. cleaning-names (r .lent) s (r .now) (r .retention) fs (r .es) (r .before) (r .names) n h) (r .removed)) in
+    (named-may-go c (r .now) (r .retention) (r .es) 0 (bundle-sound s fs (r .before) .numbered)
+    (λ n l h. cleaning-names (r .lent) s (r .now) (r .retention) fs (r .es) (r .before) (r .names) n h) (r .removed)) in
     (without-same c fs gs w, without-large c fs gs w)
 
 pub last-sentence : LastSentence
@@ -174,7 +188,8 @@ last-sentence s t fs gs r =
     record {
       by-number = λ room q v l. reading-same room s t q (theVersion v) fs gs (r .before) (r .after) (p .1) (λ cs. at cs v l);
       the-latest = λ room q. reading-same room s t q theLatest fs gs (r .before) (r .after) (p .1)
-          (λ cs. subst (λ (v : ℕ). SameAnswer SameListing (listingAt cs (logOf fs) (latest (logOf fs))) (listingAt cs (logOf gs) v)) (latest-same (logOf fs) (logOf gs) (p .0))
+          (λ cs. subst (λ (v : ℕ). SameAnswer SameListing (listingAt cs (logOf fs) (latest (logOf fs))) (listingAt cs (logOf gs) v)) (latest-same (logOf fs)
+          (logOf gs) (p .0))
           (at cs (latest (logOf fs)) (latest-above (logOf fs))));
     }
 

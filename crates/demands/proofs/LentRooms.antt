@@ -64,7 +64,10 @@ unfolding numberOf
 leaves-ends {A} n numbers (accepted a) room long few =
     let e = leaves-accepted n numbers room a in
     record {
-      filled = λ b h. let q : a ≡ b = cc in ap (take n) e ∙ subst (λ (x : A). take n (filled n (numbers a) room) ≡ numbers x ++ replicate (n - length (numbers x)) 0) q (take-filled n (numbers a) room (few a refl));
+      filled = λ b h. let q : a ≡ b = cc in
+          ap (take n) e
+          ∙ subst (λ (x : A). take n (filled n (numbers a) room) ≡ numbers x ++ replicate (n - length (numbers x)) 0) q
+          (take-filled n (numbers a) room (few a refl));
       untouched = λ r h. apart (cc);
       zeros = λ r h. apart (cc);
       beyond = ap (drop n) e ∙ drop-filled n (numbers a) room (few a refl);
@@ -80,7 +83,13 @@ leaves-ends {A} n numbers (refused s) room long few = by-number (decide (s .numb
     by-number : (s .number ≡ 1) ⊎ (s .number ≡ 1 → ⊥) → RoomEnds {A = A} n numbers (refused s) room (leaves n numbers (refused s) room)
     by-number (inl one) =
         let e = leaves-untouched n numbers room s one in
-        record { filled = λ b h. apart (cc); untouched = λ r h q. e; zeros = λ r h q. absurd (q (sym (refused-number h) ∙ one)); beyond = ap (drop n) e; long = ap length e }
+        record {
+          filled = λ b h. apart (cc);
+          untouched = λ r h q. e;
+          zeros = λ r h q. absurd (q (sym (refused-number h) ∙ one));
+          beyond = ap (drop n) e;
+          long = ap length e;
+        }
     by-number (inr other) =
         let e = leaves-zeros n numbers room s other in
         record {
@@ -127,7 +136,8 @@ cleaning-long lent s now retention h = true-enough lent (long-enough (enough len
 pub length-rowsNumbers : (rs : List Row) → length (rowsNumbers rs) ≡ length rs * 4
 unfolding rowsNumbers rowNumbers
 length-rowsNumbers [] = refl
-length-rowsNumbers (r ∷ rs) = let e : length (rowsNumbers rs) ≡ length rs * 4 = length-rowsNumbers rs in omega (arith, length-append (rowNumbers r) (rowsNumbers rs))
+length-rowsNumbers (r ∷ rs) =
+    let e : length (rowsNumbers rs) ≡ length rs * 4 = length-rowsNumbers rs in omega (arith, length-append (rowNumbers r) (rowsNumbers rs))
 
 length-keepIf : {A : Type 0} (b : Bool) (x : A) (xs : List A) → length (keepIf b x xs) ≤ suc (length xs)
 unfolding keepIf
@@ -142,7 +152,8 @@ length-picked cs (r ∷ rs) = omega (arith, length-keepIf (meetsAll cs (r .facts
 listing-rows : (cs : List Condition) (v : ℕ) (st : State) (l : Listing) → listing cs v st ≡ accepted l → l .rows ≡ picked cs (st .live)
 unfolding listing
 listing-rows cs v st l h =
-    let a = bind-accepted (gate (st .inForce)) (λ _. require noSuchColumn (allAmong (st .table .partitionColumns) (map columnOf cs)) >>= (λ _. accepted listed)) h in
+    let a =
+    bind-accepted (gate (st .inForce)) (λ _. require noSuchColumn (allAmong (st .table .partitionColumns) (map columnOf cs)) >>= (λ _. accepted listed)) h in
     let b = bind-accepted (require noSuchColumn (allAmong (st .table .partitionColumns) (map columnOf cs))) (λ _. accepted listed) (a .2) in
     let c : accepted listed ≡ accepted l = b .2 in
     let d : listed ≡ l = cc in
@@ -183,7 +194,12 @@ reading-few room s q asked l h =
 pub reading-room-ends : ReadingRoomEnds
 unfolding roomAfterReading
 reading-room-ends room s q asked =
-    leaves-ends rowsRoom (λ (l : Listing). rowsNumbers (l .rows)) (reading (length room) s q asked) room (reading-long (length room) s q asked) (reading-few (length room) s q asked)
+    leaves-ends rowsRoom
+    (λ (l : Listing). rowsNumbers (l .rows))
+    (reading (length room) s q asked)
+    room
+    (reading-long (length room) s q asked)
+    (reading-few (length room) s q asked)
 
 -- ---- keeping
 
@@ -220,9 +236,11 @@ keeping-room-ends room state q =
 length-named : (c now retention : ℕ) (fs : List File) → length (named c now retention fs) ≤ length fs
 unfolding named
 length-named c now retention [] = omega arith
-length-named c now retention (f ∷ fs) = omega (arith, length-keepIf (mayGo c now retention f) (f .entry) (named c now retention fs), length-named c now retention fs)
+length-named c now retention (f ∷ fs) =
+    omega (arith, length-keepIf (mayGo c now retention f) (f .entry) (named c now retention fs), length-named c now retention fs)
 
-cleanedAt-few : (o : Option ℕ) (zf : File) (now retention : ℕ) (fs : List File) (es : List ℕ) → cleanedAt o zf now retention fs ≡ accepted es → length es ≤ length fs
+cleanedAt-few : (o : Option ℕ) (zf : File) (now retention : ℕ) (fs : List File) (es : List ℕ) → cleanedAt o zf now retention fs ≡ accepted es
+    → length es ≤ length fs
 unfolding cleanedAt cleanedBy
 cleanedAt-few none zf now retention fs es h = let e : [] ≡ es = cc in subst (λ (xs : List ℕ). length xs ≤ length fs) e (omega arith)
 cleanedAt-few (some c) zf now retention fs es h = go (startAt (logOf fs) c) (otherWayTo (logOf fs) c) h

@@ -47,9 +47,14 @@ flip-same f g p = record { name = sym (p .name); time = sym (p .time); body = sy
 
 module _ (MayGo : File → Type 0) where
   -- those left all stand behind f, so f is not among them, and they are files of the rest
-  passed : (f : File) (fs gs : List File) → All (Below f) gs → All (λ (g : File). Among (λ (x : File). SameFile x g) (f ∷ fs)) gs → All (λ (g : File). Among (λ (x : File). SameFile x g) fs) gs
+  passed : (f : File) (fs gs : List File) → All (Below f) gs → All (λ (g : File). Among (λ (x : File). SameFile x g) (f ∷ fs)) gs
+      → All (λ (g : File). Among (λ (x : File). SameFile x g) fs) gs
   passed f fs gs l h =
-      All-weaken (λ (g : File). Below f g × Among (λ (x : File). SameFile x g) (f ∷ fs)) (λ (g : File). Among (λ (x : File). SameFile x g) fs) gs (λ g p. go g (p .0) (p .1))
+      All-weaken
+      (λ (g : File). Below f g × Among (λ (x : File). SameFile x g) (f ∷ fs))
+      (λ (g : File). Among (λ (x : File). SameFile x g) fs)
+      gs
+      (λ g p. go g (p .0) (p .1))
       (all-both (Below f) (λ (g : File). Among (λ (x : File). SameFile x g) (f ∷ fs)) gs l h)
     where
       go : (g : File) → Below f g → Among (λ (x : File). SameFile x g) (f ∷ fs) → Among (λ (x : File). SameFile x g) fs
@@ -73,7 +78,11 @@ module _ (MayGo : File → Type 0) where
       kept p = record {
         from = passed f fs gs (All-weaken (Below g) (Below f) gs (λ x l. same-below g f x (flip-same f g p) l) (b .0)) (h .from .1);
         left =
-            All-weaken (λ (x : File). Below f x × (Among (λ (y : File). SameFile x y) (g ∷ gs) ⊎ MayGo x)) (λ (x : File). Among (λ (y : File). SameFile x y) gs ⊎ MayGo x) fs (λ x q. still x (q .0) (q .1))
+            All-weaken
+            (λ (x : File). Below f x × (Among (λ (y : File). SameFile x y) (g ∷ gs) ⊎ MayGo x))
+            (λ (x : File). Among (λ (y : File). SameFile x y) gs ⊎ MayGo x)
+            fs
+            (λ x q. still x (q .0) (q .1))
             (all-both (Below f) (λ (x : File). Among (λ (y : File). SameFile x y) (g ∷ gs) ⊎ MayGo x) fs (a .0) (h .left .1));
       }
         where
@@ -89,9 +98,11 @@ module _ (MayGo : File → Type 0) where
           let l : Below f g = below-same f (r .0) g (r .2) (r .1) in
           (l, All-weaken (Below g) (Below f) gs (λ x m. order-trans (paddedName f) (paddedName g) (paddedName x) l m) (b .0))
 
-      go : SameFile f g ⊎ Among (λ (x : File). SameFile x g) fs → (LeftOf MayGo fs gs → Without MayGo fs gs) → (LeftOf MayGo fs (g ∷ gs) → Without MayGo fs (g ∷ gs)) → Without MayGo (f ∷ fs) (g ∷ gs)
+      go : SameFile f g ⊎ Among (λ (x : File). SameFile x g) fs → (LeftOf MayGo fs gs → Without MayGo fs gs)
+          → (LeftOf MayGo fs (g ∷ gs) → Without MayGo fs (g ∷ gs)) → Without MayGo (f ∷ fs) (g ∷ gs)
       go (inl p) on past = keep p (on (kept p))
-      go (inr c) on past = remove (must-go f (g ∷ gs) (behind c) (h .left .0)) (past (record { from = passed f fs (g ∷ gs) (behind c) (h .from); left = h .left .1 }))
+      go (inr c) on past =
+          remove (must-go f (g ∷ gs) (behind c) (h .left .0)) (past (record { from = passed f fs (g ∷ gs) (behind c) (h .from); left = h .left .1 }))
 
 pub removal-keeps-order : RemovalKeepsOrder
 removal-keeps-order MayGo s t fs gs es et h = left-without MayGo fs gs (bundle-sound s fs es .ascends) (bundle-sound t gs et .ascends) h

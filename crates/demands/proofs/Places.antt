@@ -26,7 +26,7 @@ use Rattle.rules.specs.Reading.{Listing, stateBy}
 use Rattle.rules.specs.Refusals.{accepted}
 use Rattle.rules.proofs.Tests.{apart}
 use Rattle.rules.proofs.Order.{same-refl, ne-same, order-less-ne}
-use Rattle.rules.proofs.SoleNames.{guard-some}
+use Rattle.rules.proofs.Choices.{guard-some}
 use Rattle.rules.proofs.Json.Suffix.{some-same, bound}
 use Rattle.demands.specs.Reaching.{From, at-checkpoint, at-zero, and-then}
 use Rattle.demands.specs.Replayed.{Line, linesFrom, linesIn, linesOn, after, afterAll, liveAt, InPathOrder}
@@ -44,7 +44,8 @@ record BodyIn (s : Bytes) (f : File) : Type 0 where
   parts : s ≡ before ++ (f .body ++ behind)
   place : length before ≡ f .start
 
-filesFrom-stand : (k at : ℕ) (es : List Entry) (before rest : Bytes) (fs : List File) → length before ≡ at → filesFrom k at es rest ≡ some fs → All (BodyIn (before ++ rest)) fs
+filesFrom-stand : (k at : ℕ) (es : List Entry) (before rest : Bytes) (fs : List File) → length before ≡ at → filesFrom k at es rest ≡ some fs
+    → All (BodyIn (before ++ rest)) fs
 unfolding filesFrom All
 filesFrom-stand k at [] before rest fs l h = bound (guard (isEmpty rest)) _ h (λ _ _ e. subst (All (BodyIn (before ++ rest))) (some-same e) tt)
 filesFrom-stand k at (e ∷ es) before rest fs l h =
@@ -52,7 +53,10 @@ filesFrom-stand k at (e ∷ es) before rest fs l h =
     bound (guard (eqb (e .start) at)) _ b (λ _ _ c.
     bound (guard (leb n (length rest))) _ c (λ _ g d.
     bound (filesFrom (suc k) (at + n) es (drop n rest)) _ d (λ gs i j.
-    subst (All (BodyIn (before ++ rest))) (some-same j) (this name, further gs (filesFrom-stand (suc k) (at + n) es (before ++ take n rest) (drop n rest) gs (behind (leb-true n (length rest) (guard-some _ g))) i))))))
+    subst (All (BodyIn (before ++ rest))) (some-same j) (
+      this name,
+      further gs (filesFrom-stand (suc k) (at + n) es (before ++ take n rest) (drop n rest) gs (behind (leb-true n (length rest) (guard-some _ g))) i),
+    )))))
   where
     n : ℕ
     n = e .size
@@ -64,7 +68,8 @@ filesFrom-stand k at (e ∷ es) before rest fs l h =
     behind m = omega (arith, length-append before (take n rest), length-take-le n rest m)
 
     further : (gs : List File) → All (BodyIn ((before ++ take n rest) ++ drop n rest)) gs → All (BodyIn (before ++ rest)) gs
-    further gs a = subst (λ (x : Bytes). All (BodyIn x) gs) (append-assoc before (take n rest) (drop n rest) ∙ ap (λ (x : Bytes). before ++ x) (take-append-drop n rest)) a
+    further gs a =
+        subst (λ (x : Bytes). All (BodyIn x) gs) (append-assoc before (take n rest) (drop n rest) ∙ ap (λ (x : Bytes). before ++ x) (take-append-drop n rest)) a
 
 bundle-stand : (s : Bytes) (fs : List File) → bundle s ≡ some fs → All (BodyIn s) fs
 unfolding bundle filesOf
@@ -125,17 +130,25 @@ first-line (c ∷ cs) ls at s before behind p b i h = go (action (c ∷ cs)) ref
     size : ℕ
     size = length (c ∷ cs)
 
-    go : (o : Option Action) → action (c ∷ cs) ≡ o → All (LineIn s) (elim o [ none ↦ linesFrom (at + size + 1) ls | some a ↦ record { at = at; size = size; does = a } ∷ linesFrom (at + size + 1) ls ])
+    go : (o : Option Action) → action (c ∷ cs) ≡ o
+        → All (LineIn s) (elim o [ none ↦ linesFrom (at + size + 1) ls | some a ↦ record { at = at; size = size; does = a } ∷ linesFrom (at + size + 1) ls ])
     go none e = h
     go (some a) e = (record { before = before; line = c ∷ cs; behind = behind; parts = p; place = b; long = refl; is-line = i; says = e }, h)
 
-split-stand : (body : Bytes) (ls : List Bytes) → Split body ls → (at : ℕ) (before behind : Bytes) → length before ≡ at → All (LineIn (before ++ (body ++ behind))) (linesFrom at ls)
+split-stand : (body : Bytes) (ls : List Bytes) → Split body ls → (at : ℕ) (before behind : Bytes) → length before ≡ at
+    → All (LineIn (before ++ (body ++ behind))) (linesFrom at ls)
 unfolding linesFrom All
 split-stand _ _ no-line at before behind b = tt
 split-stand _ _ (last-line {l = l} i) at before behind b = first-line l [] at (before ++ (l ++ behind)) before behind refl b i tt
 split-stand _ _ (more-lines {l = l} {rest = rest} {ls = ls} i h) at before behind b =
-    first-line l ls at (before ++ ((l ++ 0x0A ∷ rest) ++ behind)) before (0x0A ∷ (rest ++ behind)) (ap (λ (x : Bytes). before ++ x) (append-assoc l (0x0A ∷ rest) behind)) b i
-    (subst (λ (x : Bytes). All (LineIn x) (linesFrom (at + length l + 1) ls)) past (split-stand rest ls h (at + length l + 1) (before ++ (l ++ 0x0A ∷ [])) behind next))
+    first-line l ls at
+    (before ++ ((l ++ 0x0A ∷ rest) ++ behind))
+    before
+    (0x0A ∷ (rest ++ behind))
+    (ap (λ (x : Bytes). before ++ x) (append-assoc l (0x0A ∷ rest) behind))
+    b i
+    (subst (λ (x : Bytes). All (LineIn x) (linesFrom (at + length l + 1) ls)) past
+    (split-stand rest ls h (at + length l + 1) (before ++ (l ++ 0x0A ∷ [])) behind next))
   where
     past : (before ++ (l ++ 0x0A ∷ [])) ++ (rest ++ behind) ≡ before ++ ((l ++ 0x0A ∷ rest) ++ behind)
     past =
@@ -149,7 +162,10 @@ split-stand _ _ (more-lines {l = l} {rest = rest} {ls = ls} i h) at before behin
 
 file-stand : (s : Bytes) (f : File) → BodyIn s f → All (LineIn s) (linesIn f)
 file-stand s f p =
-    subst (λ (x : Bytes). All (LineIn x) (linesIn f)) (sym (p .parts)) (split-stand (f .body) (lines (f .body)) (lines-split (f .body)) (f .start) (p .before) (p .behind) (p .place))
+    subst
+    (λ (x : Bytes). All (LineIn x) (linesIn f))
+    (sym (p .parts))
+    (split-stand (f .body) (lines (f .body)) (lines-split (f .body)) (f .start) (p .before) (p .behind) (p .place))
 
 -- ---- lines on a way
 
@@ -194,16 +210,26 @@ from-stand s fs a t _ _ (and-then {v = v} {w = w} {g = g} h e) =
 
 line-row : (s : Bytes) (l : Line) (f : Facts) → LineIn s l → l .does ≡ add f → StandsIn s (record { at = l .at; size = l .size; facts = f })
 line-row s l f p e =
-    record { before = p .before; line = p .line; behind = p .behind; parts = p .parts; place = p .place; long = p .long; says = (p .is-line, p .says ∙ ap some e) }
+    record {
+      before = p .before;
+      line = p .line;
+      behind = p .behind;
+      parts = p .parts;
+      place = p .place;
+      long = p .long;
+      says = (p .is-line, p .says ∙ ap some e);
+    }
 
-after-stand : (s p : Bytes) (l : Line) (was : Option Row) (r : Row) → LineIn s l → (was ≡ some r → StandsIn s r) → after (l .at) (l .size) p (l .does) was ≡ some r → StandsIn s r
+after-stand : (s p : Bytes) (l : Line) (was : Option Row) (r : Row) → LineIn s l → (was ≡ some r → StandsIn s r)
+    → after (l .at) (l .size) p (l .does) was ≡ some r → StandsIn s r
 unfolding after
 after-stand s p l was r i k e = go (l .does) refl e
   where
     go : (a : Action) → l .does ≡ a → after (l .at) (l .size) p a was ≡ some r → StandsIn s r
     go (add f) q e = added (same p (f .path)) e
       where
-        added : (b : Bool) → _≡_ {A = Option Row} (elim b [ true ↦ some (record { at = l .at; size = l .size; facts = f }) | false ↦ was ]) (some r) → StandsIn s r
+        added : (b : Bool) → _≡_ {A = Option Row} (elim b [ true ↦ some (record { at = l .at; size = l .size; facts = f }) | false ↦ was ]) (some r)
+            → StandsIn s r
         added true e = subst (StandsIn s) (some-same e) (line-row s l f i q)
         added false e = k e
     go (remove x) q e = removed (same p x) e
@@ -216,7 +242,8 @@ after-stand s p l was r i k e = go (l .does) refl e
     go mergeskip q e = k e
     go other q e = k e
 
-afterAll-stand : (s p : Bytes) (ls : List Line) (was : Option Row) (r : Row) → All (LineIn s) ls → (was ≡ some r → StandsIn s r) → afterAll p ls was ≡ some r → StandsIn s r
+afterAll-stand : (s p : Bytes) (ls : List Line) (was : Option Row) (r : Row) → All (LineIn s) ls → (was ≡ some r → StandsIn s r)
+    → afterAll p ls was ≡ some r → StandsIn s r
 unfolding afterAll All
 afterAll-stand s p [] was r a k e = k e
 afterAll-stand s p (l ∷ ls) was r a k e = afterAll-stand s p ls (after (l .at) (l .size) p (l .does) was) r (a .1) (after-stand s p l was r (a .0) k) e
@@ -248,7 +275,8 @@ picked-all P cs (r ∷ rs) a = go (meetsAll cs (r .facts)) (picked-all P cs rs (
 
 -- ---- reading
 
-state-stand : (s : Bytes) (fs : List File) (v : ℕ) (st : State) → bundle s ≡ some fs → stateBy (logOf fs) (wayTo (logOf fs) v) ≡ accepted st → All (StandsIn s) (st .live)
+state-stand : (s : Bytes) (fs : List File) (v : ℕ) (st : State) → bundle s ≡ some fs → stateBy (logOf fs) (wayTo (logOf fs) v) ≡ accepted st
+    → All (StandsIn s) (st .live)
 state-stand s fs v st eb h =
     let p = replays-exactly (logOf fs) (wayTo (logOf fs) v) st h in
     let q = read-from-the-highest (logOf fs) v (p .w) .0 (p .way-there) in

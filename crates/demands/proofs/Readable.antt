@@ -17,7 +17,8 @@ use Rattle.rules.specs.Starts.{Log, logOf, everyLine, wellFormed, Way, fromZero
 use Rattle.rules.specs.Reading.{stateBy}
 use Rattle.rules.specs.Refusals.{_>>=_, Answer, accepted, refused, orRefuse, require, noVersionZero, notKept, malformed, tooManyLive}
 use Rattle.rules.proofs.Tests.{apart}
-use Rattle.rules.proofs.Replaying.{bind-accepted, require-accepted}
+use Rattle.rules.proofs.Replaying.{bind-accepted}
+use Rattle.rules.proofs.Readable.{readFile-readable}
 use Rattle.demands.specs.Reaching.{There}
 use Rattle.demands.specs.FullHistory.{FullHistory, TrueIsReadable}
 use Rattle.demands.proofs.Starts.{byFile-some}
@@ -41,13 +42,15 @@ withinLimit-fine e k st = go (leb (length (st .live)) mostLive)
     go false = over e k
 
 -- a line, and those after it
-everyLine-cons : (l : Bytes) (ls : List Bytes) → everyLine (l ∷ ls) ≡ true → ((e k at : ℕ) (st : State) → Fine (readLine mostLive e k at l st)) × (everyLine ls ≡ true)
+everyLine-cons : (l : Bytes) (ls : List Bytes) → everyLine (l ∷ ls) ≡ true
+    → ((e k at : ℕ) (st : State) → Fine (readLine mostLive e k at l st)) × (everyLine ls ≡ true)
 unfolding everyLine readLine
 everyLine-cons [] ls h = ((λ e k at st. fine st), h)
 everyLine-cons (b ∷ bs) ls h = go (action (b ∷ bs)) h
   where
     go : (o : Option Action) → elim o [ none ↦ false | some a ↦ everyLine ls ] ≡ true
-        → ((e k at : ℕ) (st : State) → Fine (orRefuse (malformed e k) o >>= (λ a. withinLimit mostLive e k (effect at (length (b ∷ bs)) a st)))) × (everyLine ls ≡ true)
+        → ((e k at : ℕ) (st : State) → Fine (orRefuse (malformed e k) o >>= (λ a. withinLimit mostLive e k (effect at (length (b ∷ bs)) a st))))
+        × (everyLine ls ≡ true)
     go none h = apart (cc)
     go (some a) h = ((λ e k at st. withinLimit-fine e k (effect at (length (b ∷ bs)) a st)), h)
 
@@ -56,13 +59,17 @@ unfolding readLines
 readLines-fine e k at [] st h = fine st
 readLines-fine e k at (l ∷ ls) st h =
     let p = everyLine-cons l ls h in
-    fine-bind (λ next. readLines mostLive e (suc k) (at + length l + 1) ls next) (p .0 e k at st) (λ next. readLines-fine e (suc k) (at + length l + 1) ls next (p .1))
+    fine-bind
+    (λ next. readLines mostLive e (suc k) (at + length l + 1) ls next)
+    (p .0 e k at st)
+    (λ next. readLines-fine e (suc k) (at + length l + 1) ls next (p .1))
 
 wellFormed-both : (body : Bytes) → wellFormed body ≡ true → (anyObject (lines body) ≡ true) × (everyLine (lines body) ≡ true)
 unfolding wellFormed
 wellFormed-both body h = go (anyObject (lines body)) refl h
   where
-    go : (b : Bool) → anyObject (lines body) ≡ b → elim b [ true ↦ everyLine (lines body) | false ↦ false ] ≡ true → (anyObject (lines body) ≡ true) × (everyLine (lines body) ≡ true)
+    go : (b : Bool) → anyObject (lines body) ≡ b → elim b [ true ↦ everyLine (lines body) | false ↦ false ] ≡ true
+        → (anyObject (lines body) ≡ true) × (everyLine (lines body) ≡ true)
     go true e h = (e, h)
     go false e h = apart (cc)
 
@@ -96,7 +103,8 @@ history-fine log r (suc v) h z e =
     (fine-bind (λ st. readFile mostLive g st) (history-fine log r v u z (b .2 .1)) (λ st. readFile-fine g st (r v g (b .1))))
 
 -- reading from version file `zf` along w
-pub stateBy-is : (log : Log) (o : Option Way) (zf : File) (w : Way) → log .versionFile 0 ≡ some zf → o ≡ some w → stateBy log o ≡ (readZero zf >>= (λ z. follow mostLive z w))
+pub stateBy-is : (log : Log) (o : Option Way) (zf : File) (w : Way) → log .versionFile 0 ≡ some zf → o ≡ some w
+    → stateBy log o ≡ (readZero zf >>= (λ z. follow mostLive z w))
 unfolding stateBy
 stateBy-is log o zf w e e′ = rw (e, e′)
 
@@ -109,38 +117,18 @@ history-told fs n full v l =
     let f = history-fine (logOf fs) (full .others-readable) v (h .0) (x .0) (h .1) in
     go (z .0) (h .0) (x .0) (x .1) e (follow mostLive (x .0) (h .0)) refl f
   where
-    go : (zf : File) (h : Way) (x : State) → readZero zf ≡ accepted x → stateBy (logOf fs) (historyTo (logOf fs) v) ≡ (readZero zf >>= (λ z. follow mostLive z h))
+    go : (zf : File) (h : Way) (x : State) → readZero zf ≡ accepted x
+        → stateBy (logOf fs) (historyTo (logOf fs) v) ≡ (readZero zf >>= (λ z. follow mostLive z h))
         → (a : Answer State) → follow mostLive x h ≡ a → Fine a → (st : State) × (stateBy (logOf fs) (historyTo (logOf fs) v) ≡ accepted st)
     go zf h x ez e _ ef (fine st) = (st, e ∙ rw (ez, ef))
     go zf h x ez e _ ef (over i j) = absurd (full .never-over v i j (e ∙ rw (ez, ef)))
 
 -- ---- and what is accepted is readable
 
-readLines-everyLine : (e k at : ℕ) (ls : List Bytes) (st to : State) → readLines mostLive e k at ls st ≡ accepted to → everyLine ls ≡ true
-unfolding readLines readLine everyLine
-readLines-everyLine e k at [] st to h = refl
-readLines-everyLine e k at ([] ∷ ls) st to h = readLines-everyLine e (suc k) (at + 0 + 1) ls st to h
-readLines-everyLine e k at ((b ∷ bs) ∷ ls) st to h = go (action (b ∷ bs)) h (λ next. readLines-everyLine e (suc k) (at + length (b ∷ bs) + 1) ls next to)
-  where
-    go : (o : Option Action)
-        → ((orRefuse (malformed e k) o >>= (λ a. withinLimit mostLive e k (effect at (length (b ∷ bs)) a st))) >>= (λ next. readLines mostLive e (suc k) (at + length (b ∷ bs) + 1) ls next)) ≡ accepted to
-        → ((next : State) → readLines mostLive e (suc k) (at + length (b ∷ bs) + 1) ls next ≡ accepted to → everyLine ls ≡ true) → elim o [ none ↦ false | some a ↦ everyLine ls ] ≡ true
-    go none h ih = apart (cc)
-    go (some a) h ih =
-        let r = bind-accepted (withinLimit mostLive e k (effect at (length (b ∷ bs)) a st)) (λ next. readLines mostLive e (suc k) (at + length (b ∷ bs) + 1) ls next) h in
-        ih (r .0) (r .2)
-
-readFile-wellFormed : (f : File) (st to : State) → readFile mostLive f st ≡ accepted to → wellFormed (f .body) ≡ true
-unfolding readFile wellFormed
-readFile-wellFormed f st to h =
-    let r = bind-accepted (readLines mostLive (f .entry) 1 (f .start) (lines (f .body)) st) (λ next. require (malformed (f .entry) 0) (anyObject (lines (f .body))) >>= (λ _. accepted next)) h in
-    let t = bind-accepted (require (malformed (f .entry) 0) (anyObject (lines (f .body)))) (λ _. accepted (r .0)) (r .2) in
-    let any : anyObject (lines (f .body)) ≡ true = require-accepted (malformed (f .entry) 0) (anyObject (lines (f .body))) (t .1) in
-    rw (wellFormed, any) (readLines-everyLine (f .entry) 1 (f .start) (lines (f .body)) st (r .0) (r .1))
-
 pub true-is-readable : TrueIsReadable
 unfolding stateBy follow
 true-is-readable log c f t =
-    let a = bind-accepted (orRefuse noVersionZero (log .versionFile 0)) (λ zf. orRefuse notKept (some (fromCheckpoint f)) >>= (λ w. readZero zf >>= (λ z. follow mostLive z w))) (t .own-read) in
+    let a = bind-accepted (orRefuse noVersionZero (log .versionFile 0))
+    (λ zf. orRefuse notKept (some (fromCheckpoint f)) >>= (λ w. readZero zf >>= (λ z. follow mostLive z w))) (t .own-read) in
     let b = bind-accepted (readZero (a .0)) (λ z. follow mostLive z (fromCheckpoint f)) (a .2) in
-    readFile-wellFormed f (nothingLive (b .0 .table)) (t .own) (b .2)
+    readFile-readable mostLive f (nothingLive (b .0 .table)) (t .own) (b .2)

@@ -101,14 +101,16 @@ module _ (MayGo : File → Type 0) where
   unfolding largeIf
   large-same h end = refl
   large-same h (keep {f = f} {g = g} {fs = fs} {gs = gs} p w) =
-      anyTooLarge-is f fs ∙ ap (λ n. largeIf (isTooLarge (nameOf n)) (anyTooLarge fs)) (p .name) ∙ ap (largeIf (isTooLarge (nameOf (g .name)))) (large-same h w) ∙ sym (anyTooLarge-is g gs)
+      anyTooLarge-is f fs ∙ ap (λ n. largeIf (isTooLarge (nameOf n)) (anyTooLarge fs)) (p .name)
+      ∙ ap (largeIf (isTooLarge (nameOf (g .name)))) (large-same h w) ∙ sym (anyTooLarge-is g gs)
   large-same h (remove {f = f} {fs = fs} m w) = anyTooLarge-is f fs ∙ ap (λ b. largeIf b (anyTooLarge fs)) (h f m) ∙ large-same h w
 
   pub large-none : {fs gs : List File} → Without MayGo fs gs → anyTooLarge fs ≡ false → anyTooLarge gs ≡ false
   unfolding largeIf
   large-none end e = e
   large-none (keep {f = f} {g = g} {fs = fs} {gs = gs} p w) e =
-      anyTooLarge-is g gs ∙ ap (λ n. largeIf (isTooLarge (nameOf n)) (anyTooLarge gs)) (sym (p .name)) ∙ go (isTooLarge (nameOf (f .name))) (anyTooLarge fs) (anyTooLarge gs) (sym (anyTooLarge-is f fs) ∙ e) (large-none w)
+      anyTooLarge-is g gs ∙ ap (λ n. largeIf (isTooLarge (nameOf n)) (anyTooLarge gs)) (sym (p .name))
+      ∙ go (isTooLarge (nameOf (f .name))) (anyTooLarge fs) (anyTooLarge gs) (sym (anyTooLarge-is f fs) ∙ e) (large-none w)
     where
       go : (a b c : Bool) → largeIf a b ≡ false → (b ≡ false → c ≡ false) → largeIf a c ≡ false
       go true b c e h = e
@@ -143,7 +145,8 @@ unfolding ifWellFormed
 ifWellFormed-same neither = neither
 ifWellFormed-same (both {f = f} {g = g} p) =
     rw (ifWellFormed-is f, ifWellFormed-is g)
-    (subst (λ (b : Bool). SameFound (ifWellFormed-by (wellFormed (f .body)) f) (ifWellFormed-by b g)) (ap wellFormed (p .body)) (ifWellFormed-by-same (wellFormed (f .body)) f g p))
+    (subst (λ (b : Bool). SameFound (ifWellFormed-by (wellFormed (f .body)) f) (ifWellFormed-by b g)) (ap wellFormed (p .body))
+    (ifWellFormed-by-same (wellFormed (f .body)) f g p))
 
 pub start-same : (log log′ : Log) (s : ℕ) → SameFound (log .checkpointFile s) (log′ .checkpointFile s) → SameFound (startAt log s) (startAt log′ s)
 unfolding startAt

@@ -11,7 +11,8 @@ use Rattle.rules.specs.Bundle.{File}
 use Rattle.rules.specs.Lines.{lines, anyObject}
 use Rattle.rules.specs.Actions.{Facts, MetaData, Protocol, Action, add, remove, protocol, metaData, mergeskip, other, action}
 use Rattle.rules.specs.Live.{mostLive, Row, pathOf, put, takeOut}
-use Rattle.rules.specs.History.{State, Said, effect, withinLimit, readLine, readLines, readFile, saidNothing, sayTable, sayProtocol, say, zeroLines, orUnstated, readZero}
+use Rattle.rules.specs.History.{State, Said, effect, withinLimit, readLine, readLines, readFile}
+use Rattle.rules.specs.History.{saidNothing, sayTable, sayProtocol, say, zeroLines, orUnstated, readZero}
 use Rattle.rules.specs.Starts.{Way, fromZero, fromCheckpoint, andThen, nothingLive, follow}
 use Rattle.rules.specs.Reading.{stateBy}
 use Rattle.rules.specs.Refusals.{accepted, _>>=_, orRefuse, require, malformed, noVersionZero, notKept}
@@ -23,7 +24,8 @@ use Rattle.rules.proofs.Replaying.{bind-accepted, withinLimit-accepted, effect-
 use Rattle.rules.proofs.Answers.{orRefuse-accepted}
 use Rattle.rules.proofs.Moving.{follow-table}
 use Rattle.rules.proofs.Json.Suffix.{some-same}
-use Rattle.demands.specs.Replayed.{Line, linesFrom, linesIn, linesOn, actions, after, afterAll, liveAt, lastProtocol, protocolBefore, tablesIn, ZeroSays, ReplaysExactly}
+use Rattle.demands.specs.Replayed.{Line, linesFrom, linesIn, linesOn, actions, after, afterAll, liveAt}
+use Rattle.demands.specs.Replayed.{lastProtocol, protocolBefore, tablesIn, ZeroSays, ReplaysExactly}
 
 -- ---- the live file at a path
 
@@ -32,11 +34,13 @@ unfolding liveAt lookup
 liveAt-lookup p [] = refl
 liveAt-lookup p (r ∷ rs) = go (same p (pathOf r)) (liveAt-lookup p rs)
   where
-    go : (b : Bool) → liveAt p rs ≡ lookup pathOf p rs → _≡_ {A = Option Row} (elim b [ true ↦ some r | false ↦ liveAt p rs ]) (elim b [ true ↦ some r | false ↦ lookup pathOf p rs ])
+    go : (b : Bool) → liveAt p rs ≡ lookup pathOf p rs
+        → _≡_ {A = Option Row} (elim b [ true ↦ some r | false ↦ liveAt p rs ]) (elim b [ true ↦ some r | false ↦ lookup pathOf p rs ])
     go true ih = refl
     go false ih = ih
 
-liveAt-put : (p : Bytes) (at size : ℕ) (f : Facts) (rs : List Row) → liveAt p (put pathOf (record { at = at; size = size; facts = f }) rs) ≡ after at size p (add f) (liveAt p rs)
+liveAt-put : (p : Bytes) (at size : ℕ) (f : Facts) (rs : List Row)
+    → liveAt p (put pathOf (record { at = at; size = size; facts = f }) rs) ≡ after at size p (add f) (liveAt p rs)
 unfolding after pathOf
 liveAt-put p at size f rs = by (same p (f .path)) here there
   where
@@ -46,20 +50,23 @@ liveAt-put p at size f rs = by (same p (f .path)) here there
     here : same p (f .path) ≡ true → liveAt p (put pathOf r rs) ≡ after at size p (add f) (liveAt p rs)
     here e =
         let q : p ≡ f .path = same-true p (f .path) e in
-        let found : lookup pathOf p (put pathOf r rs) ≡ some r = subst (λ (x : Bytes). lookup pathOf x (put pathOf r rs) ≡ some r) (sym q) (lookup-put pathOf r rs) in
+        let found : lookup pathOf p (put pathOf r rs) ≡ some r =
+        subst (λ (x : Bytes). lookup pathOf x (put pathOf r rs) ≡ some r) (sym q) (lookup-put pathOf r rs) in
         rw (after, e) (liveAt-lookup p (put pathOf r rs) ∙ found)
 
     there : same p (f .path) ≡ false → liveAt p (put pathOf r rs) ≡ after at size p (add f) (liveAt p rs)
     there e = rw (after, e) (liveAt-lookup p (put pathOf r rs) ∙ lookup-put-other pathOf p r rs (same-false p (f .path) e) ∙ sym (liveAt-lookup p rs))
 
-liveAt-takeOut : (p : Bytes) (at size : ℕ) (q : Bytes) (rs : List Row) → Ascends pathOf rs → liveAt p (takeOut pathOf q rs) ≡ after at size p (remove q) (liveAt p rs)
+liveAt-takeOut : (p : Bytes) (at size : ℕ) (q : Bytes) (rs : List Row) → Ascends pathOf rs
+    → liveAt p (takeOut pathOf q rs) ≡ after at size p (remove q) (liveAt p rs)
 unfolding after
 liveAt-takeOut p at size q rs s = by (same p q) here there
   where
     here : same p q ≡ true → liveAt p (takeOut pathOf q rs) ≡ after at size p (remove q) (liveAt p rs)
     here e =
         let f : p ≡ q = same-true p q e in
-        let gone : lookup pathOf p (takeOut pathOf q rs) ≡ none = subst (λ (x : Bytes). lookup pathOf x (takeOut pathOf q rs) ≡ none) (sym f) (lookup-takeOut pathOf q rs s) in
+        let gone : lookup pathOf p (takeOut pathOf q rs) ≡ none =
+        subst (λ (x : Bytes). lookup pathOf x (takeOut pathOf q rs) ≡ none) (sym f) (lookup-takeOut pathOf q rs s) in
         rw (after, e) (liveAt-lookup p (takeOut pathOf q rs) ∙ gone)
 
     there : same p q ≡ false → liveAt p (takeOut pathOf q rs) ≡ after at size p (remove q) (liveAt p rs)
@@ -74,7 +81,8 @@ effect-live p at size (metaData m) st s = refl
 effect-live p at size mergeskip st s = refl
 effect-live p at size other st s = refl
 
-effect-protocol : (at size : ℕ) (a : Action) (acts : List Action) (st : State) → lastProtocol acts (effect at size a st .inForce) ≡ lastProtocol (a ∷ acts) (st .inForce)
+effect-protocol : (at size : ℕ) (a : Action) (acts : List Action) (st : State)
+    → lastProtocol acts (effect at size a st .inForce) ≡ lastProtocol (a ∷ acts) (st .inForce)
 unfolding effect lastProtocol
 effect-protocol at size (add f) acts st = refl
 effect-protocol at size (remove q) acts st = refl
@@ -91,7 +99,8 @@ record Goes (ls : List Line) (st to : State) : Type 0 where
   inForce : to .inForce ≡ lastProtocol (actions ls) (st .inForce)
   ordered : Ordered to
 
-goes-more : (at size : ℕ) (a : Action) (ls : List Line) (st to : State) → Ordered st → Goes ls (effect at size a st) to → Goes (record { at = at; size = size; does = a } ∷ ls) st to
+goes-more : (at size : ℕ) (a : Action) (ls : List Line) (st to : State) → Ordered st → Goes ls (effect at size a st) to
+    → Goes (record { at = at; size = size; does = a } ∷ ls) st to
 unfolding afterAll actions
 goes-more at size a ls st to s g = record {
   live = λ p. g .live p ∙ ap (afterAll p ls) (effect-live p at size a st s);
@@ -113,7 +122,8 @@ readLines-goes e k at ((b ∷ bs) ∷ ls) st to s h = go (action (b ∷ bs)) h (
     size = length (b ∷ bs)
 
     go : (o : Option Action)
-        → ((orRefuse (malformed e k) o >>= (λ a. withinLimit mostLive e k (effect at size a st))) >>= (λ next. readLines mostLive e (suc k) (at + size + 1) ls next)) ≡ accepted to
+        → ((orRefuse (malformed e k) o >>= (λ a. withinLimit mostLive e k (effect at size a st)))
+        >>= (λ next. readLines mostLive e (suc k) (at + size + 1) ls next)) ≡ accepted to
         → ((next : State) → Ordered next → readLines mostLive e (suc k) (at + size + 1) ls next ≡ accepted to → Goes (linesFrom (at + size + 1) ls) next to)
         → Goes (elim o [ none ↦ linesFrom (at + size + 1) ls | some a ↦ record { at = at; size = size; does = a } ∷ linesFrom (at + size + 1) ls ]) st to
     go none h ih = apart (cc)
@@ -127,7 +137,8 @@ readLines-goes e k at ((b ∷ bs) ∷ ls) st to s h = go (action (b ∷ bs)) h (
 readFile-goes : (f : File) (st to : State) → Ordered st → readFile mostLive f st ≡ accepted to → Goes (linesIn f) st to
 unfolding readFile
 readFile-goes f st to s h =
-    let r = bind-accepted (readLines mostLive (f .entry) 1 (f .start) (lines (f .body)) st) (λ next. require (malformed (f .entry) 0) (anyObject (lines (f .body))) >>= (λ _. accepted next)) h in
+    let r = bind-accepted (readLines mostLive (f .entry) 1 (f .start) (lines (f .body)) st)
+    (λ next. require (malformed (f .entry) 0) (anyObject (lines (f .body))) >>= (λ _. accepted next)) h in
     let t = bind-accepted (require (malformed (f .entry) 0) (anyObject (lines (f .body)))) (λ _. accepted (r .0)) (r .2) in
     let p : accepted (r .0) ≡ accepted to = t .2 in
     let q : r .0 ≡ to = cc in
@@ -169,7 +180,8 @@ follow-comes z (fromCheckpoint f) st e h =
     record { live = g .live; inForce = g .inForce; ordered = g .ordered }
 follow-comes z (andThen w g) st e h = go (bind-accepted (follow mostLive z w) (λ x. readFile mostLive g x) h) (λ x. follow-comes z w x e)
   where
-    go : (x : State) × (follow mostLive z w ≡ accepted x) × (readFile mostLive g x ≡ accepted st) → ((x : State) → follow mostLive z w ≡ accepted x → Comes w (z .inForce) x) → Comes (andThen w g) (z .inForce) st
+    go : (x : State) × (follow mostLive z w ≡ accepted x) × (readFile mostLive g x ≡ accepted st)
+        → ((x : State) → follow mostLive z w ≡ accepted x → Comes w (z .inForce) x) → Comes (andThen w g) (z .inForce) st
     go (x, a, b) ih =
         let c = ih x a in
         let d = readFile-goes g x st (c .ordered) b in
@@ -177,7 +189,8 @@ follow-comes z (andThen w g) st e h = go (bind-accepted (follow mostLive z w) (�
           live = λ p. d .live p ∙ ap (afterAll p (linesIn g)) (c .live p) ∙ sym (afterAll-append p (linesOn w) (linesIn g) none);
           inForce =
               d .inForce ∙ ap (lastProtocol (actions (linesIn g))) (c .inForce)
-              ∙ sym (ap (λ (x : List Action). lastProtocol x (protocolBefore w (z .inForce))) (actions-append (linesOn w) (linesIn g)) ∙ lastProtocol-append (actions (linesOn w)) (actions (linesIn g)) (protocolBefore w (z .inForce)));
+              ∙ sym (ap (λ (x : List Action). lastProtocol x (protocolBefore w (z .inForce))) (actions-append (linesOn w) (linesIn g))
+              ∙ lastProtocol-append (actions (linesOn w)) (actions (linesIn g)) (protocolBefore w (z .inForce)));
           ordered = d .ordered;
         }
 
@@ -189,25 +202,42 @@ listOf (some m) = m ∷ []
 
 -- one action, in front of those that are left
 say-goes : (a : Action) (left : List Action) (s next : Said) → say a s ≡ some next
-    → (listOf (next .ofTable) ++ tablesIn left ≡ listOf (s .ofTable) ++ tablesIn (a ∷ left)) × (lastProtocol left (orUnstated (next .ofProtocol)) ≡ lastProtocol (a ∷ left) (orUnstated (s .ofProtocol)))
+    → (listOf (next .ofTable) ++ tablesIn left ≡ listOf (s .ofTable) ++ tablesIn (a ∷ left))
+    × (lastProtocol left (orUnstated (next .ofProtocol)) ≡ lastProtocol (a ∷ left) (orUnstated (s .ofProtocol)))
 unfolding say sayTable sayProtocol tablesIn lastProtocol listOf orUnstated
 say-goes (add f) left s next e = apart (cc)
 say-goes (remove q) left s next e = apart (cc)
 say-goes (protocol p) left s next e = go (s .ofProtocol) e
   where
     go : (o : Option Protocol) → sayProtocol o p s ≡ some next
-        → (listOf (next .ofTable) ++ tablesIn left ≡ listOf (s .ofTable) ++ tablesIn left) × (lastProtocol left (orUnstated (next .ofProtocol)) ≡ lastProtocol left p)
-    go none e = subst (λ (n : Said). (listOf (n .ofTable) ++ tablesIn left ≡ listOf (s .ofTable) ++ tablesIn left) × (lastProtocol left (orUnstated (n .ofProtocol)) ≡ lastProtocol left p)) (some-same e) (refl, refl)
+        → (listOf (next .ofTable) ++ tablesIn left ≡ listOf (s .ofTable) ++ tablesIn left)
+        × (lastProtocol left (orUnstated (next .ofProtocol)) ≡ lastProtocol left p)
+    go none e =
+        subst
+        (λ (n : Said). (listOf (n .ofTable) ++ tablesIn left ≡ listOf (s .ofTable) ++ tablesIn left)
+        × (lastProtocol left (orUnstated (n .ofProtocol)) ≡ lastProtocol left p))
+        (some-same e)
+        (refl, refl)
     go (some q) e = apart (cc)
 say-goes (metaData m) left s next e = go (s .ofTable) e
   where
     go : (o : Option MetaData) → sayTable o m s ≡ some next
-        → (listOf (next .ofTable) ++ tablesIn left ≡ listOf o ++ (m ∷ tablesIn left)) × (lastProtocol left (orUnstated (next .ofProtocol)) ≡ lastProtocol left (orUnstated (s .ofProtocol)))
-    go none e = subst (λ (n : Said). (listOf (n .ofTable) ++ tablesIn left ≡ m ∷ tablesIn left) × (lastProtocol left (orUnstated (n .ofProtocol)) ≡ lastProtocol left (orUnstated (s .ofProtocol)))) (some-same e) (refl, refl)
+        → (listOf (next .ofTable) ++ tablesIn left ≡ listOf o ++ (m ∷ tablesIn left))
+        × (lastProtocol left (orUnstated (next .ofProtocol)) ≡ lastProtocol left (orUnstated (s .ofProtocol)))
+    go none e =
+        subst
+        (λ (n : Said). (listOf (n .ofTable) ++ tablesIn left ≡ m ∷ tablesIn left)
+        × (lastProtocol left (orUnstated (n .ofProtocol)) ≡ lastProtocol left (orUnstated (s .ofProtocol))))
+        (some-same e)
+        (refl, refl)
     go (some n) e = apart (cc)
 say-goes mergeskip left s next e = apart (cc)
 say-goes other left s next e =
-    subst (λ (n : Said). (listOf (n .ofTable) ++ tablesIn left ≡ listOf (s .ofTable) ++ tablesIn left) × (lastProtocol left (orUnstated (n .ofProtocol)) ≡ lastProtocol left (orUnstated (s .ofProtocol)))) (some-same e) (refl, refl)
+    subst
+    (λ (n : Said). (listOf (n .ofTable) ++ tablesIn left ≡ listOf (s .ofTable) ++ tablesIn left)
+    × (lastProtocol left (orUnstated (n .ofProtocol)) ≡ lastProtocol left (orUnstated (s .ofProtocol))))
+    (some-same e)
+    (refl, refl)
 
 record Said-so (ls : List Line) (s to : Said) : Type 0 where
   table : listOf (to .ofTable) ≡ listOf (s .ofTable) ++ tablesIn (actions ls)
@@ -226,11 +256,13 @@ zeroLines-goes e k at ((b ∷ bs) ∷ ls) s to h = go (action (b ∷ bs)) refl h
 
     said-so : (a : Action) (o : Option Said) → say a s ≡ o → (orRefuse (malformed e k) o >>= (λ next. zeroLines e (suc k) ls next)) ≡ accepted to
         → ((next : Said) → zeroLines e (suc k) ls next ≡ accepted to → Said-so rest next to)
-        → (listOf (to .ofTable) ≡ listOf (s .ofTable) ++ tablesIn (a ∷ actions rest)) × (orUnstated (to .ofProtocol) ≡ lastProtocol (a ∷ actions rest) (orUnstated (s .ofProtocol)))
+        → (listOf (to .ofTable) ≡ listOf (s .ofTable) ++ tablesIn (a ∷ actions rest))
+        × (orUnstated (to .ofProtocol) ≡ lastProtocol (a ∷ actions rest) (orUnstated (s .ofProtocol)))
     said-so a none q h ih = apart (cc)
     said-so a (some next) q h ih = let r = ih next h in let t = say-goes a (actions rest) s next q in (r .table ∙ t .0, r .inForce ∙ t .1)
 
-    go : (o : Option Action) → action (b ∷ bs) ≡ o → (orRefuse (malformed e k) o >>= (λ a. orRefuse (malformed e k) (say a s) >>= (λ next. zeroLines e (suc k) ls next))) ≡ accepted to
+    go : (o : Option Action) → action (b ∷ bs) ≡ o
+        → (orRefuse (malformed e k) o >>= (λ a. orRefuse (malformed e k) (say a s) >>= (λ next. zeroLines e (suc k) ls next))) ≡ accepted to
         → ((next : Said) → zeroLines e (suc k) ls next ≡ accepted to → Said-so rest next to) → Said-so (linesFrom at ((b ∷ bs) ∷ ls)) s to
     go none q h ih = apart (cc)
     go (some a) q h ih = let r = said-so a (say a s) refl h ih in record { table = rw (linesFrom, q) (r .0); inForce = rw (linesFrom, q) (r .1) }
@@ -238,9 +270,15 @@ zeroLines-goes e k at ((b ∷ bs) ∷ ls) s to h = go (action (b ∷ bs)) refl h
 readZero-says : (f : File) (z : State) → readZero f ≡ accepted z → ZeroSays f z
 unfolding readZero listOf saidNothing orUnstated
 readZero-says f z h =
-    let a = bind-accepted (zeroLines (f .entry) 1 (lines (f .body)) saidNothing) (λ s. orRefuse (malformed (f .entry) 0) (s .ofTable) >>= (λ m. accepted (stateOf s m))) h in
+    let a = bind-accepted (zeroLines (f .entry) 1 (lines (f .body)) saidNothing)
+    (λ s. orRefuse (malformed (f .entry) 0) (s .ofTable) >>= (λ m. accepted (stateOf s m))) h in
     let b = bind-accepted (orRefuse (malformed (f .entry) 0) (a .0 .ofTable)) (λ m. accepted (stateOf (a .0) m)) (a .2) in
-    go (a .0) (b .0) (zeroLines-goes (f .entry) 1 (f .start) (lines (f .body)) saidNothing (a .0) (a .1)) (orRefuse-accepted (malformed (f .entry) 0) (a .0 .ofTable) (b .1)) (b .2)
+    go
+    (a .0)
+    (b .0)
+    (zeroLines-goes (f .entry) 1 (f .start) (lines (f .body)) saidNothing (a .0) (a .1))
+    (orRefuse-accepted (malformed (f .entry) 0) (a .0 .ofTable) (b .1))
+    (b .2)
   where
     stateOf : Said → MetaData → State
     stateOf s m = record { table = m; inForce = orUnstated (s .ofProtocol); live = [] }

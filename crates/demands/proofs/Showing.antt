@@ -18,6 +18,7 @@ use Rattle.rules.specs.Actions.{isLine, orNothing, pathWritten, pathIn, pathSho
 use Rattle.rules.specs.Manifests.{slash, hasSlash, beforeLastSlash, standsAsIs, directory}
 use Rattle.rules.proofs.Tests.{apart, true-not-false, or-cases, and-right}
 use Rattle.rules.proofs.Adds.{addOf-path, pathAt-once, action-add}
+use Rattle.rules.proofs.Slashes.{hasSlash-begins}
 use Rattle.rules.proofs.PathPlaces.{place-shown, place-within, place-nothing}
 use Rattle.demands.specs.Showing.{IsAdd, PathIsShown, RecordsAreShown, DirectoryIsShown}
 
@@ -32,11 +33,13 @@ shown-not : (line : Bytes) → isLine line ≡ false → (pathShown line ≡ [])
 unfolding pathShown recordsShown
 shown-not line l = (rw (pathShown, l), rw (recordsShown, l))
 
-written-add : (line : Text) (m : Member) (ms : List Member) (v : Text) → lineMember line ≡ some m → objectOf inAction (m .1) ≡ some ms → once "path" ms ≡ some v → pathWritten line ≡ some (unquoted v)
+written-add : (line : Text) (m : Member) (ms : List Member) (v : Text) → lineMember line ≡ some m → objectOf inAction (m .1) ≡ some ms
+    → once "path" ms ≡ some v → pathWritten line ≡ some (unquoted v)
 unfolding pathWritten
 written-add line m ms v e f g = rw (e, f, g)
 
-shown-add : (line : Bytes) (f : Facts) → IsAdd line f → (v : Bytes) × (pathWritten line ≡ some (unquoted v)) × (stringOf v ≡ some (f .path)) × (pathShown line ≡ unquoted v)
+shown-add : (line : Bytes) (f : Facts) → IsAdd line f
+    → (v : Bytes) × (pathWritten line ≡ some (unquoted v)) × (stringOf v ≡ some (f .path)) × (pathShown line ≡ unquoted v)
 unfolding pathIn orNothing
 shown-add line f (l, a) =
     let m = action-add line f a in
@@ -67,11 +70,13 @@ kind line = go (isLine line) refl (action line) refl
       where
         differ : {f : Facts} → _≡_ {A = Option Action} (some (remove p)) (some (add f)) → ⊥
         differ q = apart (cc)
-    go true l (some (protocol p)) e = no-add (λ f h. differ (sym e ∙ h .1)) (shown-by line (some (protocol p)) l e .0) (shown-by line (some (protocol p)) l e .1)
+    go true l (some (protocol p)) e =
+        no-add (λ f h. differ (sym e ∙ h .1)) (shown-by line (some (protocol p)) l e .0) (shown-by line (some (protocol p)) l e .1)
       where
         differ : {f : Facts} → _≡_ {A = Option Action} (some (protocol p)) (some (add f)) → ⊥
         differ q = apart (cc)
-    go true l (some (metaData m)) e = no-add (λ f h. differ (sym e ∙ h .1)) (shown-by line (some (metaData m)) l e .0) (shown-by line (some (metaData m)) l e .1)
+    go true l (some (metaData m)) e =
+        no-add (λ f h. differ (sym e ∙ h .1)) (shown-by line (some (metaData m)) l e .0) (shown-by line (some (metaData m)) l e .1)
       where
         differ : {f : Facts} → _≡_ {A = Option Action} (some (metaData m)) (some (add f)) → ⊥
         differ q = apart (cc)
@@ -119,27 +124,12 @@ manifests-slash : hasSlash (ascii "manifests/") ≡ true
 unfolding hasSlash ascii slash
 manifests-slash = refl
 
--- what a text with a slash begins with has it too
-begins-slash : (w p : Bytes) → begins w p ≡ true → hasSlash w ≡ true → hasSlash p ≡ true
-unfolding begins hasSlash
-begins-slash [] p b h = apart (cc)
-begins-slash (x ∷ w) [] b h = apart (cc)
-begins-slash (x ∷ w) (y ∷ p) b h = go (eqb x y) refl b (begins-slash w p)
-  where
-    go : (e : Bool) → eqb x y ≡ e → elim e [ true ↦ begins w p | false ↦ false ] ≡ true → (begins w p ≡ true → hasSlash w ≡ true → hasSlash p ≡ true) → hasSlash (y ∷ p) ≡ true
-    go false e b ih = apart (cc)
-    go true e b ih = here (eqb x slash) (ap (λ (z : ℕ). eqb z slash) (eqb-true x y e)) h
-      where
-        here : (s : Bool) → s ≡ eqb y slash → elim s [ true ↦ true | false ↦ hasSlash w ] ≡ true → hasSlash (y ∷ p) ≡ true
-        here true q h = rw (hasSlash, ← q)
-        here false q h = rw (hasSlash, ← q) (ih b h)
-
 standsAsIs-slash : (p : Bytes) → standsAsIs p ≡ true → hasSlash p ≡ true
 unfolding standsAsIs
 standsAsIs-slash p h = go (or-cases (begins (ascii "manifests/") p) (begins (ascii "state-v") p && hasSlash p) h)
   where
     go : (begins (ascii "manifests/") p ≡ true) ⊎ ((begins (ascii "state-v") p && hasSlash p) ≡ true) → hasSlash p ≡ true
-    go (inl e) = begins-slash (ascii "manifests/") p e manifests-slash
+    go (inl e) = hasSlash-begins (ascii "manifests/") p e manifests-slash
     go (inr e) = and-right (begins (ascii "state-v") p) (hasSlash p) e
 
 beforeLastSlash-split : (p : Bytes) → hasSlash p ≡ true → (name : Bytes) × (p ≡ beforeLastSlash p ++ slash ∷ name) × (hasSlash name ≡ false)
@@ -159,7 +149,10 @@ beforeLastSlash-split (b ∷ bs) h = go (hasSlash bs) refl (beforeLastSlash-spli
 pub directory-is-shown : DirectoryIsShown
 unfolding directory
 directory-is-shown path lent = record {
-  stands = λ e. subst (λ (x : Bytes). (name : Bytes) × (path ≡ x ++ slash ∷ name) × (hasSlash name ≡ false)) (sym (of-path e)) (beforeLastSlash-split path (standsAsIs-slash path e));
+  stands = λ e. subst
+      (λ (x : Bytes). (name : Bytes) × (path ≡ x ++ slash ∷ name) × (hasSlash name ≡ false))
+      (sym (of-path e))
+      (beforeLastSlash-split path (standsAsIs-slash path e));
   others = λ e. rw (directory, e);
 }
   where

@@ -14,7 +14,8 @@ use Rattle.rules.specs.Starts.{Log, find, logOf, startAt, Way, fromZero, fromCh
 use Rattle.rules.specs.Marker.{marked, climbBy, climb, orZero, latest}
 use Rattle.rules.proofs.Tests.{apart}
 use Rattle.rules.proofs.SoleNames.{is-version, version-small}
-use Rattle.demands.specs.Reaching.{There, IsStart, Reaches, SomeStart, NoStart, From, at-checkpoint, at-zero, and-then, Highest, ReadFromTheHighest, StopsAtAGap, LatestStopsAtAGap}
+use Rattle.demands.specs.Reaching.{There, IsStart, Reaches, SomeStart, NoStart, From, at-checkpoint, at-zero}
+use Rattle.demands.specs.Reaching.{and-then, Highest, ReadFromTheHighest, StopsAtAGap, LatestStopsAtAGap}
 
 -- ---- by the steps of the way
 
@@ -33,7 +34,8 @@ unfolding byFile
 byFile-none none k e = inl refl
 byFile-none (some g) k e = inr (onwardBy-none g (k tt) e)
 
-pub byFile-some : (o : Option File) (k : Unit {0} → Option Way) (w : Way) → byFile o k ≡ some w → (g : File) × (o ≡ some g) × ((u : Way) × (k tt ≡ some u) × (andThen u g ≡ w))
+pub byFile-some : (o : Option File) (k : Unit {0} → Option Way) (w : Way) → byFile o k ≡ some w
+    → (g : File) × (o ≡ some g) × ((u : Way) × (k tt ≡ some u) × (andThen u g ≡ w))
 unfolding byFile
 byFile-some none k w e = apart (cc)
 byFile-some (some g) k w e = (g, refl, onwardBy-some g (k tt) w e)
@@ -43,7 +45,8 @@ unfolding byStart
 byStart-none none k e = (refl, e)
 byStart-none (some f) k e = apart (cc)
 
-byStart-some : (o : Option File) (k : Unit {0} → Option Way) (w : Way) → byStart o k ≡ some w → ((f : File) × (o ≡ some f) × (fromCheckpoint f ≡ w)) ⊎ ((o ≡ none) × (k tt ≡ some w))
+byStart-some : (o : Option File) (k : Unit {0} → Option Way) (w : Way) → byStart o k ≡ some w
+    → ((f : File) × (o ≡ some f) × (fromCheckpoint f ≡ w)) ⊎ ((o ≡ none) × (k tt ≡ some w))
 unfolding byStart
 byStart-some none k w e = inr (refl, e)
 byStart-some (some f) k w e = inl (f, refl, cc)
@@ -91,7 +94,9 @@ way-highest log (suc v) w e = go (byStart-some (startAt log (suc v)) (λ _. byFi
     below-it u p t e i r (yes l) = p .highest t i (record { below = l; between = λ x a b. r .between x a (omega arith) })
     below-it u p t e i r (no n) = absurd (not-there e (start-above log v t (omega (arith, r .below)) i))
 
-    go : ((f : File) × (startAt log (suc v) ≡ some f) × (fromCheckpoint f ≡ w)) ⊎ ((startAt log (suc v) ≡ none) × (byFile (log .versionFile (suc v)) (λ _. wayTo log v) ≡ some w))
+    go : ((f : File) × (startAt log (suc v) ≡ some f) × (fromCheckpoint f ≡ w))
+        ⊎
+        ((startAt log (suc v) ≡ none) × (byFile (log .versionFile (suc v)) (λ _. wayTo log v) ≡ some w))
         → ((u : Way) → wayTo log v ≡ some u → Highest log v u) → Highest log (suc v) w
     go (inl (f, e, q)) ih = subst (Highest log (suc v)) q (record { s = suc v; begins = at-checkpoint e; highest = λ t i r. r .below })
     go (inr (e, q)) ih =

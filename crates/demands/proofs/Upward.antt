@@ -18,7 +18,7 @@ use Rattle.rules.specs.Reading.{stateBy, listing, listingBy, listingAt}
 use Rattle.rules.specs.Refusals.{Answer, _>>=_ as _onward_, orRefuse, noVersionZero, notKept}
 use Rattle.rules.specs.Same.{SameListing, SameAnswer, both-accepted, both-refused}
 use Rattle.rules.proofs.Tests.{apart}
-use Rattle.rules.proofs.SoleNames.{bind-some}
+use Rattle.rules.proofs.Choices.{bind-some}
 use Rattle.rules.proofs.Answers.{same-bind}
 use Rattle.rules.proofs.Moving.{SameHeld, readFile-same, readZero-same, listing-same, nothingLive-same}
 use Rattle.demands.specs.Reaching.{There}
@@ -44,7 +44,8 @@ follow-same s t (checkpoint-way {f = f} {g = g} p) h =
 follow-same s t (then-way {f = f} {g = g} r p) h =
     same-bind (λ st. readFile mostLive f st) (λ st. readFile mostLive g st) (follow-same s t r h) (λ a b q. readFile-same mostLive f g a b (p .body) q)
 
-stateBy-same : (log log′ : Log) {u w : Option Way} → SameFound (log .versionFile 0) (log′ .versionFile 0) → SameWays u w → SameAnswer SameHeld (stateBy log u) (stateBy log′ w)
+stateBy-same : (log log′ : Log) {u w : Option Way} → SameFound (log .versionFile 0) (log′ .versionFile 0) → SameWays u w
+    → SameAnswer SameHeld (stateBy log u) (stateBy log′ w)
 unfolding stateBy
 stateBy-same log log′ z r = go z r
   where
@@ -89,7 +90,10 @@ unfolding wayTo
 way-same c log log′ h a zero l =
     byStart-same (λ _. some fromZero) (λ _. some fromZero) (start-same log log′ zero (h .checkpoints zero)) (λ e. a-way zero-way)
 way-same c log log′ h a (suc v) l =
-    byStart-same (λ _. byFile (log .versionFile (suc v)) (λ _. wayTo log v)) (λ _. byFile (log′ .versionFile (suc v)) (λ _. wayTo log′ v)) (start-same log log′ (suc v) (h .checkpoints (suc v)))
+    byStart-same
+    (λ _. byFile (log .versionFile (suc v)) (λ _. wayTo log v))
+    (λ _. byFile (log′ .versionFile (suc v)) (λ _. wayTo log′ v))
+    (start-same log log′ (suc v) (h .checkpoints (suc v)))
     (λ e. byFile-same (λ _. wayTo log v) (λ _. wayTo log′ v) (h .versions (suc v) l) (go (way-same c log log′ h a v) e (decLe c v)))
   where
     go : (c ≤ v → SameWays (wayTo log v) (wayTo log′ v)) → startAt log (suc v) ≡ none → Dec (c ≤ v) → SameWays (wayTo log v) (wayTo log′ v)
@@ -134,7 +138,8 @@ marked-same c log log′ h = go (h .marker)
     told none = refl
     told (some d) = started d (start-same log log′ d (h .checkpoints d))
 
-    go : {o o′ : Option File} → SameFound o o′ → _≡_ {A = Option ℕ} (o >>= (λ m. says log (markerVersion (m .body)))) (o′ >>= (λ m. says log′ (markerVersion (m .body))))
+    go : {o o′ : Option File} → SameFound o o′
+        → _≡_ {A = Option ℕ} (o >>= (λ m. says log (markerVersion (m .body)))) (o′ >>= (λ m. says log′ (markerVersion (m .body))))
     go neither = refl
     go (both {f = f} {g = g} p) = told (markerVersion (f .body)) ∙ ap (λ b. says log′ (markerVersion b)) (p .body)
 

@@ -16,7 +16,8 @@ use Rattle.rules.specs.Starts.{Way, fromZero, fromCheckpoint, andThen, nothingL
 use Rattle.rules.specs.Refusals.{Refusal, Answer, accepted, refused, _>>=_, orRefuse, malformed, tooManyLive}
 use Rattle.rules.proofs.Tests.{apart}
 use Rattle.rules.proofs.Answers.{bind-refused, orRefuse-refused}
-use Rattle.demands.specs.Met.{MetIn, too-many, no-object, ZeroLine, MetInZero, malformed-line, out-of-place, no-metaData, MetOn, in-checkpoint, earlier, in-version, Met, in-zero, on-way}
+use Rattle.demands.specs.Met.{MetIn, too-many, no-object, ZeroLine, MetInZero, malformed-line, out-of-place}
+use Rattle.demands.specs.Met.{no-metaData, MetOn, in-checkpoint, earlier, in-version, Met, in-zero, on-way}
 use Rattle.demands.proofs.FirstMet.{readFile-met, met-readFile}
 
 -- ---- lines of version 0
@@ -64,19 +65,32 @@ zeroLines-stop e k ((b ∷ bs) ∷ ls) s r h =
     here : Refuses (b ∷ bs) s → malformed e k ≡ r → Stop e k ((b ∷ bs) ∷ ls) s r
     here c q =
         let n : k + length {A = Bytes} [] ≡ k = omega arith in
-        record { before = []; line = b ∷ bs; behind = ls; split = refl; not-empty = λ q. apart (cc); said = s; accepted-before = refl; refuses = c; is = ap (malformed e) n ∙ q }
+        record {
+          before = [];
+          line = b ∷ bs;
+          behind = ls;
+          split = refl;
+          not-empty = λ q. apart (cc);
+          said = s;
+          accepted-before = refl;
+          refuses = c;
+          is = ap (malformed e) n ∙ q;
+        }
 
-    said-so : (a : Action) → action (b ∷ bs) ≡ some a → (o : Option Said) → say a s ≡ o → (orRefuse (malformed e k) o >>= (λ next. zeroLines e (suc k) ls next)) ≡ refused r
+    said-so : (a : Action) → action (b ∷ bs) ≡ some a → (o : Option Said) → say a s ≡ o
+        → (orRefuse (malformed e k) o >>= (λ next. zeroLines e (suc k) ls next)) ≡ refused r
         → ((next : Said) → zeroLines e (suc k) ls next ≡ refused r → Stop e (suc k) ls next r) → Stop e k ((b ∷ bs) ∷ ls) s r
     said-so a q none p h ih = here (by-place a q p) (cc)
     said-so a q (some next) p h ih = stop-later e k (b ∷ bs) ls s next r (λ xs. rw (q, p)) (ih next h)
 
-    go : (o : Option Action) → action (b ∷ bs) ≡ o → (orRefuse (malformed e k) o >>= (λ a. orRefuse (malformed e k) (say a s) >>= (λ next. zeroLines e (suc k) ls next))) ≡ refused r
+    go : (o : Option Action) → action (b ∷ bs) ≡ o
+        → (orRefuse (malformed e k) o >>= (λ a. orRefuse (malformed e k) (say a s) >>= (λ next. zeroLines e (suc k) ls next))) ≡ refused r
         → ((next : Said) → zeroLines e (suc k) ls next ≡ refused r → Stop e (suc k) ls next r) → Stop e k ((b ∷ bs) ∷ ls) s r
     go none q h ih = here (by-form q) (cc)
     go (some a) q h ih = said-so a q (say a s) refl h ih
 
-zeroLines-past : (e k : ℕ) (before rest : List Bytes) (s to : Said) → zeroLines e k before s ≡ accepted to → zeroLines e k (before ++ rest) s ≡ zeroLines e (length before + k) rest to
+zeroLines-past : (e k : ℕ) (before rest : List Bytes) (s to : Said) → zeroLines e k before s ≡ accepted to
+    → zeroLines e k (before ++ rest) s ≡ zeroLines e (length before + k) rest to
 unfolding zeroLines
 zeroLines-past e k [] rest s to h =
     let q : s ≡ to = cc in
@@ -87,9 +101,11 @@ zeroLines-past e k ([] ∷ ls) rest s to h =
     zeroLines-past e (suc k) ls rest s to h ∙ ap (λ (x : ℕ). zeroLines e x rest to) n
 zeroLines-past e k ((b ∷ bs) ∷ ls) rest s to h = go (action (b ∷ bs)) h (λ next. zeroLines-past e (suc k) ls rest next to)
   where
-    go : (o : Option Action) → (orRefuse (malformed e k) o >>= (λ a. orRefuse (malformed e k) (say a s) >>= (λ next. zeroLines e (suc k) ls next))) ≡ accepted to
+    go : (o : Option Action)
+        → (orRefuse (malformed e k) o >>= (λ a. orRefuse (malformed e k) (say a s) >>= (λ next. zeroLines e (suc k) ls next))) ≡ accepted to
         → ((next : Said) → zeroLines e (suc k) ls next ≡ accepted to → zeroLines e (suc k) (ls ++ rest) next ≡ zeroLines e (length ls + suc k) rest to)
-        → (orRefuse (malformed e k) o >>= (λ a. orRefuse (malformed e k) (say a s) >>= (λ next. zeroLines e (suc k) (ls ++ rest) next))) ≡ zeroLines e (suc (length ls) + k) rest to
+        → (orRefuse (malformed e k) o >>= (λ a. orRefuse (malformed e k) (say a s) >>= (λ next. zeroLines e (suc k) (ls ++ rest) next)))
+        ≡ zeroLines e (suc (length ls) + k) rest to
     go none h ih = apart (cc)
     go (some a) h ih = said-so (say a s) h
       where
@@ -123,14 +139,24 @@ readZero-met f r h = go (bind-refused (zeroLines (f .entry) 1 (lines (f .body)) 
         n = omega arith
 
         here : ZeroLine f
-        here = record { before = p .before; line = p .line; behind = p .behind; split = p .split; not-empty = p .not-empty; said = p .said; accepted-before = p .accepted-before }
+        here =
+            record {
+              before = p .before;
+              line = p .line;
+              behind = p .behind;
+              split = p .split;
+              not-empty = p .not-empty;
+              said = p .said;
+              accepted-before = p .accepted-before;
+            }
 
         by-cause : Refuses (p .line) (p .said) → MetInZero f (malformed (f .entry) (suc (length (p .before))))
         by-cause (by-form e) = malformed-line here e
         by-cause (by-place a e q) = out-of-place here a e q
 
     at-end : (s : Said) → zeroLines (f .entry) 1 (lines (f .body)) saidNothing ≡ accepted s
-        → (orRefuse (malformed (f .entry) 0) (s .ofTable) ≡ refused r) ⊎ ((m : MetaData) × (orRefuse (malformed (f .entry) 0) (s .ofTable) ≡ accepted m) × (accepted (stateOf s m) ≡ refused r)) → MetInZero f r
+        → (orRefuse (malformed (f .entry) 0) (s .ofTable) ≡ refused r) ⊎
+        ((m : MetaData) × (orRefuse (malformed (f .entry) 0) (s .ofTable) ≡ accepted m) × (accepted (stateOf s m) ≡ refused r)) → MetInZero f r
     at-end s x (inl y) = let p = orRefuse-refused (malformed (f .entry) 0) (s .ofTable) y in subst (MetInZero f) (p .1) (no-metaData s x (p .0))
     at-end s x (inr (m, y, z)) = apart (cc)
 
@@ -169,7 +195,8 @@ follow-met z fromZero r h = apart (cc)
 follow-met z (fromCheckpoint f) r h = in-checkpoint (readFile-met f (nothingLive (z .table)) r h)
 follow-met z (andThen w g) r h = go (bind-refused (follow mostLive z w) (λ st. readFile mostLive g st) h) (follow-met z w r)
   where
-    go : (follow mostLive z w ≡ refused r) ⊎ ((st : State) × (follow mostLive z w ≡ accepted st) × (readFile mostLive g st ≡ refused r)) → (follow mostLive z w ≡ refused r → MetOn z w r) → MetOn z (andThen w g) r
+    go : (follow mostLive z w ≡ refused r) ⊎ ((st : State) × (follow mostLive z w ≡ accepted st) × (readFile mostLive g st ≡ refused r))
+        → (follow mostLive z w ≡ refused r → MetOn z w r) → MetOn z (andThen w g) r
     go (inl x) ih = earlier (ih x)
     go (inr (st, x, y)) ih = in-version st x (readFile-met g st r y)
 

@@ -25,7 +25,8 @@ unfolding anyTooLarge
 anyTooLarge-some [] h = apart (cc)
 anyTooLarge-some (f ∷ fs) h = go (isTooLarge (nameOf (f .name))) refl h (anyTooLarge-some fs)
   where
-    go : (b : Bool) → isTooLarge (nameOf (f .name)) ≡ b → elim b [ true ↦ true | false ↦ anyTooLarge fs ] ≡ true → (anyTooLarge fs ≡ true → SomeTooLarge fs) → SomeTooLarge (f ∷ fs)
+    go : (b : Bool) → isTooLarge (nameOf (f .name)) ≡ b → elim b [ true ↦ true | false ↦ anyTooLarge fs ] ≡ true → (anyTooLarge fs ≡ true → SomeTooLarge fs)
+        → SomeTooLarge (f ∷ fs)
     go true e h ih = inl (isTooLarge-true (nameOf (f .name)) e)
     go false e h ih = inr (ih h)
 
@@ -49,7 +50,8 @@ unfolding allAmong
 allAmong-unknown names [] h = apart (cc)
 allAmong-unknown names (x ∷ xs) h = go (holds x names) refl h (allAmong-unknown names xs)
   where
-    go : (b : Bool) → holds x names ≡ b → elim b [ true ↦ allAmong names xs | false ↦ false ] ≡ false → (allAmong names xs ≡ false → Unknown names xs) → Unknown names (x ∷ xs)
+    go : (b : Bool) → holds x names ≡ b → elim b [ true ↦ allAmong names xs | false ↦ false ] ≡ false → (allAmong names xs ≡ false → Unknown names xs)
+        → Unknown names (x ∷ xs)
     go true e h ih = let u = ih h in (u .0, holds-tail (u .0) x xs (u .1), u .2)
     go false e h ih = (x, holds-head x x xs refl, e)
 

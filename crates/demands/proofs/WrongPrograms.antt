@@ -14,7 +14,9 @@ use Rattle.rules.specs.Refusals.{Answer, accepted, refused, notKept}
 use Rattle.rules.proofs.Opened.{rules}
 use Rattle.rules.proofs.Tests.{apart}
 use Rattle.rules.proofs.Json.Suffix.{some-same}
-use Rattle.demands.specs.WrongPrograms.{Reader, KeepsPromise, RefusesEverything, SameTableForAll, WritesNothing, NoCheckpoint, AppliesTheFirstOnly, Accepts, InventsTheCount, SameCountForAll, NoneKeepsThePromise, removedAndAdded, addedAndRemoved, removedLater, sevens}
+use Rattle.demands.specs.WrongPrograms.{Reader, KeepsPromise, RefusesEverything, SameTableForAll, WritesNothing}
+use Rattle.demands.specs.WrongPrograms.{NoCheckpoint, AppliesTheFirstOnly, Accepts, InventsTheCount, SameCountForAll}
+use Rattle.demands.specs.WrongPrograms.{NoneKeepsThePromise, removedAndAdded, addedAndRemoved, removedLater, sevens}
 
 -- ---- what is looked at
 
@@ -101,7 +103,8 @@ module _ (p : Reader) (k : KeepsPromise p) where
       let e : _≡_ {A = Option ℕ} none (some 1) = sym (ap countIn (r .1)) ∙ ap countIn (answers-as p k removedAndAdded theLatest) ∙ count-live in
       apart (cc)
 
-  accepts : (s : Bytes) (asked : Asked) (n : ℕ) → countIn (told (reading rowsRoom s all asked)) ≡ some n → (t : Told) × (p .answer sevens s all asked ≡ accepted t) × (t .count ≡ n)
+  accepts : (s : Bytes) (asked : Asked) (n : ℕ) → countIn (told (reading rowsRoom s all asked)) ≡ some n
+      → (t : Told) × (p .answer sevens s all asked ≡ accepted t) × (t .count ≡ n)
   unfolding countIn
   accepts s asked n e = go (p .answer sevens s all asked) refl (ap countIn (answers-as p k s asked) ∙ e)
     where
@@ -115,19 +118,27 @@ module _ (p : Reader) (k : KeepsPromise p) where
   not-same-table : SameTableForAll p → ⊥
   not-same-table h =
       let e : _≡_ {A = ℕ} 1 0 =
-      sym size-live ∙ sym (ap sizeIn (leaves-as p k removedAndAdded theLatest)) ∙ ap sizeIn (h sevens removedAndAdded addedAndRemoved all theLatest (is-accepted removedAndAdded theLatest 1 count-live) (is-accepted addedAndRemoved theLatest 0 count-none))
+      sym size-live ∙ sym (ap sizeIn (leaves-as p k removedAndAdded theLatest))
+      ∙ ap sizeIn
+      (h sevens removedAndAdded addedAndRemoved all theLatest (is-accepted removedAndAdded theLatest 1 count-live)
+      (is-accepted addedAndRemoved theLatest 0 count-none))
       ∙ ap sizeIn (leaves-as p k addedAndRemoved theLatest) ∙ size-none in
       omega arith
 
   not-silent : WritesNothing p → ⊥
   not-silent h =
-      let e : _≡_ {A = ℕ} 7 0 = sym size-sevens ∙ sym (ap sizeIn (h sevens addedAndRemoved all theLatest (is-accepted addedAndRemoved theLatest 0 count-none))) ∙ ap sizeIn (leaves-as p k addedAndRemoved theLatest) ∙ size-none in
+      let e : _≡_ {A = ℕ} 7 0 = sym size-sevens
+      ∙ sym (ap sizeIn (h sevens addedAndRemoved all theLatest (is-accepted addedAndRemoved theLatest 0 count-none)))
+      ∙ ap sizeIn (leaves-as p k addedAndRemoved theLatest) ∙ size-none in
       omega arith
 
   not-first-only : AppliesTheFirstOnly p → ⊥
   not-first-only h =
       let e : _≡_ {A = ℕ} 0 1 =
-      sym size-at-2 ∙ sym (ap sizeIn (leaves-as p k removedLater (theVersion 2))) ∙ ap sizeIn (h sevens removedLater all 1 later-no-checkpoint (is-accepted removedLater (theVersion 2) 0 count-at-2) (is-accepted removedLater (theVersion 1) 1 count-at-1))
+      sym size-at-2 ∙ sym (ap sizeIn (leaves-as p k removedLater (theVersion 2)))
+      ∙ ap sizeIn
+      (h sevens removedLater all 1 later-no-checkpoint (is-accepted removedLater (theVersion 2) 0 count-at-2)
+      (is-accepted removedLater (theVersion 1) 1 count-at-1))
       ∙ ap sizeIn (leaves-as p k removedLater (theVersion 1)) ∙ size-at-1 in
       omega arith
 

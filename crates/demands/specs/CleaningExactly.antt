@@ -16,7 +16,8 @@ use Rattle.rules.specs.Gate.{knownReader, knownWriter, readerNames, writerNames
 use Rattle.rules.specs.Rooms.{rowsRoom, namesRoom}
 use Rattle.rules.specs.Cleaning.{named, Lent, cleaning}
 use Rattle.rules.specs.Same.{SameState}
-use Rattle.rules.specs.Refusals.{Refusal, accepted, refused, roomTooShort, bundleMalformed, versionTooLarge, noVersionZero, malformed, tooManyLive, readerTooHigh, unknownFeature, notWritable, checkpointDisagrees}
+use Rattle.rules.specs.Refusals.{Refusal, accepted, refused, roomTooShort, bundleMalformed, versionTooLarge, noVersionZero}
+use Rattle.rules.specs.Refusals.{malformed, tooManyLive, readerTooHigh, unknownFeature, notWritable, checkpointDisagrees}
 use Rattle.demands.specs.Reaching.{Reaches, IsOther}
 use Rattle.demands.specs.Met.{MetIn, MetInZero, MetOn}
 use Rattle.demands.specs.Exactly.{SomeTooLarge, Unknown, Readable}
@@ -62,7 +63,8 @@ pub record Comparing (lent : Lent) (s : Bytes) : Type 0 where
 -- the first line met that is refused: version 0, then the checkpoint, then the other way is read
 pub data MetComparing (zero-file checkpoint : File) (w : Way) : Refusal → Type 0 where
   in-zero : {r : Refusal} → MetInZero zero-file r → MetComparing zero-file checkpoint w r
-  in-checkpoint : {r : Refusal} (z : State) → readZero zero-file ≡ accepted z → MetIn checkpoint (nothingLive (z .table)) r → MetComparing zero-file checkpoint w r
+  in-checkpoint : {r : Refusal} (z : State) → readZero zero-file ≡ accepted z → MetIn checkpoint (nothingLive (z .table)) r
+      → MetComparing zero-file checkpoint w r
   on-way : {r : Refusal} (z mine : State) → readZero zero-file ≡ accepted z → readFile mostLive checkpoint (nothingLive (z .table)) ≡ accepted mine
       → MetOn z w r → MetComparing zero-file checkpoint w r
 

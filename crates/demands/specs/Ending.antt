@@ -1,5 +1,6 @@
 -- Demand 1: every entry takes any bundle, query, version, time and lent room, and ends with an answer or a numbered refusal, one of those
--- that the paper lists for it. Room that is too short is left untouched; after any other refusal the stated rooms hold zeros; beyond, and in length, they stay.
+-- that the paper lists for it. Room that is too short is left untouched; after any other refusal the first numbers of each room,
+-- as many as the paper states, are zero; the numbers past them and the room's length do not change.
 use mathlib.Core.Path.{_≡_}
 use mathlib.Core.List.{List, [], _∷_, _++_}
 use Prim.Native.Nat.{ℕ, _-_}
@@ -46,7 +47,8 @@ pub record RoomEnds {A : Type 0} (n : ℕ) (numbers : A → List ℕ) (answer : 
 abbrev pub ReadingRoomEnds : Type 0
 ReadingRoomEnds =
     (room : Room) (s q : Bytes) (asked : Asked)
-    → RoomEnds rowsRoom (λ (l : Listing). rowsNumbers (l .rows)) (reading (length room) s q asked) room (roomAfterReading (reading (length room) s q asked) room)
+    → RoomEnds rowsRoom (λ (l : Listing). rowsNumbers (l .rows)) (reading (length room) s q asked) room
+    (roomAfterReading (reading (length room) s q asked) room)
 
 abbrev pub KeepingRoomEnds : Type 0
 KeepingRoomEnds =

@@ -19,7 +19,8 @@ use Rattle.rules.specs.Manifests.{Manifest, manifests, mostManifests, keptFrom}
 use Rattle.rules.specs.Rooms.{rowsRoom, keptRoom}
 use Rattle.rules.specs.Reading.{Asked, versionAsked, Listing, stateBy, reading}
 use Rattle.rules.specs.Keeping.{keeping}
-use Rattle.rules.specs.Refusals.{accepted, refused, roomTooShort, bundleMalformed, versionTooLarge, noVersionZero, notKept, malformed, tooManyLive, readerTooHigh, unknownFeature, queryMalformed, noSuchColumn, stateMalformed, tooManyManifests}
+use Rattle.rules.specs.Refusals.{accepted, refused, roomTooShort, bundleMalformed, versionTooLarge, noVersionZero, notKept, malformed}
+use Rattle.rules.specs.Refusals.{tooManyLive, readerTooHigh, unknownFeature, queryMalformed, noSuchColumn, stateMalformed, tooManyManifests}
 use Rattle.demands.specs.Reaching.{There, NoStart}
 use Rattle.demands.specs.Met.{Met}
 
@@ -89,9 +90,11 @@ pub record ReadingExactly (room : ℕ) (s q : Bytes) (asked : Asked) : Type 0 wh
   pub no-1 : (reading room s q asked ≡ refused roomTooShort) ↔ (room < rowsRoom)
   pub no-10 : (reading room s q asked ≡ refused queryMalformed) ↔ ((rowsRoom ≤ room) × (query q ≡ none))
   pub no-2 : (reading room s q asked ≡ refused bundleMalformed) ↔ ((rowsRoom ≤ room) × There (query q) × (bundle s ≡ none))
-  pub no-3 : (reading room s q asked ≡ refused versionTooLarge) ↔ ((rowsRoom ≤ room) × There (query q) × ((fs : List File) × (bundle s ≡ some fs) × SomeTooLarge fs))
+  pub no-3 : (reading room s q asked ≡ refused versionTooLarge)
+      ↔ ((rowsRoom ≤ room) × There (query q) × ((fs : List File) × (bundle s ≡ some fs) × SomeTooLarge fs))
   pub no-4 : (reading room s q asked ≡ refused noVersionZero) ↔ ((o : Opened room s q) × (logIn asked o .versionFile 0 ≡ none))
-  pub no-5 : (reading room s q asked ≡ refused notKept) ↔ ((o : Opened room s q) × There (logIn asked o .versionFile 0) × NoStart (logIn asked o) (versionIn asked o))
+  pub no-5 : (reading room s q asked ≡ refused notKept)
+      ↔ ((o : Opened room s q) × There (logIn asked o .versionFile 0) × NoStart (logIn asked o) (versionIn asked o))
   pub no-6 : (e l : ℕ) → (reading room s q asked ≡ refused (malformed e l)) ↔ ((r : Reached room s q asked) × Met (r .zero) (r .way) (malformed e l))
   pub no-7 : (e l : ℕ) → (reading room s q asked ≡ refused (tooManyLive e l)) ↔ ((r : Reached room s q asked) × Met (r .zero) (r .way) (tooManyLive e l))
   pub no-8 : (reading room s q asked ≡ refused readerTooHigh) ↔ ((r : Read room s q asked) × (knownReader < r .state .inForce .minReaderVersion))
@@ -114,7 +117,9 @@ pub record KeepingExactly (room : ℕ) (state q : Bytes) : Type 0 where
   pub no-15 : (keeping room state q ≡ refused tooManyManifests)
       ↔ ((keptRoom ≤ room) × There (query q) × ((ms : List Manifest) × (manifests state ≡ some ms) × (mostManifests < length ms)))
   pub no-0 : (ks : List ℕ) → (keeping room state q ≡ accepted ks)
-      ↔ ((keptRoom ≤ room) × ((cs : List Condition) × (query q ≡ some cs) × ((ms : List Manifest) × (manifests state ≡ some ms) × (length ms ≤ mostManifests) × (keptFrom 0 cs ms ≡ ks))))
+      ↔ ((keptRoom ≤ room)
+      × ((cs : List Condition) × (query q ≡ some cs)
+      × ((ms : List Manifest) × (manifests state ≡ some ms) × (length ms ≤ mostManifests) × (keptFrom 0 cs ms ≡ ks))))
 
 abbrev pub KeepingRefusesExactly : Type 0
 KeepingRefusesExactly = (room : ℕ) (state q : Bytes) → KeepingExactly room state q

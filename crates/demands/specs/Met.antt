@@ -47,7 +47,8 @@ pub record ZeroLine (f : File) : Type 0 where
 -- an add, remove or mergeskip, a second metaData, a second protocol: out of place. A missing metaData is met at the file's end
 pub data MetInZero (f : File) : Refusal → Type 0 where
   malformed-line : (l : ZeroLine f) → action (l .line) ≡ none → MetInZero f (malformed (f .entry) (suc (length (l .before))))
-  out-of-place : (l : ZeroLine f) (a : Action) → action (l .line) ≡ some a → say a (l .said) ≡ none → MetInZero f (malformed (f .entry) (suc (length (l .before))))
+  out-of-place : (l : ZeroLine f) (a : Action) → action (l .line) ≡ some a → say a (l .said) ≡ none
+      → MetInZero f (malformed (f .entry) (suc (length (l .before))))
   no-metaData : (s : Said) → zeroLines (f .entry) 1 (lines (f .body)) saidNothing ≡ accepted s → s .ofTable ≡ none → MetInZero f (malformed (f .entry) 0)
 
 -- ---- the way

@@ -34,7 +34,8 @@ pub record LeftOf (MayGo : File → Type 0) (fs gs : List File) : Type 0 where
 
 -- names ascend in both bundles, so that it is the same
 abbrev pub RemovalKeepsOrder : Type 1
-RemovalKeepsOrder = (MayGo : File → Type 0) (s t : Bytes) (fs gs : List File) → bundle s ≡ some fs → bundle t ≡ some gs → LeftOf MayGo fs gs → Without MayGo fs gs
+RemovalKeepsOrder =
+    (MayGo : File → Type 0) (s t : Bytes) (fs gs : List File) → bundle s ≡ some fs → bundle t ≡ some gs → LeftOf MayGo fs gs → Without MayGo fs gs
 
 -- ---- any choice of files that is left has a bundle
 

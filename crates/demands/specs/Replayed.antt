@@ -29,7 +29,11 @@ unfoldable pub linesFrom : (at : ℕ) → List Bytes → List Line
 linesFrom at [] = []
 linesFrom at ([] ∷ ls) = linesFrom (at + 1) ls
 linesFrom at ((b ∷ bs) ∷ ls) =
-    elim (action (b ∷ bs)) [ none ↦ linesFrom (at + length (b ∷ bs) + 1) ls | some a ↦ record { at = at; size = length (b ∷ bs); does = a } ∷ linesFrom (at + length (b ∷ bs) + 1) ls ]
+    elim
+    (action (b ∷ bs)) [
+      | none ↦ linesFrom (at + length (b ∷ bs) + 1) ls
+      | some a ↦ record { at = at; size = length (b ∷ bs); does = a } ∷ linesFrom (at + length (b ∷ bs) + 1) ls
+    ]
 
 abbrev pub linesIn : File → List Line
 linesIn f = linesFrom (f .start) (lines (f .body))

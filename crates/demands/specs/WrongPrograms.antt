@@ -37,7 +37,8 @@ abbrev pub Accepts : Reader → Room → (s q : Bytes) → Asked → Type 0
 Accepts p room s q asked = (t : Told) × (p .answer room s q asked ≡ accepted t)
 
 abbrev pub SameTableForAll : Reader → Type 0
-SameTableForAll p = (room : Room) (s t q : Bytes) (asked : Asked) → Accepts p room s q asked → Accepts p room t q asked → p .leaves room s q asked ≡ p .leaves room t q asked
+SameTableForAll p =
+    (room : Room) (s t q : Bytes) (asked : Asked) → Accepts p room s q asked → Accepts p room t q asked → p .leaves room s q asked ≡ p .leaves room t q asked
 
 abbrev pub WritesNothing : Reader → Type 0
 WritesNothing p = (room : Room) (s q : Bytes) (asked : Asked) → Accepts p room s q asked → p .leaves room s q asked ≡ room

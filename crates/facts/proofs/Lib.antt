@@ -6,3 +6,5 @@ pub mod Rows
 pub mod Tables
 pub mod Examples
 pub mod Kept
+pub mod Shifts
+pub mod Zeroing

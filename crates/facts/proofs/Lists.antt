@@ -1,7 +1,7 @@
 -- Laws of lists that lib.ListN and lib.Seq lack: suffixes `drop i s`, lists that agree from a place on or up to it, seams,
 -- repeated elements, maps, every element. The next place is `i + 1`, as in code. Not here, for they are there: `length-drop`,
 -- `drop-of-length-le` (nothing is left past the end), `drop-drop`, `set-out`, `ext-getD` (lists are equal by their elements).
-use mathlib.Core.Path.{_≡_, refl, sym, ap, _∙_}
+use mathlib.Core.Path.{_≡_, refl, sym, ap}
 use Prim.Native.Nat.{ℕ, zero, suc, _+_, _-_, _≤_, _<_, suc-le-suc}
 use native.Mathlib.Nat.{le-of-suc-le-suc, not-suc-le-zero, zero-add, suc-add, sub-zero, zero-sub, suc-sub-suc}
 use native.Mathlib.Numerals.{add-one}

@@ -67,7 +67,13 @@ module _ {A : Type 0} (at : ℕ) (us vs t : List A) (h : at + length us + length
       let rest : List A = drop (at + length us + length vs) t in
       let n : length front ≡ at + length us = length-take-le (at + length us) t (omega arith) in
       let e : at + length (us ++ vs) ≡ at + length us + length vs = simp length-append (omega arith) in
-      rw (take-append-le at front (vs ++ rest) (omega arith), take-take at (at + length us) t (omega arith), drop-at front (vs ++ rest) (at + length us) n, e, append-assoc us vs rest)
+      rw (
+        take-append-le at front (vs ++ rest) (omega arith),
+        take-take at (at + length us) t (omega arith),
+        drop-at front (vs ++ rest) (at + length us) n,
+        e,
+        append-assoc us vs rest,
+      )
 
 pub putAt-one : {A : Type 0} (at : ℕ) (v : A) (t : List A) → at < length t → putAt at (v ∷ []) t ≡ set t at v
 putAt-one at v t h = sym (rw (add-zero, putAt-none at t) at (putAt-snoc at [] t v (omega arith)))
@@ -114,7 +120,8 @@ module _ {A : Type 0} (at m by : ℕ) (t : List A) (h : at + by + m ≤ length t
       rw (e, part-none t (at + m) (at + m + 0) (omega arith)) (putAt-none (at + m + by) t)
 
   pub movedUp-step : (i : ℕ) (d : A) → 0 < i → i ≤ m
-      → set (movedUp (at + i) (m - i) by t) (at + by + (i - 1)) (getD (movedUp (at + i) (m - i) by t) (at + (i - 1)) d) ≡ movedUp (at + (i - 1)) (m - (i - 1)) by t
+      → set (movedUp (at + i) (m - i) by t) (at + by + (i - 1)) (getD (movedUp (at + i) (m - i) by t) (at + (i - 1)) d)
+      ≡ movedUp (at + (i - 1)) (m - (i - 1)) by t
   movedUp-step i d l k =
       let e₁ : at + i ≡ at + (i - 1) + 1 = omega arith in
       let e₂ : m - (i - 1) ≡ m - i + 1 = omega arith in

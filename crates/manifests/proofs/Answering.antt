@@ -16,12 +16,12 @@ use Rattle.rules.specs.Rooms.{Room, keptRoom, counted}
 use Rattle.rules.specs.Refusals.{Answer, accepted, refused, roomTooShort, queryMalformed, stateMalformed, tooManyManifests}
 use Rattle.rules.specs.Keeping.{keeping, roomAfterKeeping}
 use Rattle.rules.proofs.Rooms.{zeroed-filled, zeroed-none-filled, leaves-accepted, leaves-untouched, leaves-zeros}
-use Rattle.query.specs.Reading.{Accepted, QueryBy, QueryIs}
-use Rattle.query.specs.declared.reading.Query.{Query}
+use Rattle.query_conditions.specs.Reading.{Accepted, QueryBy, QueryIs}
+use Rattle.query_conditions.specs.declared.reading.Query.{Query}
 use Rattle.refusals.specs.Numbered.{numbered}
 use Rattle.refusals.specs.declared.Refusal.{Refusal}
 use Rattle.refusals.specs.declared.Refusal.the-variants.{RoomTooShort}
-use Rattle.noting.specs.Walks.{Beyond, Noted}
+use Rattle.manifests.specs.Walks.{Beyond, Noted}
 use Rattle.manifests.specs.Rooms.{refusedBy, keptIs, KeepIs}
 use Rattle.manifests.specs.declared.keeping.Kept.{Kept}
 use Rattle.manifests.specs.declared.keeping.Kept.the-variants.{Numbers, Refused}

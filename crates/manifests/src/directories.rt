@@ -32,10 +32,10 @@ pub fn directory<'a>(path: &'a [u8], state_directory: &'a [u8]) -> &'a [u8]
     let Slash::At(i) = last_slash(path) else {
         return state_directory; // what stands as it is holds a slash
     };
-    if values::begins_with(b"manifests/", path) {
+    if bytes_values::begins_with(b"manifests/", path) {
         return &path[..i];
     }
-    if values::begins_with(b"state-v", path) {
+    if bytes_values::begins_with(b"state-v", path) {
         return &path[..i];
     }
     state_directory

@@ -4,7 +4,7 @@ use Rattle.rules.specs.Bytes.{Bytes}
 use Rattle.rules.specs.Rooms.{Room}
 use Rattle.rules.specs.Reading.{Asked, theLatest, theVersion, Told}
 use Rattle.rules.proofs.Tests.{apart}
-use Rattle.names.specs.declared.Version.{Version}
+use Rattle.file_names.specs.declared.Version.{Version}
 use Rattle.refusals.specs.Numbered.{numbered}
 use Rattle.refusals.proofs.Alone.{numbered-alone}
 use Rattle.reading.specs.Answers.{readIs, ReadIs}
@@ -28,12 +28,15 @@ readIs-alone (Refused x) (Refused y) e =
     let same : numbered x ≡ numbered y = cc in
     ap Refused (numbered-alone x y same)
 
-pub read-alone : (src q : Bytes) (asked : Asked) (room after later : Room) (r s : Read) → ReadIs src q asked room after r → ReadIs src q asked room later s → (r ≡ s) × (after ≡ later)
+pub read-alone : (src q : Bytes) (asked : Asked) (room after later : Room) (r s : Read) → ReadIs src q asked room after r → ReadIs src q asked room later s
+    → (r ≡ s) × (after ≡ later)
 read-alone src q asked room after later r s a b = (readIs-alone r s (a .answer ∙ sym (b .answer)), a .holds ∙ sym (b .holds))
 
-pub read-at-alone : (src q : Bytes) (v : Version) (room after later : Room) (r s : Read) → ReadIs src q (theVersion (v .0)) room after r → ReadIs src q (theVersion (v .0)) room later s
+pub read-at-alone : (src q : Bytes) (v : Version) (room after later : Room) (r s : Read) → ReadIs src q (theVersion (v .0)) room after r
+    → ReadIs src q (theVersion (v .0)) room later s
     → (r ≡ s) × (after ≡ later)
 read-at-alone src q v = read-alone src q (theVersion (v .0))
 
-pub read-latest-alone : (src q : Bytes) (room after later : Room) (r s : Read) → ReadIs src q theLatest room after r → ReadIs src q theLatest room later s → (r ≡ s) × (after ≡ later)
+pub read-latest-alone : (src q : Bytes) (room after later : Room) (r s : Read) → ReadIs src q theLatest room after r → ReadIs src q theLatest room later s
+    → (r ≡ s) × (after ≡ later)
 read-latest-alone src q = read-alone src q theLatest

@@ -1,5 +1,4 @@
 -- Laws of reading; the proofs of the functions cite them.
-pub mod Later
 pub mod Rules
 pub mod Rooms
 pub mod Picked

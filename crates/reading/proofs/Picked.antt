@@ -22,17 +22,17 @@ use Rattle.rules.specs.Refusals.{Answer, accepted}
 use Rattle.rules.specs.Reading.{told, listing, roomAfterReading}
 use Rattle.rules.specs.Reading.{Listing as rListing}
 use Rattle.rules.proofs.Rooms.{zeroed-rows-filled, leaves-accepted}
-use Rattle.names.specs.declared.Version.{Version}
-use Rattle.table.specs.Table.{wide, cells, row, layout, rows, Room, behind, Changed}
-use Rattle.table.specs.declared.Cells.{Cells}
-use Rattle.live.specs.Live.{placeOf, bared}
-use Rattle.replay.specs.Views.{factsAt, rowOf, stateOf, Stands, Carries}
-use Rattle.replay.specs.declared.State.{State}
-use Rattle.replay.proofs.Standing.{stands-facts}
-use Rattle.gate.specs.Judged.{Passes}
-use Rattle.gate.specs.declared.Numbers.{Numbers}
-use Rattle.picking.specs.Picked.{Picks}
-use Rattle.picking.proofs.Fronting.{picked-map}
+use Rattle.file_names.specs.declared.Version.{Version}
+use Rattle.row_table.specs.Table.{wide, cells, row, layout, rows, Room, behind, Changed}
+use Rattle.row_table.specs.declared.Cells.{Cells}
+use Rattle.row_live.specs.Live.{placeOf, bared}
+use Rattle.log_replay.specs.Views.{factsAt, rowOf, stateOf, Stands, Carries}
+use Rattle.log_replay.specs.declared.State.{State}
+use Rattle.log_replay.proofs.Standing.{stands-facts}
+use Rattle.log_gate.specs.Judged.{Passes}
+use Rattle.log_gate.specs.declared.Numbers.{Numbers}
+use Rattle.query_picking.specs.Picked.{Picks}
+use Rattle.query_picking.proofs.Fronting.{picked-map}
 use Rattle.reading.specs.Answers.{readIs, AnswerIs}
 use Rattle.reading.specs.declared.Read.the-variants.{Listed}
 use Rattle.reading.proofs.Rooms.{numbers}
@@ -123,14 +123,17 @@ module _ (src : Text) (cs : List Condition) (st : State) (t : List ℕ) (w : Car
 
     pub answer-listed : (v : Version) (after : List ℕ) (n : Numbers) → Passes (stateOf src st t .inForce) n
         → allAmong (stateOf src st t .table .partitionColumns) (map columnOf cs) ≡ true → after ≡ zeroed (m * 4) 4096 t₂
-        → AnswerIs (listing cs (v .0) (stateOf src st t)) t after (Listed (record { version = v; rows = m; reader = n .reader; writer = n .writer; writable = n .writable }))
+        → AnswerIs (listing cs (v .0) (stateOf src st t)) t after
+        (Listed (record { version = v; rows = m; reader = n .reader; writer = n .writer; writable = n .writable }))
     unfolding readIs told roomAfterReading rowsRoom numbers
     answer-listed v after n g e z =
-        let k : listing cs (v .0) (stateOf src st t) ≡ accepted (listed cs (v .0) (stateOf src st t)) = listing-listed cs (v .0) (stateOf src st t) (g .accepts) e in
+        let k : listing cs (v .0) (stateOf src st t) ≡ accepted (listed cs (v .0) (stateOf src st t)) =
+        listing-listed cs (v .0) (stateOf src st t) (g .accepts) e in
         record {
           answer = says ∙ sym (ap told k);
           holds = z ∙ room ∙ sym (ap (λ (a : Answer rListing). roomAfterReading a t) k ∙ leaves-accepted 4096 numbers t (listed cs (v .0) (stateOf src st t)));
         }
       where
-        says : readIs (Listed (record { version = v; rows = m; reader = n .reader; writer = n .writer; writable = n .writable })) ≡ told (accepted (listed cs (v .0) (stateOf src st t)))
+        says : readIs (Listed (record { version = v; rows = m; reader = n .reader; writer = n .writer; writable = n .writable }))
+            ≡ told (accepted (listed cs (v .0) (stateOf src st t)))
         says = rw (count, g .reader, g .writer, g .writable) refl

@@ -12,14 +12,14 @@ use Rattle.rules.specs.Refusals.{Answer, accepted, refused, roomTooShort}
 use Rattle.rules.specs.Reading.{Asked, told, roomAfterReading}
 use Rattle.rules.specs.Reading.{Listing as rListing}
 use Rattle.rules.proofs.Rooms.{zeroed-none-filled, leaves-accepted, leaves-untouched, leaves-zeros}
-use Rattle.replay.specs.Answers.{Left}
+use Rattle.log_replay.specs.Answers.{Left}
 use Rattle.refusals.specs.Numbered.{numbered}
 use Rattle.refusals.specs.declared.Refusal.{Refusal}
 use Rattle.refusals.specs.declared.Refusal.the-variants.{RoomTooShort}
 use Rattle.reading.specs.Answers.{readIs, AnswerIs, ReadIs}
 use Rattle.reading.specs.declared.Read.{Read}
 use Rattle.reading.specs.declared.Read.the-variants.{Refused}
-use Rattle.reading.proofs.Later.{Later}
+use Rattle.rules.proofs.Later.{Later}
 use Rattle.reading.proofs.Rules.{reading-short}
 
 -- the numbers of what is listed
@@ -54,7 +54,8 @@ module _ (o : Answer rListing) (room after : Room) (r : Read) where
 
 -- ---- a refusal
 
-pub answer-refused : (x : Refusal) (t after : Room) → 4096 ≤ length t → (numbered x .number ≡ 1 → ⊥) → after ≡ zeroed 0 4096 t → AnswerIs (refused (numbered x)) t after (Refused x)
+pub answer-refused : (x : Refusal) (t after : Room) → 4096 ≤ length t → (numbered x .number ≡ 1 → ⊥) → after ≡ zeroed 0 4096 t
+    → AnswerIs (refused (numbered x)) t after (Refused x)
 unfolding readIs told roomAfterReading rowsRoom numbers
 answer-refused x t after h n e = record { answer = refl; holds = e ∙ zeroed-none-filled 4096 t t h refl ∙ sym (leaves-zeros 4096 numbers t (numbered x) n) }
 

@@ -12,15 +12,16 @@ use Rattle.rules.specs.Gate.{gate, writable}
 use Rattle.rules.specs.Query.{Condition, columnOf, query}
 use Rattle.rules.specs.Picking.{picked}
 use Rattle.rules.specs.Rooms.{rowsRoom}
-use Rattle.rules.specs.Refusals.{Refusal, Answer, accepted, refused, _>>=_, require, roomTooShort, queryMalformed, bundleMalformed, versionTooLarge, noSuchColumn}
+use Rattle.rules.specs.Refusals.{Refusal, Answer, accepted, refused, _>>=_, require, roomTooShort}
+use Rattle.rules.specs.Refusals.{queryMalformed, bundleMalformed, versionTooLarge, noSuchColumn}
 use Rattle.rules.specs.History.{State}
 use Rattle.rules.specs.Starts.{Log, logOf, wayTo}
 use Rattle.rules.specs.Marker.{latest}
 use Rattle.rules.specs.Reading.{Asked, Listing, versionAsked, stateBy, listing, listingBy, listingAt, reading}
-use Rattle.bundle.specs.Files.{filesOr, filesIn}
-use Rattle.names.specs.declared.Version.{Version}
-use Rattle.query.specs.Reading.{Accepted, QueryBy, QueryIs}
-use Rattle.query.specs.declared.reading.Query.{Query}
+use Rattle.file_bundle.specs.Files.{filesOr, filesIn}
+use Rattle.file_names.specs.declared.Version.{Version}
+use Rattle.query_conditions.specs.Reading.{Accepted, QueryBy, QueryIs}
+use Rattle.query_conditions.specs.declared.reading.Query.{Query}
 use Rattle.reading.specs.Answers.{askedIs, answering}
 use Rattle.reading.specs.declared.Asked.{Asked as AskedFor}
 use Rattle.reading.specs.declared.Asked.the-variants.{Latest, At}
@@ -89,7 +90,8 @@ module _ (cs : List Condition) (log : Log) (v : ℕ) where
   listingAt-refused r e = ap (λ (a : Answer State). a >>= (λ st. listing cs v st)) e
 
 -- the latest, where v is that version
-pub listingAt-latest : (cs : List Condition) (log : Log) (v : ℕ) (st : State) → v ≡ latest log → stateBy log (wayTo log (latest log)) ≡ accepted st → listingAt cs log (latest log) ≡ listing cs v st
+pub listingAt-latest : (cs : List Condition) (log : Log) (v : ℕ) (st : State) → v ≡ latest log → stateBy log (wayTo log (latest log)) ≡ accepted st
+    → listingAt cs log (latest log) ≡ listing cs v st
 listingAt-latest cs log v st q e = listingAt-state cs log (latest log) st e ∙ ap (λ (n : ℕ). listing cs n st) (sym q)
 
 -- ---- a state

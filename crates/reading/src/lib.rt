@@ -1,31 +1,28 @@
 // The two entries of reading: the files of a table at a version, or at the latest, that a query picks, as rows in a lent room.
-use bundle::Opened;
-use gate::Numbers;
-use gate::Verdict;
-use history::Reached;
-use names::Version;
-use query::Query;
+use file_bundle::Opened;
+use file_names::Version;
+use log_gate::Numbers;
+use log_gate::Verdict;
+use log_replay::Outcome;
+use log_replay::State;
+use query_conditions::Query;
 use refusals::Refusal;
-use replay::State;
+use rooms::ROWS_ROOM;
 ghost use mathlib.Core.Path.{_≡_};
-ghost use mathlib.Core.Bool.{true};
 ghost use Prim.Native.Nat.{_≤_};
 ghost use lib.ListN.{length};
-ghost use Rattle.rules.specs.Bundle.{bundle as rBundle};
+ghost use Rattle.rules.specs.Bundle.{IsBundle};
 ghost use Rattle.rules.specs.Live.{mostLive};
 ghost use Rattle.rules.specs.Starts.{logOf};
 ghost use Rattle.rules.specs.Marker.{latest as rLatest};
 ghost use Rattle.rules.specs.Refusals.{refused};
 ghost use Rattle.rules.specs.Reading.{theLatest, theVersion, listing, listingAt};
-ghost use Rattle.bundle.specs.Files.{isSome, filesIn};
+ghost use Rattle.file_bundle.specs.Files.{filesIn};
 ghost use Rattle.refusals.specs.Numbered.{numbered};
-ghost use Rattle.query.specs.Reading.{conditionsOf, Sounds};
-ghost use Rattle.replay.specs.Views.{stateOf, Carries};
-ghost use Rattle.gate.specs.Judged.{Passes};
+ghost use Rattle.query_conditions.specs.Reading.{conditionsOf, Sounds};
+ghost use Rattle.log_replay.specs.Views.{stateOf, Carries};
+ghost use Rattle.log_gate.specs.Judged.{Passes};
 ghost use Rattle.reading.specs.Answers.{askedIs, answering, AnswerIs, ReadIs};
-
-// A room for rows has so many numbers at least.
-const ROWS_ROOM: usize = 4096;
 
 // ---- what is answered
 
@@ -57,7 +54,7 @@ fn refuse(t: &mut [u64], x: Refusal) -> Read
     requires { ⌜ (4096 ≤ length (now t)) × (numbered x .number ≡ 1 → ⊥) ⌝ }
     ensures { λ r. ⌜ AnswerIs (refused (numbered x)) (now (t .entry)) (now (t .exit)) r ⌝ }
 {
-    table::zero(t, 0, ROWS_ROOM);
+    rooms::zero(t, 0, ROWS_ROOM);
     Read::Refused(x)
 }
 
@@ -71,18 +68,23 @@ fn list_picked(
     n: Numbers,
     t: &mut [u64],
 ) -> Read
-    requires { ⌜ Carries (now src) mostLive st (now t) × Sounds (now q) (asked .count) (asked .conditions) × Passes (stateOf (now src) st (now t) .inForce) n ⌝ }
-    ensures { λ r. ⌜ AnswerIs (listing (conditionsOf (now (q .entry)) (asked .count) (asked .conditions)) (v .0) (stateOf (now (src .entry)) st (now (t .entry)))) (now (t .entry)) (now (t .exit)) r ⌝ }
+    requires { ⌜ Carries (now src) mostLive st (now t) × Sounds (now q) (asked .count) (asked .conditions)
+        × Passes (stateOf (now src) st (now t) .inForce) n ⌝ }
+    ensures { λ r. ⌜ AnswerIs
+        (listing (conditionsOf (now (q .entry)) (asked .count) (asked .conditions)) (v .0) (stateOf (now (src .entry)) st (now (t .entry))))
+        (now (t .entry))
+        (now (t .exit))
+        r ⌝ }
 {
     let columns = st.table;
     let base = st.base;
     let live = st.live;
-    if picking::all_columns(src, columns, q, asked) {
-        table::settle(t, base, live);
-        let picked = picking::pick(src, t, live, q, asked);
-        live::bare(t, picked);
-        let end = picked * table::ROW;
-        table::zero(t, end, ROWS_ROOM);
+    if query_picking::all_columns(src, columns, q, asked) {
+        row_table::settle(t, base, live);
+        let picked = query_picking::pick(src, t, live, q, asked);
+        row_live::bare(t, picked);
+        let end = picked * row_table::ROW;
+        rooms::zero(t, end, ROWS_ROOM);
         let listed = Listing {
             version: v,
             rows: picked,
@@ -98,10 +100,14 @@ fn list_picked(
 // What the state st at version v answers.
 fn list_state(src: &[u8], q: &[u8], asked: Query, v: Version, st: State, t: &mut [u64]) -> Read
     requires { ⌜ Carries (now src) mostLive st (now t) × Sounds (now q) (asked .count) (asked .conditions) ⌝ }
-    ensures { λ r. ⌜ AnswerIs (listing (conditionsOf (now (q .entry)) (asked .count) (asked .conditions)) (v .0) (stateOf (now (src .entry)) st (now (t .entry)))) (now (t .entry)) (now (t .exit)) r ⌝ }
+    ensures { λ r. ⌜ AnswerIs
+        (listing (conditionsOf (now (q .entry)) (asked .count) (asked .conditions)) (v .0) (stateOf (now (src .entry)) st (now (t .entry))))
+        (now (t .entry))
+        (now (t .exit))
+        r ⌝ }
 {
     let protocol = st.protocol;
-    match gate::judge(src, protocol) {
+    match log_gate::judge(src, protocol) {
         Verdict::TooHigh => refuse(t, Refusal::ReaderTooHigh),
         Verdict::Unknown => refuse(t, Refusal::UnknownFeature),
         Verdict::Passed(n) => list_picked(src, q, asked, v, st, n, t),
@@ -112,35 +118,48 @@ fn list_state(src: &[u8], q: &[u8], asked: Query, v: Version, st: State, t: &mut
 
 // What the well-formed bundle src answers at version v.
 fn list_at(src: &[u8], q: &[u8], asked: Query, v: Version, t: &mut [u64]) -> Read
-    requires { ⌜ (isSome (rBundle (now src)) ≡ true) × (4096 ≤ length (now t)) × Sounds (now q) (asked .count) (asked .conditions) ⌝ }
-    ensures { λ r. ⌜ AnswerIs (listingAt (conditionsOf (now (q .entry)) (asked .count) (asked .conditions)) (logOf (filesIn (now (src .entry)))) (v .0)) (now (t .entry)) (now (t .exit)) r ⌝ }
+    requires { ⌜ IsBundle (now src) × (4096 ≤ length (now t)) × Sounds (now q) (asked .count) (asked .conditions) ⌝ }
+    ensures { λ r. ⌜ AnswerIs
+        (listingAt (conditionsOf (now (q .entry)) (asked .count) (asked .conditions)) (logOf (filesIn (now (src .entry)))) (v .0))
+        (now (t .entry))
+        (now (t .exit))
+        r ⌝ }
 {
-    match history::state_at(src, v, t) {
-        Reached::At(st) => list_state(src, q, asked, v, st, t),
-        Reached::Refused(x) => refuse(t, x),
+    match log_history::state_at(src, v, t) {
+        Outcome::Done(st) => list_state(src, q, asked, v, st, t),
+        Outcome::Refused(x) => refuse(t, x),
     }
 }
 
 // What the well-formed bundle src answers at its latest version.
 fn list_latest(src: &[u8], q: &[u8], asked: Query, t: &mut [u64]) -> Read
-    requires { ⌜ (isSome (rBundle (now src)) ≡ true) × (4096 ≤ length (now t)) × Sounds (now q) (asked .count) (asked .conditions) ⌝ }
-    ensures { λ r. ⌜ AnswerIs (listingAt (conditionsOf (now (q .entry)) (asked .count) (asked .conditions)) (logOf (filesIn (now (src .entry)))) (rLatest (logOf (filesIn (now (src .entry)))))) (now (t .entry)) (now (t .exit)) r ⌝ }
+    requires { ⌜ IsBundle (now src) × (4096 ≤ length (now t)) × Sounds (now q) (asked .count) (asked .conditions) ⌝ }
+    ensures { λ r. ⌜ AnswerIs
+        (listingAt (conditionsOf (now (q .entry)) (asked .count) (asked .conditions)) (logOf (filesIn (now (src .entry))))
+        (rLatest (logOf (filesIn (now (src .entry))))))
+        (now (t .entry))
+        (now (t .exit))
+        r ⌝ }
 {
-    let newest = latest::state_at_latest(src, t);
+    let newest = log_history::state_at_latest(src, t);
     let version = newest.version;
     let reached = newest.reached;
     match reached {
-        Reached::At(st) => list_state(src, q, asked, version, st, t),
-        Reached::Refused(x) => refuse(t, x),
+        Outcome::Done(st) => list_state(src, q, asked, version, st, t),
+        Outcome::Refused(x) => refuse(t, x),
     }
 }
 
 // What the well-formed bundle src answers at the version that is asked for.
 fn list_asked(src: &[u8], q: &[u8], asked: Query, version: Asked, t: &mut [u64]) -> Read
-    requires { ⌜ (isSome (rBundle (now src)) ≡ true) × (4096 ≤ length (now t)) × Sounds (now q) (asked .count) (asked .conditions) ⌝ }
-    ensures { λ r. ⌜ AnswerIs (answering (conditionsOf (now (q .entry)) (asked .count) (asked .conditions)) (filesIn (now (src .entry))) (askedIs version)) (now (t .entry)) (now (t .exit)) r ⌝ }
+    requires { ⌜ IsBundle (now src) × (4096 ≤ length (now t)) × Sounds (now q) (asked .count) (asked .conditions) ⌝ }
+    ensures { λ r. ⌜ AnswerIs
+        (answering (conditionsOf (now (q .entry)) (asked .count) (asked .conditions)) (filesIn (now (src .entry))) (askedIs version))
+        (now (t .entry))
+        (now (t .exit))
+        r ⌝ }
 {
-    if bundle::any_too_large(src) {
+    if file_bundle::any_too_large(src) {
         return refuse(t, Refusal::VersionTooLarge);
     }
     match version {
@@ -158,11 +177,11 @@ fn read_asked(src: &[u8], q: &[u8], version: Asked, rows: &mut [u64]) -> Read
     if rows.len() < ROWS_ROOM {
         return Read::Refused(Refusal::RoomTooShort);
     }
-    let asked = query::read(q);
+    let asked = query_conditions::read(q);
     if !asked.good {
         return refuse(rows, Refusal::QueryMalformed);
     }
-    let Opened::Entries(_) = bundle::open(src) else {
+    let Opened::Entries(_) = file_bundle::open(src) else {
         return refuse(rows, Refusal::BundleMalformed);
     };
     list_asked(src, q, asked, version, rows)

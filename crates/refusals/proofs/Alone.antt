@@ -7,7 +7,9 @@ use Rattle.rules.specs.Refusals as Rules
 use Rattle.refusals.specs.Numbered.{numbered, said}
 use Rattle.refusals.specs.declared.Numbers.{Numbers}
 use Rattle.refusals.specs.declared.Refusal.{Refusal}
-use Rattle.refusals.specs.declared.Refusal.the-variants.{RoomTooShort, BundleMalformed, VersionTooLarge, NoVersionZero, NotKept, Malformed, TooManyLive, ReaderTooHigh, UnknownFeature, QueryMalformed, NoSuchColumn, NotWritable, CheckpointDisagrees, StateMalformed, TooManyManifests}
+use Rattle.refusals.specs.declared.Refusal.the-variants.{RoomTooShort, BundleMalformed, VersionTooLarge, NoVersionZero, NotKept}
+use Rattle.refusals.specs.declared.Refusal.the-variants.{Malformed, TooManyLive, ReaderTooHigh, UnknownFeature, QueryMalformed}
+use Rattle.refusals.specs.declared.Refusal.the-variants.{NoSuchColumn, NotWritable, CheckpointDisagrees, StateMalformed, TooManyManifests}
 
 -- the cases, in the order of their numbers from 1
 cases : Rules.Refusal → List Refusal

@@ -1,9 +1,12 @@
 -- The paper's number, entry and line for each case of a refusal.
 use Rattle.rules.specs.Refusals as Rules
-use Rattle.rules.specs.Refusals.{roomTooShort, bundleMalformed, versionTooLarge, noVersionZero, notKept, malformed, tooManyLive, readerTooHigh, unknownFeature, queryMalformed, noSuchColumn, notWritable, checkpointDisagrees, stateMalformed, tooManyManifests}
+use Rattle.rules.specs.Refusals.{roomTooShort, bundleMalformed, versionTooLarge, noVersionZero, notKept, malformed, tooManyLive, readerTooHigh}
+use Rattle.rules.specs.Refusals.{unknownFeature, queryMalformed, noSuchColumn, notWritable, checkpointDisagrees, stateMalformed, tooManyManifests}
 use Rattle.refusals.specs.declared.Numbers.{Numbers}
 use Rattle.refusals.specs.declared.Refusal.{Refusal}
-use Rattle.refusals.specs.declared.Refusal.the-variants.{RoomTooShort, BundleMalformed, VersionTooLarge, NoVersionZero, NotKept, Malformed, TooManyLive, ReaderTooHigh, UnknownFeature, QueryMalformed, NoSuchColumn, NotWritable, CheckpointDisagrees, StateMalformed, TooManyManifests}
+use Rattle.refusals.specs.declared.Refusal.the-variants.{RoomTooShort, BundleMalformed, VersionTooLarge, NoVersionZero, NotKept}
+use Rattle.refusals.specs.declared.Refusal.the-variants.{Malformed, TooManyLive, ReaderTooHigh, UnknownFeature, QueryMalformed}
+use Rattle.refusals.specs.declared.Refusal.the-variants.{NoSuchColumn, NotWritable, CheckpointDisagrees, StateMalformed, TooManyManifests}
 
 unfoldable pub numbered : Refusal → Rules.Refusal
 numbered RoomTooShort = roomTooShort

@@ -132,7 +132,8 @@ agreeFacts-true f g h =
 pub same-agreeFacts : {f g : Facts} → SameFacts f g → agreeFacts f g ≡ true
 unfolding agreeFacts
 same-agreeFacts {f} {g} s =
-    let e : agreeRecords (f .numRecords) (g .numRecords) ≡ true = subst (λ (n : Option ℕ). agreeRecords (f .numRecords) n ≡ true) (s .numRecords) (agreeRecords-refl (f .numRecords)) in
+    let e : agreeRecords (f .numRecords) (g .numRecords) ≡ true =
+    subst (λ (n : Option ℕ). agreeRecords (f .numRecords) n ≡ true) (s .numRecords) (agreeRecords-refl (f .numRecords)) in
     and-both (eq-same (s .path))
     (and-both (eq-eqb (f .size) (g .size) (s .size))
     (and-both (eq-eqb (f .modificationTime) (g .modificationTime) (s .modificationTime))

@@ -11,7 +11,8 @@ use Rattle.rules.proofs.Tests.{apart}
 -- ---- the same
 
 module _ {A B : Type 0} {Same : A → A → Type 0} {Same′ : B → B → Type 0} where
-  pub same-bind : {x y : Answer A} (f g : A → Answer B) → SameAnswer Same x y → ((a b : A) → Same a b → SameAnswer Same′ (f a) (g b)) → SameAnswer Same′ (x >>= f) (y >>= g)
+  pub same-bind : {x y : Answer A} (f g : A → Answer B) → SameAnswer Same x y → ((a b : A) → Same a b → SameAnswer Same′ (f a) (g b))
+      → SameAnswer Same′ (x >>= f) (y >>= g)
   same-bind f g (both-accepted {a} {b} h) k = k a b h
   same-bind f g (both-refused e) k = both-refused e
 
@@ -23,7 +24,8 @@ module _ {A B : Type 0} {Same : B → B → Type 0} where
   same-orRefuse r s e (some a) f g k = k a
 
 module _ {B : Type 0} {Same : B → B → Type 0} where
-  pub same-require : (r s : Refusal) → r .number ≡ s .number → (b : Bool) (x y : Answer B) → SameAnswer Same x y → SameAnswer Same (require r b >>= (λ _. x)) (require s b >>= (λ _. y))
+  pub same-require : (r s : Refusal) → r .number ≡ s .number → (b : Bool) (x y : Answer B) → SameAnswer Same x y
+      → SameAnswer Same (require r b >>= (λ _. x)) (require s b >>= (λ _. y))
   same-require r s e true x y h = h
   same-require r s e false x y h = both-refused e
 
@@ -44,7 +46,8 @@ unfolding numberOf
 refused-number e = ap numberOf e
 
 -- a whole that is refused was refused at its beginning, or behind it
-pub bind-refused : {A B : Type 0} (a : Answer A) (f : A → Answer B) {r : Refusal} → (a >>= f) ≡ refused r → (a ≡ refused r) ⊎ ((x : A) × (a ≡ accepted x) × (f x ≡ refused r))
+pub bind-refused : {A B : Type 0} (a : Answer A) (f : A → Answer B) {r : Refusal} → (a >>= f) ≡ refused r
+    → (a ≡ refused r) ⊎ ((x : A) × (a ≡ accepted x) × (f x ≡ refused r))
 bind-refused (accepted x) f e = inr (x, refl, e)
 bind-refused (refused s) f e = inl (cc)
 

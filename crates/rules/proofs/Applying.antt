@@ -71,7 +71,8 @@ module _ (limit : ℕ) (f : File) (st : State) where
       ap (λ (o : Answer State). o >>= (λ next. require (malformed (f .entry) 0) (anyObject (lines (f .body))) >>= (λ _. accepted next))) q
 
 -- the rules look at no name and no time
-pub readFile-same : (limit : ℕ) (f g : File) (st : State) → f .entry ≡ g .entry → f .start ≡ g .start → f .body ≡ g .body → readFile limit f st ≡ readFile limit g st
+pub readFile-same : (limit : ℕ) (f g : File) (st : State) → f .entry ≡ g .entry → f .start ≡ g .start → f .body ≡ g .body
+    → readFile limit f st ≡ readFile limit g st
 unfolding readFile
 readFile-same limit f g st e s b = rw (e, s, b)
 

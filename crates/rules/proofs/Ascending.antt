@@ -49,8 +49,12 @@ module _ {A : Type 0} (key : A → Bytes) where
 module _ {A B : Type 0} (key : A → Bytes) (key′ : B → Bytes) (f : A → B) (e : (x : A) → key x ≡ key′ (f x)) where
   pub ascends-map : (xs : List A) → Ascends key xs → Ascends key′ (map f xs)
   ascends-map [] s = tt
-  ascends-map (x ∷ xs) s = (All-map (Below key′ (f x)) f xs (All-weaken (Below key x) (λ (y : A). Below key′ (f x) (f y)) xs (λ y h. rw (e x, e y) at h) (s .0)), ascends-map xs (s .1))
+  ascends-map (x ∷ xs) s = (
+    All-map (Below key′ (f x)) f xs (All-weaken (Below key x) (λ (y : A). Below key′ (f x) (f y)) xs (λ y h. rw (e x, e y) at h) (s .0)),
+    ascends-map xs (s .1),
+  )
 
   pub map-ascends : (xs : List A) → Ascends key′ (map f xs) → Ascends key xs
   map-ascends [] s = tt
-  map-ascends (x ∷ xs) s = (All-weaken (λ (y : A). Below key′ (f x) (f y)) (Below key x) xs (λ y h. rw (e x, e y) h) (map-All (Below key′ (f x)) f xs (s .0)), map-ascends xs (s .1))
+  map-ascends (x ∷ xs) s =
+      (All-weaken (λ (y : A). Below key′ (f x) (f y)) (Below key x) xs (λ y h. rw (e x, e y) h) (map-All (Below key′ (f x)) f xs (s .0)), map-ascends xs (s .1))

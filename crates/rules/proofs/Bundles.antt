@@ -14,13 +14,15 @@ use Rattle.facts.specs.Lists.{All}
 use Rattle.facts.proofs.Lists.{All-weaken}
 use Rattle.rules.specs.Bytes.{_>>=_, Bytes, guard, among, isEmpty, Order, less, equal, more, order, isLess}
 use Rattle.rules.specs.Numbers.{little}
-use Rattle.rules.specs.Bundle.{Entry, File, mostBytes, mostEntries, entryBytes, field, entryOf, entries, unpadded, nameIn, ascending, filesFrom, filesOf, bundle}
+use Rattle.rules.specs.Bundle.{Entry, File, mostBytes, mostEntries, entryBytes, field, entryOf}
+use Rattle.rules.specs.Bundle.{entries, unpadded, nameIn, ascending, filesFrom, filesOf, bundle}
 use Rattle.rules.specs.Names.{Name, nameOf, versionIn, checkpointIn, is}
 use Rattle.rules.specs.Starts.{find}
 use Rattle.rules.specs.Keyed.{Ascends}
 use Rattle.rules.proofs.Tests.{apart}
 use Rattle.rules.proofs.Order.{order-trans, order-less-ne}
-use Rattle.rules.proofs.SoleNames.{bind-some, guard-some, OneName, one-version, one-checkpoint, unpadded-once, withZeros, unpadded-zeros}
+use Rattle.rules.proofs.SoleNames.{OneName, one-version, one-checkpoint, unpadded-once, withZeros, unpadded-zeros}
+use Rattle.rules.proofs.Choices.{bind-some, guard-some}
 
 -- ---- files beside their entries
 
@@ -39,7 +41,8 @@ length-entries (suc n) s = ap suc (length-entries n (drop entryBytes s))
 -- the name and the number of each file are its entry's
 data Told : ℕ → List Entry → List File → Type 0 where
   told-end : {k : ℕ} → Told k [] []
-  told : {k : ℕ} {e : Entry} {f : File} {es : List Entry} {fs : List File} → unpadded (e .padded) ≡ some (f .name) → f .entry ≡ k → Told (suc k) es fs → Told k (e ∷ es) (f ∷ fs)
+  told : {k : ℕ} {e : Entry} {f : File} {es : List Entry} {fs : List File} → unpadded (e .padded) ≡ some (f .name) → f .entry ≡ k → Told (suc k) es fs
+      → Told k (e ∷ es) (f ∷ fs)
 
 filesFrom-told : (k at : ℕ) (es : List Entry) (rest : Bytes) (fs : List File) → filesFrom k at es rest ≡ some fs → Told k es fs
 unfolding filesFrom nameIn
@@ -48,7 +51,8 @@ filesFrom-told k at [] rest fs e =
     let q : some [] ≡ some fs = r .2 in
     subst (Told k []) (cc) told-end
 filesFrom-told k at (e ∷ es) rest fs h =
-    let a = bind-some (nameIn (e .padded)) (λ name. guard (eqb (e .start) at) >>= (λ _. guard (leb (e .size) (length rest)) >>= (λ _. further >>= (λ gs. some (this name ∷ gs))))) h in
+    let a = bind-some (nameIn (e .padded))
+    (λ name. guard (eqb (e .start) at) >>= (λ _. guard (leb (e .size) (length rest)) >>= (λ _. further >>= (λ gs. some (this name ∷ gs))))) h in
     let u = bind-some (unpadded (e .padded)) (λ name. guard (leb 1 (length name)) >>= (λ _. some name)) (a .1) in
     let b = bind-some (guard (leb 1 (length (u .0)))) (λ _. some (u .0)) (u .2) in
     let c = bind-some (guard (eqb (e .start) at)) (λ _. guard (leb (e .size) (length rest)) >>= (λ _. further >>= (λ gs. some (this (a .0) ∷ gs)))) (a .2) in
@@ -95,7 +99,8 @@ ascending-cons : (a b : Entry) (es : List Entry) → ascending (a ∷ b ∷ es) 
 unfolding ascending
 ascending-cons a b es h = go (isLess (order (a .padded) (b .padded))) refl h
   where
-    go : (t : Bool) → isLess (order (a .padded) (b .padded)) ≡ t → elim t [ true ↦ ascending (b ∷ es) | false ↦ false ] ≡ true → After a b × (ascending (b ∷ es) ≡ true)
+    go : (t : Bool) → isLess (order (a .padded) (b .padded)) ≡ t → elim t [ true ↦ ascending (b ∷ es) | false ↦ false ] ≡ true
+        → After a b × (ascending (b ∷ es) ≡ true)
     go true e h = (isLess-less (a .padded) (b .padded) e, h)
     go false e h = apart (cc)
 
@@ -149,17 +154,24 @@ padded-is : (e : Entry) (f : File) → unpadded (e .padded) ≡ some (f .name) �
 unfolding paddedName
 padded-is e f u w = unpadded-zeros (e .padded) (f .name) u ∙ ap (λ (n : ℕ). withZeros n (f .name)) w
 
-told-after : (p : Bytes) {k : ℕ} {es : List Entry} {fs : List File} → All (λ (e : Entry). order p (e .padded) ≡ less) es → All (λ (e : Entry). length (e .padded) ≡ 96) es → Told k es fs
+told-after : (p : Bytes) {k : ℕ} {es : List Entry} {fs : List File} → All (λ (e : Entry). order p (e .padded) ≡ less) es
+    → All (λ (e : Entry). length (e .padded) ≡ 96) es → Told k es fs
     → All (λ (f : File). order p (paddedName f) ≡ less) fs
 unfolding All
 told-after p a w told-end = tt
 told-after p a w (told {e = e} {f = f} u n r) = (subst (λ (x : Bytes). order p x ≡ less) (padded-is e f u (w .0)) (a .0), told-after p (a .1) (w .1) r)
 
-told-ascends : {k : ℕ} {es : List Entry} {fs : List File} → ascending es ≡ true → All (λ (e : Entry). length (e .padded) ≡ 96) es → Told k es fs → Ascends paddedName fs
+told-ascends : {k : ℕ} {es : List Entry} {fs : List File} → ascending es ≡ true → All (λ (e : Entry). length (e .padded) ≡ 96) es → Told k es fs
+    → Ascends paddedName fs
 unfolding All
 told-ascends a w told-end = tt
-told-ascends a w (told {e = e} {f = f} {es = es} {fs = fs} u n r) =
-    (subst (λ (x : Bytes). All (λ (g : File). order x (paddedName g) ≡ less) fs) (padded-is e f u (w .0)) (told-after (e .padded) (ascending-after e es a) (w .1) r), told-ascends (ascending-tail e es a) (w .1) r)
+told-ascends a w (told {e = e} {f = f} {es = es} {fs = fs} u n r) = (
+  subst
+      (λ (x : Bytes). All (λ (g : File). order x (paddedName g) ≡ less) fs)
+      (padded-is e f u (w .0))
+      (told-after (e .padded) (ascending-after e es a) (w .1) r),
+  told-ascends (ascending-tail e es a) (w .1) r,
+)
 
 -- ---- the bundle
 
@@ -178,8 +190,11 @@ bundle-sound s fs h =
   where
     go : (n : ℕ) → filesOf n s ≡ some fs → Sound fs
     go n h =
-        let b = bind-some (guard (leb n mostEntries)) (λ _. guard (leb (4 + 112 * n) (length s)) >>= (λ _. guard (ascending (entries n (drop 4 s))) >>= (λ _. filesFrom 0 (4 + 112 * n) (entries n (drop 4 s)) (drop (4 + 112 * n) s)))) h in
-        let c = bind-some (guard (leb (4 + 112 * n) (length s))) (λ _. guard (ascending (entries n (drop 4 s))) >>= (λ _. filesFrom 0 (4 + 112 * n) (entries n (drop 4 s)) (drop (4 + 112 * n) s))) (b .2) in
+        let b = bind-some (guard (leb n mostEntries))
+        (λ _. guard (leb (4 + 112 * n) (length s))
+        >>= (λ _. guard (ascending (entries n (drop 4 s))) >>= (λ _. filesFrom 0 (4 + 112 * n) (entries n (drop 4 s)) (drop (4 + 112 * n) s)))) h in
+        let c = bind-some (guard (leb (4 + 112 * n) (length s)))
+        (λ _. guard (ascending (entries n (drop 4 s))) >>= (λ _. filesFrom 0 (4 + 112 * n) (entries n (drop 4 s)) (drop (4 + 112 * n) s))) (b .2) in
         let d = bind-some (guard (ascending (entries n (drop 4 s)))) (λ _. filesFrom 0 (4 + 112 * n) (entries n (drop 4 s)) (drop (4 + 112 * n) s)) (c .2) in
         let m : 4 + 112 * n ≤ length s = leb-true (4 + 112 * n) (length s) (guard-some (leb (4 + 112 * n) (length s)) (c .1)) in
         let k : n ≤ mostEntries = leb-true n mostEntries (guard-some (leb n mostEntries) (b .1)) in

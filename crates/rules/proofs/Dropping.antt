@@ -10,7 +10,8 @@ use Rattle.rules.specs.Query.{Number, number, outOfRange, notNumber, asT
 use Rattle.rules.specs.Picking.{meets, orderOfNumbers}
 use Rattle.rules.specs.Manifests.{noneMeets, outside, outsideNumbers, outsideAs}
 use Rattle.rules.proofs.Tests.{apart, by, not-of-true, not-of-false, true-not-false, or-left, or-right, or-cases}
-use Rattle.rules.proofs.TotalOrders.{TotalOrder, more-flipped, rising-lt, rising-le, rising-gt, rising-ge, compare-refl, not-above-itself, rising, order-total, numbers-total}
+use Rattle.rules.proofs.TotalOrders.{TotalOrder, more-flipped, rising-lt, rising-le, rising-gt, rising-ge}
+use Rattle.rules.proofs.TotalOrders.{compare-refl, not-above-itself, rising, order-total, numbers-total}
 
 -- the sentence
 pub record Excludes {A : Type 0} (compare : A → A → Order) (op : Op) (b lo hi : A) : Type 0 where
@@ -35,7 +36,8 @@ less-not-equal more h = refl
 
 module _ {A : Type 0} (compare : A → A → Order) (total : TotalOrder compare) (b lo hi : A) where
   -- for x between, by how min and max stand to the bound
-  between : (op : Op) (x : A) → isMore (compare lo x) ≡ false → isMore (compare x hi) ≡ false → noneMeets op (compare lo b) (compare hi b) ≡ true → meets op (compare x b) ≡ false
+  between : (op : Op) (x : A) → isMore (compare lo x) ≡ false → isMore (compare x hi) ≡ false → noneMeets op (compare lo b) (compare hi b) ≡ true
+      → meets op (compare x b) ≡ false
   unfolding noneMeets meets
   between eq x l h t = go (or-cases (isMore (compare lo b)) (isLess (compare hi b)) t)
     where
@@ -63,7 +65,8 @@ module _ {A : Type 0} (compare : A → A → Order) (total : TotalOrder compare)
   unfolding outside
   outside-true op h = go (isMore (compare lo hi)) refl h
     where
-      go : (t : Bool) → isMore (compare lo hi) ≡ t → elim t [ true ↦ false | false ↦ noneMeets op (compare lo b) (compare hi b) ] ≡ true → Excludes compare op b lo hi
+      go : (t : Bool) → isMore (compare lo hi) ≡ t → elim t [ true ↦ false | false ↦ noneMeets op (compare lo b) (compare hi b) ] ≡ true
+          → Excludes compare op b lo hi
       go true e h = apart (cc)
       go false e h = record { rises = e; none-meets = λ x l m. between op x l m h }
 
@@ -95,7 +98,15 @@ pub record ExcludesNumbers (op : Op) (b lo hi : Number) : Type 0 where
 pub outsideNumbers-true : (op : Op) (b lo hi : Number) → outsideNumbers op b lo hi ≡ true → ExcludesNumbers op b lo hi
 unfolding outsideNumbers
 outsideNumbers-true op (number b) (number lo) (number hi) h =
-    record { bound = b; min = lo; max = hi; bound-read = refl; min-read = refl; max-read = refl; excludes = outside-true orderOfNumbers numbers-total b lo hi op h }
+    record {
+      bound = b;
+      min = lo;
+      max = hi;
+      bound-read = refl;
+      min-read = refl;
+      max-read = refl;
+      excludes = outside-true orderOfNumbers numbers-total b lo hi op h;
+    }
 outsideNumbers-true op (number b) (number lo) outOfRange h = apart (cc)
 outsideNumbers-true op (number b) (number lo) notNumber h = apart (cc)
 outsideNumbers-true op (number b) outOfRange hi h = apart (cc)

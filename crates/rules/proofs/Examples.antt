@@ -22,4 +22,16 @@ tempting-hold = (refl, (refl, (refl, (refl, (refl, (refl, (refl, tt)))))))
 
 pub refusals-hold : Holds refusals
 unfolding rules
-refusals-hold = (refl, (refl, (refl, (refl, (refl, (refl, (refl, (refl, (refl, (refl, (refl, (refl, (refl, (refl, (refl, (refl, (refl, (refl, (refl, (refl, (refl, (refl, tt))))))))))))))))))))))
+refusals-hold = (
+  refl,
+  (
+    refl,
+    (
+      refl,
+      (
+        refl,
+        (refl, (refl, (refl, (refl, (refl, (refl, (refl, (refl, (refl, (refl, (refl, (refl, (refl, (refl, (refl, (refl, (refl, (refl, tt)))))))))))))))))),
+      ),
+    ),
+  ),
+)

@@ -119,7 +119,8 @@ distinct-snoc (y ∷ ys) x = go (distinct-snoc ys x) (holds y ys) (same y x) ref
     go ih false false p false q e = rw e ih
 
 -- two lists, one behind the other
-pub distinct-append : (xs ys : List Bytes) → distinct xs ≡ true → distinct ys ≡ true → ((x : Bytes) → holds x xs ≡ true → holds x ys ≡ false) → distinct (xs ++ ys) ≡ true
+pub distinct-append : (xs ys : List Bytes) → distinct xs ≡ true → distinct ys ≡ true → ((x : Bytes) → holds x xs ≡ true → holds x ys ≡ false)
+    → distinct (xs ++ ys) ≡ true
 distinct-append [] ys d e h = e
 distinct-append (x ∷ xs) ys d e h =
     distinct-cons x (xs ++ ys) (holds-append x xs ys ∙ or-fails (distinct-head x xs d) (h x (holds-head x x xs refl)))

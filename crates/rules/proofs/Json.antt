@@ -14,3 +14,6 @@ pub mod Places
 pub mod Extends
 pub mod Fields
 pub mod Lefts
+pub mod Extended
+pub mod Tails
+pub mod Plain

@@ -1,3 +1,4 @@
+-- The laws of the rules; proofs about code cite them, and so do the demands.
 pub mod Opened
 pub mod Edges
 pub mod Examples
@@ -27,3 +28,15 @@ pub mod Suffixes
 pub mod Adds
 pub mod MemberPlaces
 pub mod PathPlaces
+pub mod Readable
+pub mod Later
+pub mod Decimals
+pub mod Asking
+pub mod Climbing
+pub mod Ranges
+pub mod LittleFields
+pub mod Keys
+pub mod Firsts
+pub mod Choices
+pub mod Pairs
+pub mod Slashes

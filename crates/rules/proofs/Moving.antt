@@ -22,7 +22,7 @@ use Rattle.rules.specs.Reading.{Listing, listing}
 use Rattle.rules.specs.Same.{SameFacts, SameRows, no-rows, row, SameProtocol, SameState, SameListing, SameAnswer, both-accepted}
 use Rattle.rules.proofs.Tests.{tests-equal}
 use Rattle.rules.proofs.Holding.{allAmong-holds, holds-allAmong}
-use Rattle.rules.proofs.Sameness.{same-facts-refl, same-protocol-refl, same-state-refl, same-state-trans, same-answer-refl}
+use Rattle.rules.proofs.Sameness.{length-same-rows, same-facts-refl, same-protocol-refl, same-state-refl, same-state-trans, same-answer-refl}
 use Rattle.rules.proofs.Replaying.{Applied, readLine-accepted, Kept, follow-keeps}
 use Rattle.rules.proofs.Answers.{same-bind, same-orRefuse, same-require}
 
@@ -55,10 +55,6 @@ takeOut-same p (row {r = x} {s = y} {rs = xs} {ss = ys} b c) =
     subst (λ (o : Bool). SameRows (takeOut pathOf p (x ∷ xs)) (takeIf o y ys (λ _. takeOut pathOf p ys))) (ap (same p) (b .path))
     (takeIf-same (same p (x .facts .path)) x y (λ _. takeOut pathOf p xs) (λ _. takeOut pathOf p ys) b c (takeOut-same p c))
 
-pub same-rows-length : {xs ys : List Row} → SameRows xs ys → length xs ≡ length ys
-same-rows-length no-rows = refl
-same-rows-length (row b c) = ap suc (same-rows-length c)
-
 -- ---- states, with the table that they are states of
 
 pub record SameHeld (s t : State) : Type 0 where
@@ -78,7 +74,10 @@ pub effect-same : (at at′ n n′ : ℕ) (a : Action) (s t : State) → SameHel
 unfolding effect
 effect-same at at′ n n′ (add f) s t h = record {
   table = h .table;
-  state = record { inForce = h .state .inForce; live = put-same (record { at = at; size = n; facts = f }) (record { at = at′; size = n′; facts = f }) (same-facts-refl f) (h .state .live) };
+  state = record {
+    inForce = h .state .inForce;
+    live = put-same (record { at = at; size = n; facts = f }) (record { at = at′; size = n′; facts = f }) (same-facts-refl f) (h .state .live);
+  };
 }
 effect-same at at′ n n′ (remove p) s t h = record { table = h .table; state = record { inForce = h .state .inForce; live = takeOut-same p (h .state .live) } }
 effect-same at at′ n n′ (protocol p) s t h = record { table = h .table; state = record { inForce = same-protocol-refl p; live = h .state .live } }
@@ -90,17 +89,27 @@ module _ (limit : ℕ) where
   withinLimit-same : (e e′ k : ℕ) (s t : State) → SameHeld s t → SameAnswer SameHeld (withinLimit limit e k s) (withinLimit limit e′ k t)
   unfolding withinLimit
   withinLimit-same e e′ k s t h =
-      subst (λ (n : ℕ). SameAnswer SameHeld (withinLimit limit e k s) (require (tooManyLive e′ k) (leb n limit) >>= (λ _. accepted t))) (same-rows-length (h .state .live))
+      subst
+      (λ (n : ℕ). SameAnswer SameHeld (withinLimit limit e k s) (require (tooManyLive e′ k) (leb n limit) >>= (λ _. accepted t)))
+      (length-same-rows (h .state .live))
       (same-require (tooManyLive e k) (tooManyLive e′ k) refl (leb (length (s .live)) limit) (accepted s) (accepted t) (both-accepted h))
 
   readLine-same : (e e′ k at at′ : ℕ) (l : Bytes) (s t : State) → SameHeld s t → SameAnswer SameHeld (readLine limit e k at l s) (readLine limit e′ k at′ l t)
   unfolding readLine
   readLine-same e e′ k at at′ [] s t h = both-accepted h
   readLine-same e e′ k at at′ (b ∷ bs) s t h =
-      same-orRefuse (malformed e k) (malformed e′ k) refl (action (b ∷ bs)) (λ a. withinLimit limit e k (effect at (length (b ∷ bs)) a s)) (λ a. withinLimit limit e′ k (effect at′ (length (b ∷ bs)) a t))
-      (λ a. withinLimit-same e e′ k (effect at (length (b ∷ bs)) a s) (effect at′ (length (b ∷ bs)) a t) (effect-same at at′ (length (b ∷ bs)) (length (b ∷ bs)) a s t h))
+      same-orRefuse
+      (malformed e k)
+      (malformed e′ k)
+      refl
+      (action (b ∷ bs))
+      (λ a. withinLimit limit e k (effect at (length (b ∷ bs)) a s))
+      (λ a. withinLimit limit e′ k (effect at′ (length (b ∷ bs)) a t))
+      (λ a. withinLimit-same e e′ k (effect at (length (b ∷ bs)) a s) (effect at′ (length (b ∷ bs)) a t)
+      (effect-same at at′ (length (b ∷ bs)) (length (b ∷ bs)) a s t h))
 
-  readLines-same : (e e′ k at at′ : ℕ) (ls : List Bytes) (s t : State) → SameHeld s t → SameAnswer SameHeld (readLines limit e k at ls s) (readLines limit e′ k at′ ls t)
+  readLines-same : (e e′ k at at′ : ℕ) (ls : List Bytes) (s t : State) → SameHeld s t
+      → SameAnswer SameHeld (readLines limit e k at ls s) (readLines limit e′ k at′ ls t)
   unfolding readLines
   readLines-same e e′ k at at′ [] s t h = both-accepted h
   readLines-same e e′ k at at′ (l ∷ ls) s t h =
@@ -114,7 +123,9 @@ module _ (limit : ℕ) where
   readBody-same : (e e′ at at′ : ℕ) (body : Bytes) (s t : State) → SameHeld s t → SameAnswer SameHeld (readBody e at body s) (readBody e′ at′ body t)
   unfolding readBody
   readBody-same e e′ at at′ body s t h =
-      same-bind (λ next. require (malformed e 0) (anyObject (lines body)) >>= (λ _. accepted next)) (λ next. require (malformed e′ 0) (anyObject (lines body)) >>= (λ _. accepted next))
+      same-bind
+      (λ next. require (malformed e 0) (anyObject (lines body)) >>= (λ _. accepted next))
+      (λ next. require (malformed e′ 0) (anyObject (lines body)) >>= (λ _. accepted next))
       (readLines-same e e′ 1 at at′ (lines body) s t h)
       (λ a b r. same-require (malformed e 0) (malformed e′ 0) refl (anyObject (lines body)) (accepted a) (accepted b) (both-accepted r))
 
@@ -131,8 +142,15 @@ unfolding zeroLines
 zeroLines-same e e′ k [] s = both-accepted refl
 zeroLines-same e e′ k ([] ∷ ls) s = zeroLines-same e e′ (suc k) ls s
 zeroLines-same e e′ k ((b ∷ bs) ∷ ls) s =
-    same-orRefuse (malformed e k) (malformed e′ k) refl (action (b ∷ bs)) (λ a. orRefuse (malformed e k) (say a s) >>= (λ next. zeroLines e (suc k) ls next)) (λ a. orRefuse (malformed e′ k) (say a s) >>= (λ next. zeroLines e′ (suc k) ls next))
-    (λ a. same-orRefuse (malformed e k) (malformed e′ k) refl (say a s) (λ next. zeroLines e (suc k) ls next) (λ next. zeroLines e′ (suc k) ls next) (λ next. zeroLines-same e e′ (suc k) ls next))
+    same-orRefuse
+    (malformed e k)
+    (malformed e′ k)
+    refl
+    (action (b ∷ bs))
+    (λ a. orRefuse (malformed e k) (say a s) >>= (λ next. zeroLines e (suc k) ls next))
+    (λ a. orRefuse (malformed e′ k) (say a s) >>= (λ next. zeroLines e′ (suc k) ls next))
+    (λ a. same-orRefuse (malformed e k) (malformed e′ k) refl (say a s) (λ next. zeroLines e (suc k) ls next) (λ next. zeroLines e′ (suc k) ls next)
+    (λ next. zeroLines-same e e′ (suc k) ls next))
 
 stateOf : Said → MetaData → State
 stateOf s m = record { table = m; inForce = orUnstated (s .ofProtocol); live = [] }
@@ -144,10 +162,14 @@ zeroBody e body = zeroLines e 1 (lines body) saidNothing >>= (λ s. orRefuse (ma
 zeroBody-same : (e e′ : ℕ) (body : Bytes) → SameAnswer SameHeld (zeroBody e body) (zeroBody e′ body)
 unfolding zeroBody
 zeroBody-same e e′ body =
-    same-bind (λ s. orRefuse (malformed e 0) (s .ofTable) >>= (λ m. accepted (stateOf s m))) (λ s. orRefuse (malformed e′ 0) (s .ofTable) >>= (λ m. accepted (stateOf s m)))
+    same-bind
+    (λ s. orRefuse (malformed e 0) (s .ofTable) >>= (λ m. accepted (stateOf s m)))
+    (λ s. orRefuse (malformed e′ 0) (s .ofTable) >>= (λ m. accepted (stateOf s m)))
     (zeroLines-same e e′ 1 (lines body) saidNothing)
-    (λ s t q. subst (λ (x : Said). SameAnswer SameHeld (orRefuse (malformed e 0) (s .ofTable) >>= (λ m. accepted (stateOf s m))) (orRefuse (malformed e′ 0) (x .ofTable) >>= (λ m. accepted (stateOf x m)))) q
-    (same-orRefuse (malformed e 0) (malformed e′ 0) refl (s .ofTable) (λ m. accepted (stateOf s m)) (λ m. accepted (stateOf s m)) (λ m. both-accepted (same-held-refl (stateOf s m)))))
+    (λ s t q. subst (λ (x : Said). SameAnswer SameHeld (orRefuse (malformed e 0) (s .ofTable) >>= (λ m. accepted (stateOf s m)))
+    (orRefuse (malformed e′ 0) (x .ofTable) >>= (λ m. accepted (stateOf x m)))) q
+    (same-orRefuse (malformed e 0) (malformed e′ 0) refl (s .ofTable) (λ m. accepted (stateOf s m)) (λ m. accepted (stateOf s m))
+    (λ m. both-accepted (same-held-refl (stateOf s m)))))
 
 pub readZero-same : (f g : File) → f .body ≡ g .body → SameAnswer SameHeld (readZero f) (readZero g)
 unfolding zeroBody stateOf readZero
@@ -170,7 +192,10 @@ gate-same {p} {q} h =
 pub writable-same : {p q : Protocol} → SameProtocol p q → writable p ≡ writable q
 unfolding writable
 writable-same {p} {q} h =
-    ap₂ (λ (r : ℕ) (b : Bool). leb r knownWriter && b) (h .minWriterVersion) (allAmong-same writerNames (p .writerFeatures) (q .writerFeatures) (h .writerFeatures))
+    ap₂
+    (λ (r : ℕ) (b : Bool). leb r knownWriter && b)
+    (h .minWriterVersion)
+    (allAmong-same writerNames (p .writerFeatures) (q .writerFeatures) (h .writerFeatures))
 
 meetsAll-same : (cs : List Condition) (f g : Facts) → SameFacts f g → meetsAll cs f ≡ meetsAll cs g
 unfolding meetsAll
@@ -194,9 +219,13 @@ pub listing-same : (cs : List Condition) (v : ℕ) (s t : State) → SameHeld s 
 unfolding listing
 listing-same cs v s t h =
     same-bind (λ _. require noSuchColumn (known s) >>= (λ _. accepted (listed s))) (λ _. require noSuchColumn (known t) >>= (λ _. accepted (listed t)))
-    (subst (λ (a : Answer (Unit {0})). SameAnswer (_≡_ {A = Unit {0}}) (gate (s .inForce)) a) (gate-same (h .state .inForce)) (same-answer-refl (λ a. refl) (gate (s .inForce))))
+    (subst (λ (a : Answer (Unit {0})). SameAnswer (_≡_ {A = Unit {0}}) (gate (s .inForce)) a) (gate-same (h .state .inForce))
+    (same-answer-refl (λ a. refl) (gate (s .inForce))))
     (λ _ _ _.
-    subst (λ (b : Bool). SameAnswer SameListing (require noSuchColumn (known s) >>= (λ _. accepted (listed s))) (require noSuchColumn b >>= (λ _. accepted (listed t)))) (ap (λ (m : MetaData). allAmong (m .partitionColumns) (map columnOf cs)) (h .table))
+    subst
+    (λ (b : Bool). SameAnswer SameListing (require noSuchColumn (known s) >>= (λ _. accepted (listed s)))
+    (require noSuchColumn b >>= (λ _. accepted (listed t))))
+    (ap (λ (m : MetaData). allAmong (m .partitionColumns) (map columnOf cs)) (h .table))
     (same-require noSuchColumn noSuchColumn refl (known s) (accepted (listed s)) (accepted (listed t)) (both-accepted same-listed)))
   where
     known : State → Bool

@@ -29,7 +29,8 @@ use Rattle.rules.specs.Edges
 use Rattle.rules.specs.Examples
 
 unfoldable pub inBytes : Unit {0}
-unfolding Bytes.ascii Bytes.first Bytes.among Bytes.isEmpty Bytes.keepIf Bytes.same Bytes.begins Bytes.order Bytes.isLess Bytes.isEqual Bytes.isMore Bytes.holds Bytes.distinct Bytes.allAmong Bytes.firsts
+unfolding Bytes.ascii Bytes.isSome Bytes.first Bytes.among Bytes.isEmpty Bytes.keepIf Bytes.same Bytes.begins Bytes.order Bytes.isLess Bytes.isEqual
+    Bytes.isMore Bytes.holds Bytes.distinct Bytes.allAmong Bytes.firsts
 inBytes = tt
 
 unfoldable pub inNumbers : Unit {0}
@@ -37,7 +38,8 @@ unfolding Numbers.most Numbers.isDigit Numbers.decimalFrom Numbers.decimal Numbe
 inNumbers = tt
 
 unfoldable pub inBundle : Unit {0}
-unfolding Bundle.mostBytes Bundle.mostEntries Bundle.entryBytes Bundle.field Bundle.entryOf Bundle.entries Bundle.zeros Bundle.unpadded Bundle.nameIn Bundle.ascending Bundle.filesFrom Bundle.filesOf Bundle.bundle
+unfolding Bundle.mostBytes Bundle.mostEntries Bundle.entryBytes Bundle.field Bundle.entryOf Bundle.entries Bundle.zeros Bundle.unpadded Bundle.nameIn
+    Bundle.ascending Bundle.filesFrom Bundle.filesOf Bundle.bundle
 inBundle = tt
 
 unfoldable pub inNames : Unit {0}
@@ -49,19 +51,26 @@ unfolding JsonText.spelled JsonText.isWs JsonText.ws JsonText.byte JsonText.byte
 inJsonText = tt
 
 unfoldable pub inJsonNumbers : Unit {0}
-unfolding JsonNumbers.digits JsonNumbers.digits1 JsonNumbers.minus JsonNumbers.int JsonNumbers.frac JsonNumbers.sign JsonNumbers.exp JsonNumbers.number JsonNumbers.whole
+unfolding JsonNumbers.digits JsonNumbers.digits1 JsonNumbers.minus JsonNumbers.int JsonNumbers.frac JsonNumbers.sign JsonNumbers.exp JsonNumbers.number
+    JsonNumbers.whole
 inJsonNumbers = tt
 
 unfoldable pub inJsonStrings : Unit {0}
-unfolding JsonStrings.tails JsonStrings.leads JsonStrings.isPlain JsonStrings.multibyte JsonStrings.unescaped JsonStrings.hexDigit JsonStrings.hexDigits JsonStrings.codeUnit JsonStrings.surrogate JsonStrings.paired JsonStrings.codePoint JsonStrings.utf8 JsonStrings.shortEscape JsonStrings.escaped JsonStrings.char JsonStrings.chars JsonStrings.string
+unfolding JsonStrings.tails JsonStrings.leads JsonStrings.isPlain JsonStrings.multibyte JsonStrings.unescaped JsonStrings.hexDigit JsonStrings.hexDigits
+    JsonStrings.codeUnit JsonStrings.surrogate JsonStrings.paired JsonStrings.codePoint JsonStrings.utf8 JsonStrings.shortEscape JsonStrings.escaped
+    JsonStrings.char JsonStrings.chars JsonStrings.string
 inJsonStrings = tt
 
 unfoldable pub inJsonValues : Unit {0}
-unfolding JsonValues.openedBy JsonValues.opening JsonValues.closedBy JsonValues.closing JsonValues.andThen JsonValues.afterItem JsonValues.items JsonValues.itemsBehind JsonValues.list JsonValues.colon JsonValues.member JsonValues.contents JsonValues.elements JsonValues.scalar JsonValues.valueBy JsonValues.value JsonValues.alone JsonValues.objectOf JsonValues.arrayOf
+unfolding JsonValues.openedBy JsonValues.opening JsonValues.closedBy JsonValues.closing JsonValues.andThen JsonValues.afterItem JsonValues.items
+    JsonValues.itemsBehind JsonValues.list JsonValues.colon JsonValues.member JsonValues.contents JsonValues.elements JsonValues.scalar JsonValues.valueBy
+    JsonValues.value JsonValues.alone JsonValues.objectOf JsonValues.arrayOf
 inJsonValues = tt
 
 unfoldable pub inJsonFields : Unit {0}
-unfolding JsonFields.under JsonFields.sole JsonFields.once JsonFields.isNull JsonFields.soleOrNone JsonFields.optional JsonFields.absent JsonFields.stringOf JsonFields.unquoted JsonFields.stringOrNull JsonFields.boolOf JsonFields.ifThere JsonFields.strings JsonFields.stringsOf JsonFields.stringAt JsonFields.wholeAt
+unfolding JsonFields.under JsonFields.sole JsonFields.once JsonFields.isNull JsonFields.soleOrNone JsonFields.optional JsonFields.absent JsonFields.stringOf
+    JsonFields.unquoted JsonFields.stringOrNull JsonFields.boolOf JsonFields.ifThere JsonFields.strings JsonFields.stringsOf JsonFields.stringAt
+    JsonFields.wholeAt
 inJsonFields = tt
 
 unfoldable pub inLines : Unit {0}
@@ -69,7 +78,10 @@ unfolding Lines.onto Lines.lines Lines.anyObject
 inLines = tt
 
 unfoldable pub inActions : Unit {0}
-unfolding Actions.inLine Actions.inAction Actions.inField Actions.pathAt Actions.pairs Actions.partitionValuesAt Actions.addOf Actions.unstated Actions.protocolNumberAt Actions.orEmpty Actions.featuresAt Actions.protocolOf Actions.mostColumns Actions.metaDataOf Actions.keyOf Actions.actionBy Actions.onlyOne Actions.lineMember Actions.action Actions.isLine Actions.orNothing Actions.pathWritten Actions.pathIn Actions.pathShown Actions.recordsOf Actions.recordsIn Actions.recordsShown
+unfolding Actions.inLine Actions.inAction Actions.inField Actions.pathAt Actions.pairs Actions.partitionValuesAt Actions.addOf Actions.unstated
+    Actions.protocolNumberAt Actions.orEmpty Actions.featuresAt Actions.protocolOf Actions.mostColumns Actions.idAt Actions.metaDataOf Actions.keyOf
+    Actions.actionBy Actions.onlyOne Actions.lineMember Actions.action Actions.isLine Actions.orNothing Actions.pathWritten Actions.pathIn Actions.pathShown
+    Actions.recordsOf Actions.recordsIn Actions.recordsShown
 inActions = tt
 
 unfoldable pub inPathPlaces : Unit {0}
@@ -81,11 +93,13 @@ unfolding Live.mostLive Live.pathOf Live.putBeside Live.takeIf Live.put Live.tak
 inLive = tt
 
 unfoldable pub inHistory : Unit {0}
-unfolding History.effect History.withinLimit History.readLine History.readLines History.readFile History.saidNothing History.sayTable History.sayProtocol History.say History.zeroLines History.orUnstated History.readZero
+unfolding History.effect History.withinLimit History.readLine History.readLines History.readFile History.saidNothing History.sayTable History.sayProtocol
+    History.say History.zeroLines History.orUnstated History.readZero
 inHistory = tt
 
 unfoldable pub inStarts : Unit {0}
-unfolding Starts.find Starts.logOf Starts.everyLine Starts.wellFormed Starts.ifWellFormed Starts.startAt Starts.onwardBy Starts.byFile Starts.byStart Starts.wayTo Starts.otherWayTo Starts.historyTo Starts.nothingLive Starts.follow
+unfolding Starts.find Starts.logOf Starts.everyLine Starts.wellFormed Starts.ifWellFormed Starts.startAt Starts.onwardBy Starts.byFile Starts.byStart
+    Starts.wayTo Starts.otherWayTo Starts.historyTo Starts.nothingLive Starts.follow
 inStarts = tt
 
 unfoldable pub inMarker : Unit {0}
@@ -97,7 +111,8 @@ unfolding Gate.knownReader Gate.knownWriter Gate.readerNames Gate.writerNames Ga
 inGate = tt
 
 unfoldable pub inQuery : Unit {0}
-unfolding Query.mostDigits Query.inRange Query.positive Query.negative Query.digitsIn Query.numberOf Query.isNumber Query.asOf Query.opOf Query.fits Query.stands Query.conditionIn Query.conditionsIn Query.columnOf Query.mostQuery Query.mostConditions Query.query
+unfolding Query.mostDigits Query.inRange Query.positive Query.negative Query.digitsIn Query.numberOf Query.isNumber Query.asOf Query.opOf Query.fits
+    Query.stands Query.conditionIn Query.conditionsIn Query.columnOf Query.mostQuery Query.mostConditions Query.query
 inQuery = tt
 
 unfoldable pub inPicking : Unit {0}
@@ -105,7 +120,9 @@ unfolding Picking.meets Picking.orderOfNumbers Picking.meetsNumber Picking.meets
 inPicking = tt
 
 unfoldable pub inManifests : Unit {0}
-unfolding Manifests.boundsOf Manifests.columnsIn Manifests.columnsOf Manifests.orNoBounds Manifests.manifestOf Manifests.manifestsIn Manifests.manifests Manifests.mostManifests Manifests.noneMeets Manifests.outside Manifests.outsideNumbers Manifests.outsideAs Manifests.bothThere Manifests.drops Manifests.dropped Manifests.keptFrom Manifests.slash Manifests.hasSlash Manifests.beforeLastSlash Manifests.standsAsIs Manifests.directory
+unfolding Manifests.boundsOf Manifests.columnsIn Manifests.columnsOf Manifests.orNoBounds Manifests.manifestOf Manifests.manifestsIn Manifests.manifests
+    Manifests.mostManifests Manifests.noneMeets Manifests.outside Manifests.outsideNumbers Manifests.outsideAs Manifests.bothThere Manifests.drops
+    Manifests.dropped Manifests.keptFrom Manifests.slash Manifests.hasSlash Manifests.beforeLastSlash Manifests.standsAsIs Manifests.directory
 inManifests = tt
 
 unfoldable pub inRooms : Unit {0}
@@ -113,7 +130,8 @@ unfolding Rooms.rowsRoom Rooms.keptRoom Rooms.namesRoom Rooms.filled Rooms.leave
 inRooms = tt
 
 unfoldable pub inReading : Unit {0}
-unfolding Reading.versionAsked Reading.stateBy Reading.listing Reading.listingBy Reading.listingAt Reading.historyListing Reading.reading Reading.roomAfterReading
+unfolding Reading.versionAsked Reading.stateBy Reading.listing Reading.listingBy Reading.listingAt Reading.historyListing Reading.reading
+    Reading.roomAfterReading
 inReading = tt
 
 unfoldable pub inKeeping : Unit {0}
@@ -121,15 +139,18 @@ unfolding Keeping.keeping Keeping.roomAfterKeeping
 inKeeping = tt
 
 unfoldable pub inAgreement : Unit {0}
-unfolding Agreement.agreeValue Agreement.agreeFound Agreement.agreeOn Agreement.agreePairs Agreement.agreeRecords Agreement.agreeFacts Agreement.agreeRows Agreement.agreeSets Agreement.agreeProtocols Agreement.agree
+unfolding Agreement.agreeValue Agreement.agreeFound Agreement.agreeOn Agreement.agreePairs Agreement.agreeRecords Agreement.agreeFacts Agreement.agreeRows
+    Agreement.agreeSets Agreement.agreeProtocols Agreement.agree
 inAgreement = tt
 
 unfoldable pub inCleaning : Unit {0}
-unfolding Cleaning.isBetween Cleaning.isOld Cleaning.mayGo Cleaning.named Cleaning.compared Cleaning.cleanedBy Cleaning.cleanedAt Cleaning.enough Cleaning.cleaning Cleaning.namesAfterCleaning Cleaning.tableAfterCleaning
+unfolding Cleaning.isBetween Cleaning.isOld Cleaning.mayGo Cleaning.named Cleaning.compared Cleaning.cleanedBy Cleaning.cleanedAt Cleaning.enough
+    Cleaning.cleaning Cleaning.namesAfterCleaning Cleaning.tableAfterCleaning
 inCleaning = tt
 
 unfoldable pub inProgram : Unit {0}
-unfolding Program.mostInput Program.listed Program.yesNo Program.orDash Program.lineOf Program.header Program.rowLine Program.rowLines Program.refusalLine Program.printedBy Program.printed
+unfolding Program.mostInput Program.listed Program.yesNo Program.orDash Program.lineOf Program.header Program.rowLine Program.rowLines Program.refusalLine
+    Program.printedBy Program.printed
 inProgram = tt
 
 unfoldable pub inSamples : Unit {0}
@@ -137,7 +158,8 @@ unfolding Samples.quotes Samples.json Samples.bodyOf Samples.file Samples.little
 inSamples = tt
 
 unfoldable pub inEdges : Unit {0}
-unfolding Edges.saysState Edges.saysListing Edges.saysNumbers Edges.noTable Edges.rule Edges.addOf Edges.removeOf Edges.v0 Edges.v1 Edges.v3 Edges.c2 Edges.m2 Edges.edges
+unfolding Edges.saysState Edges.saysListing Edges.saysNumbers Edges.noTable Edges.rule Edges.addOf Edges.removeOf Edges.v0 Edges.v1 Edges.v3 Edges.c2
+    Edges.m2 Edges.edges
 inEdges = tt
 
 unfoldable pub inNamesAndNumbers : Unit {0}
@@ -145,7 +167,8 @@ unfolding Edges.beside Edges.comparing
 inNamesAndNumbers = tt
 
 unfoldable pub inExamples : Unit {0}
-unfolding Examples.sized Examples.school Examples.listings Examples.protocolled Examples.reader Examples.cleanable Examples.agreeing Examples.sides Examples.pupil Examples.pupils Examples.tempting Examples.manifestList Examples.countFrom Examples.stateOf Examples.refusals
+unfolding Examples.sized Examples.school Examples.listings Examples.protocolled Examples.reader Examples.cleanable Examples.agreeing Examples.sides
+    Examples.pupil Examples.pupils Examples.tempting Examples.manifestList Examples.countFrom Examples.stateOf Examples.refusals
 inExamples = tt
 
 unfoldable pub inTexts : Unit {0}

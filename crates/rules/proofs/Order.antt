@@ -7,12 +7,12 @@ use mathlib.Core.List.{[], _∷_, _++_}
 use Prim.Native.Nat.{ℕ, suc, _+_, _≤_, _<_}
 use native.Mathlib.Numerals.{add-one}
 use native.Mathlib.Omega.{arith}
-use lib.Dec.{eqb, ltb, leb}
+use lib.Dec.{eqb, ltb}
 use lib.ListN.{length, take, drop, getD, drop-of-length-le}
 use lib.Seq.{drop-cons}
-use borrow.Author.Tests.{ltb-true, ltb-false, leb-true, lt-ltb, le-ltb, le-leb, eqb-true, eq-eqb, ne-eqb}
-use Rattle.rules.specs.Bytes.{Bytes, same, begins, among, Order, less, equal, more, order, isEqual}
-use Rattle.rules.proofs.Tests.{apart, by, true-not-false, false-of, and-left, and-right, and-both}
+use borrow.Author.Tests.{ltb-true, ltb-false, lt-ltb, le-ltb, eqb-true, eq-eqb, ne-eqb}
+use Rattle.rules.specs.Bytes.{Bytes, same, begins, Order, less, equal, more, order, isEqual}
+use Rattle.rules.proofs.Tests.{apart, by, true-not-false, false-of}
 
 -- ---- numbers
 
@@ -26,14 +26,6 @@ trichotomy x y = go (ltb x y) refl (ltb y x) refl
         let a : y ≤ x = ltb-false x y e in
         let b : x ≤ y = ltb-false y x f in
         inr (inr (omega arith))
-
-pub among-true : (lo hi n : ℕ) → among lo hi n ≡ true → (lo ≤ n) × (n ≤ hi)
-unfolding among
-among-true lo hi n e = (leb-true lo n (and-left (leb lo n) (leb n hi) e), leb-true n hi (and-right (leb lo n) (leb n hi) e))
-
-pub le-among : (lo hi n : ℕ) → lo ≤ n → n ≤ hi → among lo hi n ≡ true
-unfolding among
-le-among lo hi n l h = and-both (le-leb lo n l) (le-leb n hi h)
 
 -- ---- same
 

@@ -13,7 +13,8 @@ use Rattle.rules.specs.Query.{Condition, query}
 use Rattle.rules.specs.Rooms.{rowsRoom}
 use Rattle.rules.specs.Reading.{Asked, versionAsked, listingAt, reading}
 
-pub reading-is : (room : ℕ) (s q : Bytes) (asked : Asked) (cs : List Condition) (fs : List File) → rowsRoom ≤ room → query q ≡ some cs → bundle s ≡ some fs → anyTooLarge fs ≡ false
+pub reading-is : (room : ℕ) (s q : Bytes) (asked : Asked) (cs : List Condition) (fs : List File) → rowsRoom ≤ room → query q ≡ some cs → bundle s ≡ some fs
+    → anyTooLarge fs ≡ false
     → reading room s q asked ≡ listingAt cs (logOf fs) (versionAsked asked (logOf fs))
 unfolding reading
 reading-is room s q asked cs fs r eq es small = rw (le-leb rowsRoom room r, eq, es, small)

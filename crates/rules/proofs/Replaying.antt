@@ -50,7 +50,8 @@ pub withinLimit-accepted : (limit e k : ℕ) (st : State) {to : State} → withi
 unfolding withinLimit
 withinLimit-accepted limit e k st {to} h = go (bind-accepted (require (tooManyLive e k) (leb (length (st .live)) limit)) (λ u. accepted st) h)
   where
-    go : (u : Unit {0}) × (require (tooManyLive e k) (leb (length (st .live)) limit) ≡ accepted u) × (accepted st ≡ accepted to) → (st ≡ to) × (length (st .live) ≤ limit)
+    go : (u : Unit {0}) × (require (tooManyLive e k) (leb (length (st .live)) limit) ≡ accepted u) × (accepted st ≡ accepted to)
+        → (st ≡ to) × (length (st .live) ≤ limit)
     go r =
         let q : require (tooManyLive e k) (leb (length (st .live)) limit) ≡ accepted (r .0) = r .1 in
         let p : accepted st ≡ accepted to = r .2 in
@@ -82,7 +83,8 @@ readLine-accepted limit e k at (b ∷ bs) st to h = go (action (b ∷ bs)) refl 
 
 pub readLines-part : (limit n k : ℕ) (s : Bytes) (a e b : ℕ) (st : State) → a < b → b ≤ length s → a ≤ e → e ≤ b
     → ((j : ℕ) → a ≤ j → j < e → getD s j 0 ≡ 0x0A → ⊥) → (e < b → getD s e 0 ≡ 0x0A)
-    → readLines limit n k a (lines (part s a b)) st ≡ (readLine limit n k a (part s a e) st >>= (λ next. readLines limit n (suc k) (e + 1) (lines (part s (e + 1) b)) next))
+    → readLines limit n k a (lines (part s a b)) st
+    ≡ (readLine limit n k a (part s a e) st >>= (λ next. readLines limit n (suc k) (e + 1) (lines (part s (e + 1) b)) next))
 unfolding readLines
 readLines-part limit n k s a e b st ab bs ae eb before feed =
     let p : a + length (part s a e) + 1 ≡ e + 1 = omega (arith, length-part s a e (omega arith)) in

@@ -35,7 +35,15 @@ unfolding filled
 zeroed-filled a n xs t room c h l e f = rw c (zeroed-whole a n t h l xs room e f)
 
 -- the same where the numbers are k rows of any layout
-pub zeroed-rows-filled : {A : Type 0} {w : ℕ} {cells : A → List ℕ} {row : List ℕ → A} (L : Layout w cells row) (k n : ℕ) (rs : List A) (t : List ℕ) (room : Room)
+pub zeroed-rows-filled : {A : Type 0}
+    {w : ℕ}
+    {cells : A → List ℕ}
+    {row : List ℕ → A}
+    (L : Layout w cells row)
+    (k n : ℕ)
+    (rs : List A)
+    (t : List ℕ)
+    (room : Room)
     → k * w ≤ n → n ≤ length t → rowsOf w row k t ≡ rs → drop n t ≡ drop n room → zeroed (k * w) n t ≡ filled n (flat cells rs) room
 unfolding filled
 zeroed-rows-filled L k n rs t room h l e f = zeroed-flat L k n rs t room h l e f

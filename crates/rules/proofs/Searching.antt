@@ -63,7 +63,8 @@ module _ {A : Type 0} (key : A → Bytes) where
   put-new r (x ∷ xs) zero d l lo hi = put-below key r x xs (more-less (key x) (key r) (hi zero zero-le (suc-le-suc zero-le)))
   put-new r (x ∷ xs) (suc m) d l lo hi =
       put-past key r x xs (less-more (key x) (key r) (lo zero (suc-le-suc zero-le)))
-      ∙ ap (λ (t : List A). x ∷ t) (put-new r xs m d (le-of-suc-le-suc l) (λ j h. lo (suc j) (suc-le-suc h)) (λ j h g. hi (suc j) (suc-le-suc h) (suc-le-suc g)))
+      ∙ ap (λ (t : List A). x ∷ t)
+      (put-new r xs m d (le-of-suc-le-suc l) (λ j h. lo (suc j) (suc-le-suc h)) (λ j h g. hi (suc j) (suc-le-suc h) (suc-le-suc g)))
 
   pub nowhere-held : (k : Bytes) (xs : List A) (m : ℕ) (d : A) → ((j : ℕ) → j < m → order (key (getD xs j d)) k ≡ less)
       → ((j : ℕ) → m ≤ j → j < length xs → order (key (getD xs j d)) k ≡ more) → holds k (map key xs) ≡ false
@@ -72,7 +73,10 @@ module _ {A : Type 0} (key : A → Bytes) where
       at : (i : ℕ) → i < length xs → getD (map key xs) i [] ≡ k → ⊥
       at i l e =
           let q : key (getD xs i d) ≡ k = sym (getD-map key xs i d [] l) ∙ e in
-          by (ltb i m) (λ t. order-less-ne (key (getD xs i d)) k (lo i (ltb-true i m t)) q) (λ t. order-more-ne (key (getD xs i d)) k (hi i (ltb-false i m t) l) q)
+          by
+          (ltb i m)
+          (λ t. order-less-ne (key (getD xs i d)) k (lo i (ltb-true i m t)) q)
+          (λ t. order-more-ne (key (getD xs i d)) k (hi i (ltb-false i m t) l) q)
 
 module _ {A : Type 0} (key : A → Bytes) (k : Bytes) (xs : List A) (d : A) where
   pub bracket-start : Bracket key k xs d 0 (length xs)

@@ -9,26 +9,19 @@ use native.Mathlib.Omega.{arith}
 use lib.Dec.{leb, eqb}
 use lib.ListN.{length, take, drop, replicate, length-take, length-drop, take-append-drop}
 use borrow.Author.Tests.{eqb-true, leb-true}
-use Rattle.rules.specs.Bytes.{_>>=_, Bytes, guard, ascii, same, among}
+use Rattle.rules.specs.Bytes.{_>>=_, Bytes, ascii, same, among}
 use Rattle.rules.specs.Numbers.{most, isDigit, decimalFrom, decimal}
 use Rattle.rules.specs.Bundle.{zeros, unpadded}
 use Rattle.rules.specs.Names.{Name, version, checkpoint, marker, other, tooLarge, numbered, withEnding, nameOf, versionIn, checkpointIn, is}
 use Rattle.rules.proofs.Tests.{apart}
-use Rattle.rules.proofs.Order.{among-true, same-true}
-
--- ---- values that may be missing
-
-pub bind-some : {A B : Type 0} (o : Option A) (f : A → Option B) {b : B} → (o >>= f) ≡ some b → (x : A) × (o ≡ some x) × (f x ≡ some b)
-bind-some none f e = apart (cc)
-bind-some (some x) f e = (x, refl, e)
-
-pub guard-some : (b : Bool) {u : Unit {0}} → guard b ≡ some u → b ≡ true
-guard-some true e = refl
-guard-some false e = apart (cc)
+use Rattle.rules.proofs.Order.{same-true}
+use Rattle.rules.proofs.Ranges.{among-true}
+use Rattle.rules.proofs.Choices.{bind-some}
 
 -- ---- twenty digits and an ending say one number, in one way
 
-digit-first : (sofar b : ℕ) (bs : Bytes) (n : ℕ) → decimalFrom sofar (b ∷ bs) ≡ some n → (0x30 ≤ b) × (b ≤ 0x39) × (decimalFrom (sofar * 10 + (b - 0x30)) bs ≡ some n)
+digit-first : (sofar b : ℕ) (bs : Bytes) (n : ℕ) → decimalFrom sofar (b ∷ bs) ≡ some n
+    → (0x30 ≤ b) × (b ≤ 0x39) × (decimalFrom (sofar * 10 + (b - 0x30)) bs ≡ some n)
 unfolding decimalFrom isDigit
 digit-first sofar b bs n e = go (isDigit b) refl e
   where
@@ -149,16 +142,22 @@ OneName test = (n m : Bytes) → test (nameOf n) ≡ true → test (nameOf m) �
 
 pub one-version : (w : ℕ) → OneName (λ n. is w (versionIn n))
 unfolding ascii
-one-version w n m e f = says-once (ascii ".json") w n m (omega arith) (version-says n w (is-version w (nameOf n) e)) (version-says m w (is-version w (nameOf m) f))
+one-version w n m e f =
+    says-once (ascii ".json") w n m (omega arith) (version-says n w (is-version w (nameOf n) e)) (version-says m w (is-version w (nameOf m) f))
 
 pub one-checkpoint : (w : ℕ) → OneName (λ n. is w (checkpointIn n))
 unfolding ascii
 one-checkpoint w n m e f =
-    says-once (ascii ".checkpoint.json") w n m (omega arith) (checkpoint-says n w (is-checkpoint w (nameOf n) e)) (checkpoint-says m w (is-checkpoint w (nameOf m) f))
+    says-once
+    (ascii ".checkpoint.json")
+    w n m
+    (omega arith)
+    (checkpoint-says n w (is-checkpoint w (nameOf n) e))
+    (checkpoint-says m w (is-checkpoint w (nameOf m) f))
 
 -- ---- a name is padded in one way
 
-zeros-cons : (x : ℕ) (xs : Bytes) → zeros (x ∷ xs) ≡ true → (x ≡ 0) × (zeros xs ≡ true)
+pub zeros-cons : (x : ℕ) (xs : Bytes) → zeros (x ∷ xs) ≡ true → (x ≡ 0) × (zeros xs ≡ true)
 unfolding zeros
 zeros-cons x xs h = go (eqb x 0) refl h
   where
@@ -181,7 +180,8 @@ unpadded-cases : (x : ℕ) (xs name : Bytes) → unpadded (x ∷ xs) ≡ some na
 unfolding unpadded
 unpadded-cases x xs name e = go (among 0x21 0x7E x) (zeros (x ∷ xs)) refl e
   where
-    go : (b z : Bool) → zeros (x ∷ xs) ≡ z → elim b [ true ↦ (unpadded xs >>= (λ m. some (x ∷ m))) | false ↦ elim z [ true ↦ some [] | false ↦ none ] ] ≡ some name
+    go : (b z : Bool) → zeros (x ∷ xs) ≡ z
+        → elim b [ true ↦ (unpadded xs >>= (λ m. some (x ∷ m))) | false ↦ elim z [ true ↦ some [] | false ↦ none ] ] ≡ some name
         → ((m : Bytes) × (unpadded xs ≡ some m) × (x ∷ m ≡ name)) ⊎ ((zeros (x ∷ xs) ≡ true) × ([] ≡ name))
     go true z h e =
         let r = bind-some (unpadded xs) (λ m. some (x ∷ m)) e in

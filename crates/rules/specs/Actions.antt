@@ -6,7 +6,7 @@ use Prim.Native.Nat.{ℕ, _-_}
 use Prim.Native.String.{String}
 use lib.Dec.{eqb, leb}
 use lib.ListN.{length}
-use Rattle.rules.specs.Bytes.{Bytes, ascii, _>>=_, guard, first, among, same, distinct, firsts}
+use Rattle.rules.specs.Bytes.{Bytes, ascii, _>>=_, guard, first, among, nonEmpty, same, distinct, firsts}
 use Rattle.rules.specs.Json.Text.{Text, byte}
 use Rattle.rules.specs.Json.Numbers.{whole}
 use Rattle.rules.specs.Json.Values.{Member, objectOf, membersLeft}
@@ -37,11 +37,15 @@ pub record Facts : Type 0 where
   pub partitionValues : Pairs
 
 -- path (1 to 512 decoded bytes)
+abbrev pub path : Bytes → Option Bytes
+path p = do
+  _ ← guard (among 1 512 (length p))
+  some p
+
 unfoldable pub pathAt : List Member → Option Bytes
 pathAt ms = do
   p ← stringAt "path" ms
-  _ ← guard (among 1 512 (length p))
-  some p
+  path p
 
 unfoldable pub pairs : List Member → Option Pairs
 pairs [] = some []
@@ -83,11 +87,15 @@ unfoldable pub unstated : Protocol
 unstated = record { minReaderVersion = 1; minWriterVersion = 1; readerFeatures = []; writerFeatures = [] }
 
 -- 1 to 2,147,483,647
+abbrev pub protocolNumber : ℕ → Option ℕ
+protocolNumber n = do
+  _ ← guard (among 1 2_147_483_647 n)
+  some n
+
 unfoldable pub protocolNumberAt : String → List Member → Option ℕ
 protocolNumberAt name ms = do
   n ← wholeAt name ms
-  _ ← guard (among 1 2_147_483_647 n)
-  some n
+  protocolNumber n
 
 unfoldable pub orEmpty : Option (List Bytes) → List Bytes
 orEmpty none = []
@@ -117,11 +125,16 @@ pub record MetaData : Type 0 where
 unfoldable pub mostColumns : ℕ
 mostColumns = 16
 
--- id (non-empty string), partitionColumns (array of at most 16 distinct strings)
+-- id (non-empty string)
+unfoldable pub idAt : List Member → Option Bytes
+idAt ms = do
+  i ← stringAt "id" ms
+  nonEmpty i
+
+-- partitionColumns (array of at most 16 distinct strings)
 unfoldable pub metaDataOf : List Member → Option MetaData
 metaDataOf ms = do
-  i ← stringAt "id" ms
-  _ ← guard (leb 1 (length i))
+  i ← idAt ms
   v ← once "partitionColumns" ms
   cs ← stringsOf inField v
   _ ← guard (leb (length cs) mostColumns)

@@ -1,11 +1,12 @@
 -- The bundle: a count, the contents entries, then the bodies, each where the last ended.
+use mathlib.Core.Path.{_≡_}
 use mathlib.Core.Bool.{Bool, true, false}
 use mathlib.Core.Option.{Option, none, some}
 use mathlib.Core.List.{List, [], _∷_}
 use Prim.Native.Nat.{ℕ, zero, suc, _+_, _*_}
 use lib.Dec.{leb, eqb}
 use lib.ListN.{length, take, drop}
-use Rattle.rules.specs.Bytes.{Bytes, _>>=_, guard, among, isEmpty, order, isLess}
+use Rattle.rules.specs.Bytes.{Bytes, _>>=_, guard, isSome, among, isEmpty, nonEmpty, order, isLess}
 use Rattle.rules.specs.Numbers.{little}
 
 unfoldable pub mostBytes : ℕ
@@ -61,8 +62,7 @@ unpadded (b ∷ bs) = elim (among 0x21 0x7E b) [
 unfoldable pub nameIn : Bytes → Option Bytes
 nameIn padded = do
   name ← unpadded padded
-  _ ← guard (leb 1 (length name))
-  some name
+  nonEmpty name
 
 -- names ascend strictly, as 96 bytes
 unfoldable pub ascending : List Entry → Bool
@@ -105,3 +105,6 @@ unfoldable pub bundle : Bytes → Option (List File)
 bundle s = do
   _ ← guard (among 4 mostBytes (length s))
   filesOf (little (take 4 s)) s
+
+abbrev pub IsBundle : Bytes → Type 0
+IsBundle s = isSome (bundle s) ≡ true

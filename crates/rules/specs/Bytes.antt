@@ -7,6 +7,7 @@ use Prim.Native.Nat.{ℕ}
 use Prim.Native.Char.{code}
 use Prim.Native.String.{String, [] as end, _∷_ as _then_}
 use lib.Dec.{eqb, ltb, leb}
+use lib.ListN.{length}
 
 -- bytes, each a number below 256
 abbrev pub Bytes : Type 0
@@ -28,6 +29,10 @@ _>>=_ (some a) f = f a
 abbrev pub guard : Bool → Option (Unit {0})
 guard true = some tt
 guard false = none
+
+unfoldable pub isSome : {A : Type 0} → Option A → Bool
+isSome none = false
+isSome (some a) = true
 
 -- what stands beside the first test that passes, and `otherwise` where none does
 unfoldable pub first : {A : Type 0} → List (Bool × A) → A → A
@@ -58,6 +63,12 @@ unfoldable pub begins : Bytes → Bytes → Bool
 begins [] ys = true
 begins (x ∷ xs) [] = false
 begins (x ∷ xs) (y ∷ ys) = elim (eqb x y) [ true ↦ begins xs ys | false ↦ false ]
+
+-- 1 byte at least
+abbrev pub nonEmpty : Bytes → Option Bytes
+nonEmpty x = do
+  _ ← guard (leb 1 (length x))
+  some x
 
 pub data Order : Type 0 where
   less equal more : Order

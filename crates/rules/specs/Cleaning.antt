@@ -14,7 +14,8 @@ use Rattle.rules.specs.Gate.{gate, writable}
 use Rattle.rules.specs.Live.{mostLive}
 use Rattle.rules.specs.Agreement.{agree}
 use Rattle.rules.specs.Rooms.{Room, rowsRoom, namesRoom, leaves}
-use Rattle.rules.specs.Refusals.{Answer, accepted, _>>=_, orRefuse, require, roomTooShort, bundleMalformed, versionTooLarge, noVersionZero, notWritable, checkpointDisagrees}
+use Rattle.rules.specs.Refusals.{Answer, accepted, _>>=_, orRefuse, require, roomTooShort, bundleMalformed}
+use Rattle.rules.specs.Refusals.{versionTooLarge, noVersionZero, notWritable, checkpointDisagrees}
 
 -- ---- what is named
 

@@ -146,8 +146,16 @@ refusals =
     ∷ (read theLatest "[]" (bundleOf (v0 ∷ file "00000000000000000001.json" 1 ("" ∷ addOf "" ∷ []) ∷ [])), refusal 6 1 2)
     ∷ (read theLatest "[]" (bundleOf (v0 ∷ file "00000000000000000001.json" 1 ("" ∷ []) ∷ [])), refusal 6 1 0)
     ∷ (read theLatest "[]" (bundleOf (file "00000000000000000000.json" 0 ("{'x':1}" ∷ []) ∷ [])), refusal 6 0 0)
-    ∷ (read theLatest "[]" (bundleOf (file "00000000000000000000.json" 0 ("{'metaData':{'id':'t','partitionColumns':[]}}" ∷ "{'metaData':{'id':'t','partitionColumns':[]}}" ∷ []) ∷ [])), refusal 6 0 2)
-    ∷ (read theLatest "[]" (bundleOf (file "00000000000000000000.json" 0 (addOf "a" ∷ "{'metaData':{'id':'t','partitionColumns':[]}}" ∷ []) ∷ [])), refusal 6 0 1)
+    ∷ (
+      read theLatest "[]"
+          (bundleOf
+          (file "00000000000000000000.json" 0 ("{'metaData':{'id':'t','partitionColumns':[]}}" ∷ "{'metaData':{'id':'t','partitionColumns':[]}}" ∷ []) ∷ [])),
+      refusal 6 0 2,
+    )
+    ∷ (
+      read theLatest "[]" (bundleOf (file "00000000000000000000.json" 0 (addOf "a" ∷ "{'metaData':{'id':'t','partitionColumns':[]}}" ∷ []) ∷ [])),
+      refusal 6 0 1,
+    )
     -- 7 takes 1,025 lines, and stands in crate limits; 8 is among the sides of edges; 9
     ∷ (read theLatest "[]" (bundleOf (protocolled "'minReaderVersion':3,'minWriterVersion':9,'readerFeatures':['footerOffsets','tea']" ∷ [])), refusal 9 0 0)
     -- 10, before 2

@@ -17,7 +17,8 @@ use Rattle.rules.specs.Gate.{gate, writable}
 use Rattle.rules.specs.Query.{Condition, columnOf, query}
 use Rattle.rules.specs.Picking.{picked}
 use Rattle.rules.specs.Rooms.{Room, rowsRoom, leaves, rowsNumbers}
-use Rattle.rules.specs.Refusals.{Answer, accepted, refused, _>>=_, orRefuse, require, roomTooShort, bundleMalformed, versionTooLarge, noVersionZero, notKept, queryMalformed, noSuchColumn}
+use Rattle.rules.specs.Refusals.{Answer, accepted, refused, _>>=_, orRefuse, require, roomTooShort, bundleMalformed}
+use Rattle.rules.specs.Refusals.{versionTooLarge, noVersionZero, notKept, queryMalformed, noSuchColumn}
 
 pub data Asked : Type 0 where
   theLatest : Asked

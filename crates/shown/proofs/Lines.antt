@@ -14,11 +14,12 @@ use Rattle.rules.specs.Actions.{Facts, Action, add, remove, protocol, metaData,
 use Rattle.rules.specs.Actions.{startOf, startIn, pathStart, pathPlace, Records, records, missing, noAdd, recordsOf, recordsIn, recordsShown}
 use Rattle.rules.proofs.Tests.{apart}
 use Rattle.rules.proofs.PathPlaces.{place-shown, place-within, place-nothing}
-use Rattle.actions.specs.Line.{AddIs}
-use Rattle.actions.specs.declared.line.Added.{Added}
-use Rattle.slots.specs.Counts.{recordsIs}
-use Rattle.slots.specs.declared.Records.{Records as Stated}
-use Rattle.slots.specs.declared.Records.the-variants.{Number, Missing, Bad}
+use Rattle.line_actions.specs.Line.{AddIs}
+use Rattle.line_actions.specs.Asked.{addIn}
+use Rattle.line_actions.specs.declared.line.Added.{Added}
+use Rattle.field_scalars.specs.Counts.{recordsIs}
+use Rattle.field_scalars.specs.declared.Records.{Records as Stated}
+use Rattle.field_scalars.specs.declared.Records.the-variants.{Number, Missing, Bad}
 use Rattle.shown.specs.Shown.{shownIs, addingIs}
 use Rattle.shown.specs.declared.Shown.{Shown}
 use Rattle.shown.specs.declared.Shown.the-variants.{Number as ShownNumber, Missing as ShownMissing, NoAdd}
@@ -39,37 +40,24 @@ pub no-line : (s : Text) → isLine s ≡ false → Told s Nothing
 unfolding recordsShown
 no-line s e = nothing-told s (rw (recordsShown, e))
 
+-- where a line says no add, it has no records
+records-none : (o : Option Action) → addIn o ≡ none → recordsIn o ≡ noAdd
+unfolding addIn recordsIn
+records-none none e = refl
+records-none (some (add f)) e = apart (cc)
+records-none (some (remove p)) e = refl
+records-none (some (protocol p)) e = refl
+records-none (some (metaData m)) e = refl
+records-none (some mergeskip) e = refl
+records-none (some other) e = refl
+
 module _ (s : Text) (line : isLine s ≡ true) where
   records-line : recordsShown s ≡ recordsIn (action s)
   unfolding recordsShown
   records-line = rw (recordsShown, line)
 
-  nothing-by : (o : Option Action) → action s ≡ o → recordsIn o ≡ noAdd → Told s Nothing
-  nothing-by o e r = nothing-told s (records-line ∙ ap recordsIn e ∙ r)
-
-  pub no-action : action s ≡ none → Told s Nothing
-  unfolding recordsIn
-  no-action e = nothing-by none e refl
-
-  pub no-remove : {p : _} → action s ≡ some (remove p) → Told s Nothing
-  unfolding recordsIn
-  no-remove e = nothing-by _ e refl
-
-  pub no-protocol : {p : _} → action s ≡ some (protocol p) → Told s Nothing
-  unfolding recordsIn
-  no-protocol e = nothing-by _ e refl
-
-  pub no-metaData : {m : _} → action s ≡ some (metaData m) → Told s Nothing
-  unfolding recordsIn
-  no-metaData e = nothing-by _ e refl
-
-  pub no-mergeskip : action s ≡ some mergeskip → Told s Nothing
-  unfolding recordsIn
-  no-mergeskip e = nothing-by _ e refl
-
-  pub no-other : action s ≡ some other → Told s Nothing
-  unfolding recordsIn
-  no-other e = nothing-by _ e refl
+  pub no-add : addIn (action s) ≡ none → Told s Nothing
+  no-add e = nothing-told s (records-line ∙ records-none (action s) e)
 
   -- ---- an add
 

@@ -1,7 +1,7 @@
 -- What is shown of a line, as the code answers it.
 use Prim.Native.Nat.{ℕ, _+_}
 use Rattle.rules.specs.Actions.{Records, records, missing, noAdd}
-use Rattle.slots.specs.declared.Records.the-variants.{Number as Stated, Missing as Unstated}
+use Rattle.field_scalars.specs.declared.Records.the-variants.{Number as Stated, Missing as Unstated}
 use Rattle.shown.specs.declared.Adding.{Adding}
 use Rattle.shown.specs.declared.Adding.the-variants.{Writes, Nothing}
 use Rattle.shown.specs.declared.Shown.{Shown}

@@ -1,6 +1,6 @@
 // What is shown of one line: the path as its add writes it, and the add's number of records. Every byte string has an answer.
-use actions::Action;
-use slots::Records;
+use field_scalars::Records;
+use line_actions::SaidAdd;
 ghost use mathlib.Core.Path.{_≡_};
 ghost use Rattle.rules.specs.Actions.{pathShown, pathPlace, recordsShown};
 ghost use Rattle.shown.specs.Shown.{shownIs, addingIs};
@@ -15,20 +15,15 @@ pub enum Adding {
 pub fn judge(line: &[u8]) -> Adding
     ensures { λ r. ⌜ r ≡ addingIs (recordsShown (now (line .entry))) (pathPlace (now (line .entry))) ⌝ }
 {
-    if !lines::is_line(line) {
+    if !file_lines::is_line(line) {
         return Adding::Nothing;
     }
-    match actions::classify(line) {
-        Action::Add(a) => {
+    match line_actions::add_of(line) {
+        SaidAdd::Add(a) => {
             let records = a.records;
             Adding::Writes(a.path, a.end, records)
         }
-        Action::Remove(_) => Adding::Nothing,
-        Action::Protocol(_) => Adding::Nothing,
-        Action::MetaData(_) => Adding::Nothing,
-        Action::Mergeskip => Adding::Nothing,
-        Action::Other => Adding::Nothing,
-        Action::Malformed => Adding::Nothing,
+        SaidAdd::NoAdd => Adding::Nothing,
     }
 }
 

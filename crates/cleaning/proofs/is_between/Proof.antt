@@ -4,10 +4,14 @@ use Rattle.cleaning.proofs.is_between.Statement.{statement}
 use Rattle.cleaning.proofs.is_between.Tie as tie
 
 returns : tie.Need-returns
-returns c = between-behind (c .before .before .before .before .args .w .0) (c .before .before .before .before .args .c .0) (c .before .before .if1 .taken)
+returns c =
+    let args = c .before .before .before .before .args in
+    between-behind (args .w .0) (args .c .0) (c .before .before .if1 .taken)
 
 returns-2 : tie.Need-returns-2
-returns-2 c = between-zero (c .before .before .args .w .0) (c .before .before .args .c .0) (c .if1 .left)
+returns-2 c =
+    let args = c .before .before .args in
+    between-zero (args .w .0) (args .c .0) (c .if1 .left)
 
 pub is-between-spec : {M : Type 1} → statement M
 is-between-spec = tie.close (tie.spec returns returns-2)

@@ -2,7 +2,7 @@
 use borrow.Author.Needs.{needs}
 use mathlib.Core.Path.{refl, sym, ap, _∙_}
 use Rattle.rules.specs.Cleaning.{isOld}
-use Rattle.bundle.specs.Files.{fileIn}
+use Rattle.file_bundle.specs.Files.{fileIn}
 use Rattle.cleaning.proofs.Ageing.{go-other, go-outside, go-between}
 use Rattle.cleaning.proofs.may_go.Statement.{statement}
 use Rattle.cleaning.proofs.may_go.Tie as tie
@@ -24,8 +24,13 @@ is-old-requires c κs = search needs
 
 returns : tie.Need-returns
 returns c =
-    c .is-old .ensures ∙ ap (isOld (c .before .before .before .before .before .before .before .before .before .before .args .today .0) (c .before .before .before .before .before .before .before .before .before .before .args .retention .0)) (c .before .before .before .before .before .before .before .before .entry-at .ensures .time)
-    ∙ go-between (c .before .before .before .before .before .before .before .before .before .before .args .c .0) (c .before .before .before .before .before .before .before .before .before .before .args .today .0) (c .before .before .before .before .before .before .before .before .before .before .args .retention .0) (fileIn (c .before .before .before .before .before .before .before .before .before .before .args .src .now) (c .before .before .before .before .before .before .before .before .before .before .args .k)) (c .before .before .before .before .before .before .before .kind .result) (c .before .before .before .before .before .before .before .kind .ensures) (c .before .before .before .before .before .w .given .0 .0) (c .before .before .before .before .before .w .given .1) (sym (c .before .before .before .is-between .ensures) ∙ c .before .before .if1 .taken)
+    let w = c .before .before .before .before .before .w .given in
+    let kind = c .before .before .before .before .before .before .before .kind in
+    let entry-at = c .before .before .before .before .before .before .before .before .entry-at in
+    let args = c .before .before .before .before .before .before .before .before .before .before .args in
+    c .is-old .ensures ∙ ap (isOld (args .today .0) (args .retention .0)) (entry-at .ensures .time)
+    ∙ go-between (args .c .0) (args .today .0) (args .retention .0) (fileIn (args .src .now) (args .k)) (kind .result) (kind .ensures) (w .0 .0) (w .1)
+    (sym (c .before .before .before .is-between .ensures) ∙ c .before .before .if1 .taken)
 
 enum-told : tie.Need-enum-told
 enum-told c = search needs
@@ -40,19 +45,68 @@ enum-told-4 : tie.Need-enum-told-4
 enum-told-4 c = search needs
 
 returns-2 : tie.Need-returns-2
-returns-2 c = go-outside (c .before .before .before .before .before .before .before .before .args .c .0) (c .before .before .before .before .before .before .before .before .args .today .0) (c .before .before .before .before .before .before .before .before .args .retention .0) (fileIn (c .before .before .before .before .before .before .before .before .args .src .now) (c .before .before .before .before .before .before .before .before .args .k)) (c .before .before .before .before .before .kind .result) (c .before .before .before .before .before .kind .ensures) (c .before .before .before .w .given .0 .0) (c .before .before .before .w .given .1) (sym (c .before .is-between .ensures) ∙ c .if1 .left)
+returns-2 c =
+    let w = c .before .before .before .w .given in
+    let kind = c .before .before .before .before .before .kind in
+    let args = c .before .before .before .before .before .before .before .before .args in
+    go-outside
+    (args .c .0)
+    (args .today .0)
+    (args .retention .0)
+    (fileIn (args .src .now) (args .k))
+    (kind .result)
+    (kind .ensures)
+    (w .0 .0)
+    (w .1)
+    (sym (c .before .is-between .ensures) ∙ c .if1 .left)
 
 returns-3 : tie.Need-returns-3
-returns-3 c = go-other (c .before .before .before .before .before .args .c .0) (c .before .before .before .before .before .args .today .0) (c .before .before .before .before .before .args .retention .0) (fileIn (c .before .before .before .before .before .args .src .now) (c .before .before .before .before .before .args .k)) (c .before .before .kind .result) (c .before .before .kind .ensures) (c .enum-told .given .1) refl
+returns-3 c =
+    let kind = c .before .before .kind in
+    let args = c .before .before .before .before .before .args in
+    go-other (args .c .0) (args .today .0) (args .retention .0) (fileIn (args .src .now) (args .k)) (kind .result) (kind .ensures) (c .enum-told .given .1) refl
 
 returns-4 : tie.Need-returns-4
-returns-4 c = go-other (c .before .before .before .before .before .args .c .0) (c .before .before .before .before .before .args .today .0) (c .before .before .before .before .before .args .retention .0) (fileIn (c .before .before .before .before .before .args .src .now) (c .before .before .before .before .before .args .k)) (c .before .before .kind .result) (c .before .before .kind .ensures) (c .enum-told2 .given .1) refl
+returns-4 c =
+    let kind = c .before .before .kind in
+    let args = c .before .before .before .before .before .args in
+    go-other
+    (args .c .0)
+    (args .today .0)
+    (args .retention .0)
+    (fileIn (args .src .now) (args .k))
+    (kind .result)
+    (kind .ensures)
+    (c .enum-told2 .given .1)
+    refl
 
 returns-5 : tie.Need-returns-5
-returns-5 c = go-other (c .before .before .before .before .before .args .c .0) (c .before .before .before .before .before .args .today .0) (c .before .before .before .before .before .args .retention .0) (fileIn (c .before .before .before .before .before .args .src .now) (c .before .before .before .before .before .args .k)) (c .before .before .kind .result) (c .before .before .kind .ensures) (c .enum-told3 .given .1) refl
+returns-5 c =
+    let kind = c .before .before .kind in
+    let args = c .before .before .before .before .before .args in
+    go-other
+    (args .c .0)
+    (args .today .0)
+    (args .retention .0)
+    (fileIn (args .src .now) (args .k))
+    (kind .result)
+    (kind .ensures)
+    (c .enum-told3 .given .1)
+    refl
 
 returns-6 : tie.Need-returns-6
-returns-6 c = go-other (c .before .before .before .before .before .args .c .0) (c .before .before .before .before .before .args .today .0) (c .before .before .before .before .before .args .retention .0) (fileIn (c .before .before .before .before .before .args .src .now) (c .before .before .before .before .before .args .k)) (c .before .before .kind .result) (c .before .before .kind .ensures) (c .enum-told4 .given .1) refl
+returns-6 c =
+    let kind = c .before .before .kind in
+    let args = c .before .before .before .before .before .args in
+    go-other
+    (args .c .0)
+    (args .today .0)
+    (args .retention .0)
+    (fileIn (args .src .now) (args .k))
+    (kind .result)
+    (kind .ensures)
+    (c .enum-told4 .given .1)
+    refl
 
 pub may-go-spec : {M : Type 1} → statement M
 may-go-spec =

@@ -20,7 +20,10 @@ same-length c = search needs
 
 returns : tie.Need-returns
 unfolding numbered
-returns c = answer-same _ _ _ _ _ (answering-large _ _ _ (sym (c .before .before .before .before .before .any-too-large .ensures) ∙ c .before .before .before .before .if1 .taken)) (c .before .before .refuse .ensures)
+returns c =
+    answer-same _ _ _ _ _
+    (answering-large _ _ _ (sym (c .before .before .before .before .before .any-too-large .ensures) ∙ c .before .before .before .before .if1 .taken))
+    (c .before .before .refuse .ensures)
 
 enum-told : tie.Need-enum-told
 enum-told c = search needs
@@ -38,13 +41,23 @@ same-length-2 : tie.Need-same-length-2
 same-length-2 c = search needs
 
 returns-2 : tie.Need-returns-2
-returns-2 c = answer-same _ _ _ _ _ (answering-version _ _ _ (sym (c .before .before .before .before .before .before .before .any-too-large .ensures) ∙ c .before .before .before .before .before .before .if1 .left) _ (asked-latest _ _ (c .before .before .before .before .enum-told .given .1))) (c .before .before .list-latest .ensures)
+returns-2 c =
+    answer-same _ _ _ _ _
+    (answering-version _ _ _
+    (sym (c .before .before .before .before .before .before .before .any-too-large .ensures) ∙ c .before .before .before .before .before .before .if1 .left) _
+    (asked-latest _ _ (c .before .before .before .before .enum-told .given .1)))
+    (c .before .before .list-latest .ensures)
 
 same-length-3 : tie.Need-same-length-3
 same-length-3 c = search needs
 
 returns-3 : tie.Need-returns-3
-returns-3 c = answer-same _ _ _ _ _ (answering-version _ _ _ (sym (c .before .before .before .before .before .before .before .before .any-too-large .ensures) ∙ c .before .before .before .before .before .before .before .if1 .left) _ (asked-at _ _ _ (c .before .before .before .before .before .version .given .1))) (c .before .before .list-at .ensures)
+returns-3 c =
+    let any-too-large = c .before .before .before .before .before .before .before .before .any-too-large in
+    answer-same _ _ _ _ _
+    (answering-version _ _ _ (sym (any-too-large .ensures) ∙ c .before .before .before .before .before .before .before .if1 .left) _
+    (asked-at _ _ _ (c .before .before .before .before .before .version .given .1)))
+    (c .before .before .list-at .ensures)
 
 pub list-asked-spec : {M : Type 1} → statement M
 list-asked-spec =

@@ -2,8 +2,8 @@
 use mathlib.Core.Path.{subst}
 use Rattle.rules.specs.Live.{mostLive}
 use Rattle.refusals.specs.Numbered.{numbered}
-use Rattle.replay.specs.Views.{stateOf}
-use Rattle.gate.specs.Judged.{VerdictIs}
+use Rattle.log_replay.specs.Views.{stateOf}
+use Rattle.log_gate.specs.Judged.{VerdictIs}
 use Rattle.reading.proofs.Rules.{listing-ungated}
 use Rattle.reading.proofs.Rooms.{answer-same}
 use borrow.Author.Needs.{needs}
@@ -33,21 +33,31 @@ enum-known-n c = search needs
 
 list-picked-requires : tie.Need-list-picked-requires
 unfolding stateOf
-list-picked-requires c κs = (c .before .before .before .before .before .before .before .before .before .pre .0, c .before .before .before .before .before .before .before .before .before .pre .1, subst (VerdictIs _) (c .before .before .n .given .1) (c .before .before .before .before .judge .ensures))
+list-picked-requires c κs =
+    let pre = c .before .before .before .before .before .before .before .before .before .pre in
+    (pre .0, pre .1, subst (VerdictIs _) (c .before .before .n .given .1) (c .before .before .before .before .judge .ensures))
 
 same-length : tie.Need-same-length
 same-length c = search needs
 
 returns : tie.Need-returns
 unfolding stateOf numbered
-returns c = answer-same _ _ _ _ _ (listing-ungated _ _ _ _ (subst (VerdictIs _) (c .before .before .before .before .enum-told .given .1) (c .before .before .before .before .before .before .judge .ensures))) (c .before .before .refuse .ensures)
+returns c =
+    answer-same _ _ _ _ _
+    (listing-ungated _ _ _ _
+    (subst (VerdictIs _) (c .before .before .before .before .enum-told .given .1) (c .before .before .before .before .before .before .judge .ensures)))
+    (c .before .before .refuse .ensures)
 
 same-length-2 : tie.Need-same-length-2
 same-length-2 c = search needs
 
 returns-2 : tie.Need-returns-2
 unfolding stateOf numbered
-returns-2 c = answer-same _ _ _ _ _ (listing-ungated _ _ _ _ (subst (VerdictIs _) (c .before .before .before .before .enum-told2 .given .1) (c .before .before .before .before .before .before .judge .ensures))) (c .before .before .refuse2 .ensures)
+returns-2 c =
+    answer-same _ _ _ _ _
+    (listing-ungated _ _ _ _
+    (subst (VerdictIs _) (c .before .before .before .before .enum-told2 .given .1) (c .before .before .before .before .before .before .judge .ensures)))
+    (c .before .before .refuse2 .ensures)
 
 same-length-3 : tie.Need-same-length-3
 same-length-3 c = search needs

@@ -2,8 +2,8 @@
 use mathlib.Core.Path.{ap, subst}
 use borrow.Author.Tests.{not-true, not-false}
 use Rattle.refusals.specs.Numbered.{numbered}
-use Rattle.bundle.specs.Files.{isSome}
-use Rattle.bundle.specs.Answers.{OpenedAs}
+use Rattle.rules.specs.Bytes.{isSome}
+use Rattle.file_bundle.specs.Answers.{OpenedAs}
 use Rattle.reading.proofs.Rules.{query-good, query-bad, reading-unasked, reading-unopened, reading-opened}
 use Rattle.reading.proofs.Rooms.{read-short, answer-same}
 use borrow.Author.Needs.{needs}
@@ -27,8 +27,12 @@ same-length c = search needs
 returns-2 : tie.Need-returns-2
 unfolding numbered
 returns-2 c =
-    let bad = query-bad (c .before .before .before .before .before .before .before .before .before .before .before .args .q .now) (c .before .before .before .before .before .before .read .result) (c .before .before .before .before .before .before .read .ensures) (not-true (c .before .before .before .before .before .before .read .result .good) (c .before .before .before .before .if2 .taken)) in
-    answer-same _ _ _ _ _ (reading-unasked _ _ _ _ (c .before .before .before .before .before .before .before .if1 .left) bad) (c .before .before .refuse .ensures)
+    let read = c .before .before .before .before .before .before .read in
+    let args = c .before .before .before .before .before .before .before .before .before .before .before .args in
+    let bad = query-bad (args .q .now) (read .result) (read .ensures) (not-true (read .result .good) (c .before .before .before .before .if2 .taken)) in
+    answer-same _ _ _ _ _
+    (reading-unasked _ _ _ _ (c .before .before .before .before .before .before .before .if1 .left) bad)
+    (c .before .before .refuse .ensures)
 
 open-requires : tie.Need-open-requires
 open-requires c κs = search needs
@@ -49,13 +53,22 @@ same-length-2 c = search needs
 returns-3 : tie.Need-returns-3
 unfolding numbered
 returns-3 c =
-    let good = query-good (c .before .before .before .before .before .before .before .before .before .before .before .before .before .before .args .q .now) (c .before .before .before .before .before .before .before .before .before .read .result) (c .before .before .before .before .before .before .before .before .before .read .ensures) (not-false (c .before .before .before .before .before .before .before .before .before .read .result .good) (c .before .before .before .before .before .before .before .if2 .left)) in
-    answer-same _ _ _ _ _ (reading-unopened _ _ _ _ (c .before .before .before .before .before .before .before .before .before .before .if1 .left) (good .says) (subst (OpenedAs _) (c .before .before .before .before .enum-told2 .given .1) (c .before .before .before .before .before .before .«open» .ensures))) (c .before .before .refuse2 .ensures)
+    let read = c .before .before .before .before .before .before .before .before .before .read in
+    let if1 = c .before .before .before .before .before .before .before .before .before .before .if1 in
+    let args = c .before .before .before .before .before .before .before .before .before .before .before .before .before .before .args in
+    let good = query-good (args .q .now) (read .result) (read .ensures)
+    (not-false (read .result .good) (c .before .before .before .before .before .before .before .if2 .left)) in
+    answer-same _ _ _ _ _
+    (reading-unopened _ _ _ _ (if1 .left) (good .says)
+    (subst (OpenedAs _) (c .before .before .before .before .enum-told2 .given .1) (c .before .before .before .before .before .before .«open» .ensures)))
+    (c .before .before .refuse2 .ensures)
 
 list-asked-requires : tie.Need-list-asked-requires
 unfolding isSome
 list-asked-requires c κs =
-    let good = query-good (c .before .before .before .before .before .before .before .before .before .before .before .args .q .now) (c .before .before .before .before .before .before .read .result) (c .before .before .before .before .before .before .read .ensures) (not-false (c .before .before .before .before .before .before .read .result .good) (c .before .before .before .before .if2 .left)) in
+    let read = c .before .before .before .before .before .before .read in
+    let args = c .before .before .before .before .before .before .before .before .before .before .before .args in
+    let good = query-good (args .q .now) (read .result) (read .ensures) (not-false (read .result .good) (c .before .before .before .before .if2 .left)) in
     let files = subst (OpenedAs _) (c .before .enum-told .given .1) (c .before .before .before .«open» .ensures) in
     (ap isSome (files .1), c .before .before .before .before .before .before .before .if1 .left, good .held .sounds)
 
@@ -64,9 +77,14 @@ same-length-3 c = search needs
 
 returns-4 : tie.Need-returns-4
 returns-4 c =
-    let good = query-good (c .before .before .before .before .before .before .before .before .before .before .before .before .before .before .args .q .now) (c .before .before .before .before .before .before .before .before .before .read .result) (c .before .before .before .before .before .before .before .before .before .read .ensures) (not-false (c .before .before .before .before .before .before .before .before .before .read .result .good) (c .before .before .before .before .before .before .before .if2 .left)) in
-    let files = subst (OpenedAs _) (c .before .before .before .before .enum-told .given .1) (c .before .before .before .before .before .before .«open» .ensures) in
-    answer-same _ _ _ _ _ (reading-opened _ _ _ _ (c .before .before .before .before .before .before .before .before .before .before .if1 .left) (good .says) (files .1)) (c .before .before .list-asked .ensures)
+    let read = c .before .before .before .before .before .before .before .before .before .read in
+    let if1 = c .before .before .before .before .before .before .before .before .before .before .if1 in
+    let args = c .before .before .before .before .before .before .before .before .before .before .before .before .before .before .args in
+    let good = query-good (args .q .now) (read .result) (read .ensures)
+    (not-false (read .result .good) (c .before .before .before .before .before .before .before .if2 .left)) in
+    let files =
+    subst (OpenedAs _) (c .before .before .before .before .enum-told .given .1) (c .before .before .before .before .before .before .«open» .ensures) in
+    answer-same _ _ _ _ _ (reading-opened _ _ _ _ (if1 .left) (good .says) (files .1)) (c .before .before .list-asked .ensures)
 
 pub read-asked-spec : {M : Type 1} → statement M
 read-asked-spec =

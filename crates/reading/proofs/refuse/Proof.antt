@@ -11,7 +11,9 @@ same-length : tie.Need-same-length
 same-length c = search needs
 
 returns : tie.Need-returns
-returns c = answer-refused _ _ _ (c .before .before .before .before .before .pre .0) (c .before .before .before .before .before .pre .1) (c .before .before .zero .ensures)
+returns c =
+    let pre = c .before .before .before .before .before .pre in
+    answer-refused _ _ _ (pre .0) (pre .1) (c .before .before .zero .ensures)
 
 pub refuse-spec : {M : Type 1} → statement M
 refuse-spec = tie.close (tie.spec zero-requires same-length returns)

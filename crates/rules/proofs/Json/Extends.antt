@@ -37,6 +37,7 @@ string-extends (suc n) (b ∷ t) u {x} {r} l e = by (eqb b 0x22)
         let fewer : length (c .1) + 1 ≤ length (b ∷ t) = reads-fewer reads in
         bound (string (c .1)) _ (sym (string-char b t no-quote f) ∙ e) (λ q h k.
         string-char b (t ++ u) no-quote
-        (ap (λ (w : Text). char (w ++ u)) (reads .split) ∙ ap char (append-assoc (reads .passed) (c .1) u) ∙ reads .again (c .1 ++ u) (string-beside (c .1) u h))
+        (ap (λ (w : Text). char (w ++ u)) (reads .split) ∙ ap char (append-assoc (reads .passed) (c .1) u)
+        ∙ reads .again (c .1 ++ u) (string-beside (c .1) u h))
         ∙ ap (λ o. o >>= (λ p. some (c .0 ++ p .0, p .1))) (ih (c .1) u (q .0) (q .1) (omega arith) h)
         ∙ ap (λ (p : Bytes × Text). some (p .0, p .1 ++ u)) (some-same k))

@@ -1,5 +1,5 @@
 -- Fields by name: what stands under a name in a list that grows, and what a field is by the number of times that it stands there.
-use mathlib.Core.Path.{_≡_, refl, ap, _∙_}
+use mathlib.Core.Path.{_≡_, refl, sym, ap, _∙_}
 use mathlib.Core.Bool.{Bool, true, false}
 use mathlib.Core.Option.{Option, none, some}
 use mathlib.Core.List.{List, [], _∷_, _++_, append-nil}
@@ -8,10 +8,12 @@ use Prim.Native.String.{String}
 use native.Mathlib.Omega.{arith}
 use lib.ListN.{length}
 use Rattle.rules.specs.Bytes.{Bytes, ascii, _>>=_, same, isEmpty}
-use Rattle.rules.specs.Json.Text.{Text}
+use Rattle.rules.specs.Json.Text.{Text, byte}
 use Rattle.rules.specs.Json.Values.{Member}
 use Rattle.rules.specs.Json.Fields.{under, sole, once, isNull, soleOrNone, optional, absent, stringOf, stringOrNull, strings}
-use Rattle.rules.proofs.Json.Suffix.{some-same, bound}
+use Rattle.rules.proofs.Tests.{by}
+use Rattle.rules.proofs.Order.{same-true}
+use Rattle.rules.proofs.Json.Suffix.{some-same, bound, answered-none}
 
 -- ---- under a name
 
@@ -29,7 +31,8 @@ module _ (name : Bytes) where
   under-append [] ys = refl
   under-append (m ∷ xs) ys = go (under-append xs ys) (same (m .0) name) refl
     where
-      go : under name (xs ++ ys) ≡ under name xs ++ under name ys → (test : Bool) → same (m .0) name ≡ test → under name (m ∷ (xs ++ ys)) ≡ under name (m ∷ xs) ++ under name ys
+      go : under name (xs ++ ys) ≡ under name xs ++ under name ys → (test : Bool) → same (m .0) name ≡ test
+          → under name (m ∷ (xs ++ ys)) ≡ under name (m ∷ xs) ++ under name ys
       go ih true e = rw (under-hit m (xs ++ ys) e, under-hit m xs e) (ap (λ (l : List Text). m .1 ∷ l) ih)
       go ih false e = rw (under-miss m (xs ++ ys) e, under-miss m xs e) ih
 
@@ -102,8 +105,27 @@ module _ (v : Text) where
   unfolding stringOrNull
   stringOrNull-none n e = rw (stringOrNull, n, e)
 
+null-no-string : stringOf (ascii "null") ≡ none
+unfolding ascii stringOf byte
+null-no-string = refl
+
+pub stringOrNull-text : (v : Text) {b : Bytes} → stringOf v ≡ some b → stringOrNull v ≡ some (some b)
+unfolding isNull
+stringOrNull-text v e = by (isNull v)
+    (λ n. answered-none e (ap stringOf (same-true v (ascii "null") n) ∙ null-no-string))
+    (λ n. stringOrNull-there v n e)
+
+-- a value that is one of the two is the string where there is a string, and null where there is none
+module _ (v : Text) {x : Option Bytes} (f : stringOrNull v ≡ some x) where
+  pub stringOrNull-string : {b : Bytes} → stringOf v ≡ some b → x ≡ some b
+  stringOrNull-string e = some-same (sym f ∙ stringOrNull-text v e)
+
+  pub stringOrNull-no-string : stringOf v ≡ none → x ≡ none
+  stringOrNull-no-string e = by (isNull v) (λ n. some-same (sym f ∙ stringOrNull-null v n)) (λ n. answered-none f (stringOrNull-none v n e))
+
 -- one string more at the end
-pub strings-last : (vs : List Text) (v : Text) {ss : List Bytes} {s : Bytes} → strings vs ≡ some ss → stringOf v ≡ some s → strings (vs ++ (v ∷ [])) ≡ some (ss ++ (s ∷ []))
+pub strings-last : (vs : List Text) (v : Text) {ss : List Bytes} {s : Bytes} → strings vs ≡ some ss → stringOf v ≡ some s
+    → strings (vs ++ (v ∷ [])) ≡ some (ss ++ (s ∷ []))
 unfolding strings
 strings-last [] v {ss} {s} e f = rw (f, ← some-same e)
 strings-last (w ∷ vs) v {ss} {s} e f =

@@ -2,7 +2,7 @@
 use mathlib.Core.Path.{_≡_, refl, sym, ap, _∙_, subst}
 use mathlib.Core.Bool.{true, false}
 use mathlib.Core.Option.{Option, none, some}
-use mathlib.Core.List.{List, _∷_, _++_}
+use mathlib.Core.List.{List, _∷_}
 use Prim.Native.Nat.{ℕ, suc, _+_, _-_, _≤_}
 use native.Mathlib.Omega.{arith}
 use borrow.Author.Tests.{eqb-true, ne-eqb}
@@ -19,7 +19,8 @@ use Rattle.rules.proofs.Tests.{apart, by}
 use Rattle.rules.proofs.Json.Suffix.{reads-fewer, answered-none}
 use Rattle.rules.proofs.Json.TextReads.{before, ws-stop, byte-other, spelled-left, spelled-text}
 use Rattle.rules.proofs.Json.ValueReads.{value-reads}
-use Rattle.rules.proofs.Json.Steps.{value-object, value-scalar, scalar-string, objectOf-contents, objectOf-none, arrayOf-elements, arrayOf-none, alone-end}
+use Rattle.rules.proofs.Json.Steps.{value-object, value-scalar, scalar-string, objectOf-contents}
+use Rattle.rules.proofs.Json.Steps.{objectOf-none, arrayOf-elements, arrayOf-none, alone-end}
 use Rattle.rules.proofs.Json.Shadows.{behind-some}
 use Rattle.rules.proofs.Json.Local.{contents-alone, elements-alone, string-alone}
 

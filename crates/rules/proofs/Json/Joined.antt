@@ -32,7 +32,8 @@ module _ {A : Type 0} (item : Taker A) (close : ℕ) where
     joined-none e = ap (joined gone) (rest-none item close t e)
 
     module _ {x : A} {r : Text} (e : item t ≡ some (x, r)) where
-      pub joined-onward : EachTakes 1 item → {u : Text} → closing close r ≡ onward u → joined (gone ++ (x ∷ [])) (rest item close u) ≡ joined gone (rest item close t)
+      pub joined-onward : EachTakes 1 item → {u : Text} → closing close r ≡ onward u
+          → joined (gone ++ (x ∷ [])) (rest item close u) ≡ joined gone (rest item close t)
       joined-onward each {u} f = sym (ap (joined gone) (rest-onward item close t e each f) ∙ joined-andThen gone x (rest item close u))
 
       pub joined-closed : {u : Text} → closing close r ≡ closed u → joined gone (rest item close t) ≡ some (gone ++ (x ∷ []), u)

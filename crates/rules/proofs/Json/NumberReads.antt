@@ -11,7 +11,8 @@ use Rattle.rules.specs.Numbers.{isDigit}
 use Rattle.rules.specs.Json.Text.{Text}
 use Rattle.rules.specs.Json.Numbers.{digits, digits1, minus, int, frac, sign, exp, number}
 use Rattle.rules.proofs.Tests.{apart, by}
-use Rattle.rules.proofs.Json.Suffix.{Reads, EachReads, reads-end, reads-here, reads-byte, reads-made, reads-then, reads-least, some-same, bound, answered-here, answered-byte, answered-none, answered-after, answered-as}
+use Rattle.rules.proofs.Json.Suffix.{Reads, EachReads, reads-end, reads-here, reads-byte, reads-made, reads-then, reads-least}
+use Rattle.rules.proofs.Json.Suffix.{some-same, bound, answered-here, answered-byte, answered-none, answered-after, answered-as}
 use Rattle.rules.proofs.Json.TextReads.{all, passes-reads}
 
 pub digits-more : (b : ℕ) (t : Text) → isDigit b ≡ true → digits (b ∷ t) ≡ digits t
@@ -30,7 +31,8 @@ pub digits1-reads : EachReads 1 digits1
 unfolding digits1
 digits1-reads [] r e = apart (cc)
 digits1-reads (b ∷ t) r e = by (isDigit b)
-    (λ p. answered-after {other = λ w. some (digits w)} e (λ w. rw (digits1, p)) (λ q. subst (Reads 0 (λ w. some (digits w)) some t) (some-same q) (reads-made (λ w u d. ap some d) (digits-reads t))))
+    (λ p. answered-after {other = λ w. some (digits w)} e (λ w. rw (digits1, p))
+    (λ q. subst (Reads 0 (λ w. some (digits w)) some t) (some-same q) (reads-made (λ w u d. ap some d) (digits-reads t))))
     (λ p. answered-none e (rw (digits1, p)))
 
 pub minus-reads : (t : Text) → Reads 0 minus all t (minus t)
@@ -95,4 +97,5 @@ pub number-reads : EachReads 1 number
 unfolding number
 number-reads t r e =
     bound (int (minus t)) (λ u. frac u >>= exp) e (λ u p q.
-    reads-then {both = number} (reads-then {both = λ w. int (minus w)} (minus-reads t) (int-reads (minus t) u p) (λ w x s. ap int s)) (ends-reads u r q) (λ w x s. rw (number, s)))
+    reads-then {both = number} (reads-then {both = λ w. int (minus w)} (minus-reads t) (int-reads (minus t) u p) (λ w x s. ap int s)) (ends-reads u r q)
+    (λ w x s. rw (number, s)))

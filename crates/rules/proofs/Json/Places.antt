@@ -1,7 +1,7 @@
 -- The laws of readers at a position of a text s: what is left is s from a later position on, and what is spelled stands between the two.
 use mathlib.Core.Path.{_≡_, sym, ap, _∙_}
 use mathlib.Core.Option.{some}
-use mathlib.Core.List.{List, [], _∷_}
+use mathlib.Core.List.{List, _∷_}
 use Prim.Native.Nat.{ℕ, suc, _+_, _-_, _≤_}
 use native.Mathlib.Omega.{arith}
 use lib.ListN.{length, take, drop, length-drop}
@@ -23,7 +23,8 @@ pub record Place (least : ℕ) (s : Text) (i : ℕ) (r : Text) : Type 0 where
   pub from : i + least ≤ at
   pub within : at ≤ length s
 
-pub reads-place : {O : Type 0} {least : ℕ} {read answer : Text → O} (s : Text) (i : ℕ) {r : Text} → i ≤ length s → Reads least read answer (drop i s) r → Place least s i r
+pub reads-place : {O : Type 0} {least : ℕ} {read answer : Text → O} (s : Text) (i : ℕ) {r : Text} → i ≤ length s → Reads least read answer (drop i s) r
+    → Place least s i r
 reads-place s i h k =
     let n : length (k .passed) ≤ length (drop i s) = reads-within k in
     record {
@@ -79,7 +80,8 @@ module _ (s : Text) (i j : ℕ) (h : i + 1 ≤ j) (k : j ≤ length s) where
   -- without the first byte and the last
   pub unquoted-place : (b : ℕ) → drop i s ≡ b ∷ drop (i + 1) s → unquoted (take (j - i) (drop i s)) ≡ take (j - i - 2) (drop (i + 1) s)
   unfolding unquoted
-  unquoted-place b e = ap unquoted (text-cons s i j b e h k) ∙ ap (λ (n : ℕ). take n inner) n ∙ take-take (j - i - 2) (j - (i + 1)) (drop (i + 1) s) (omega arith)
+  unquoted-place b e =
+      ap unquoted (text-cons s i j b e h k) ∙ ap (λ (n : ℕ). take n inner) n ∙ take-take (j - i - 2) (j - (i + 1)) (drop (i + 1) s) (omega arith)
     where
       inner : Text
       inner = take (j - (i + 1)) (drop (i + 1) s)

@@ -89,10 +89,14 @@ behind-member value t = one (byte 0x22 t)
     three name none = refl
     three name (some v) = four name v
 
-    two : (o : Option (Bytes × Text)) → behind {A = Member} (o >>= (λ s. colon (s .1) >>= (λ v. spelled value v >>= (λ p. some ((s .0, p .0), p .1))))) ≡ (behind o >>= (λ r. colon r >>= value))
+    two : (o : Option (Bytes × Text))
+        → behind {A = Member} (o >>= (λ s. colon (s .1) >>= (λ v. spelled value v >>= (λ p. some ((s .0, p .0), p .1)))))
+        ≡ (behind o >>= (λ r. colon r >>= value))
     two none = refl
     two (some s) = three (s .0) (colon (s .1))
 
-    one : (o : Option Text) → behind {A = Member} (o >>= (λ n. string n >>= (λ s. colon (s .1) >>= (λ v. spelled value v >>= (λ p. some ((s .0, p .0), p .1)))))) ≡ (o >>= (λ n. behind (string n) >>= (λ r. colon r >>= value)))
+    one : (o : Option Text)
+        → behind {A = Member} (o >>= (λ n. string n >>= (λ s. colon (s .1) >>= (λ v. spelled value v >>= (λ p. some ((s .0, p .0), p .1))))))
+        ≡ (o >>= (λ n. behind (string n) >>= (λ r. colon r >>= value)))
     one none = refl
     one (some n) = two (string n)

@@ -10,7 +10,8 @@ use Rattle.rules.specs.Bytes.{Bytes, ascii, _>>=_, isEmpty}
 use Rattle.rules.specs.Json.Text.{Text, Reader, Taker, behind, spelled, ws, byte, word}
 use Rattle.rules.specs.Json.Numbers.{number}
 use Rattle.rules.specs.Json.Strings.{unescaped, escaped, utf8, char, chars, string}
-use Rattle.rules.specs.Json.Values.{closed, onward, neither, openedBy, opening, closedBy, closing, andThen, afterItem, items, itemsBehind, list, colon, member, contents, elements, scalar, valueBy, value, alone, objectOf, arrayOf}
+use Rattle.rules.specs.Json.Values.{closed, onward, neither, openedBy, opening, closedBy, closing, andThen, afterItem, items, itemsBehind}
+use Rattle.rules.specs.Json.Values.{list, colon, member, contents, elements, scalar, valueBy, value, alone, objectOf, arrayOf}
 use Rattle.rules.proofs.Json.Suffix.{EachTakes, reads-fewer}
 use Rattle.rules.proofs.Json.StringReads.{char-reads, chars-char, chars-none, string-bound}
 use Rattle.rules.proofs.Json.ValueReads.{closing-onward, items-bound}
@@ -135,7 +136,8 @@ pub elements-list : (read : Reader) (t : Text) → elements read t ≡ list (spe
 unfolding elements
 elements-list read t = refl
 
-pub member-some : (read : Reader) (t : Text) {n r v u : Text} {name : Bytes} → byte 0x22 t ≡ some n → string n ≡ some (name, r) → colon r ≡ some v → read v ≡ some u
+pub member-some : (read : Reader) (t : Text) {n r v u : Text} {name : Bytes} → byte 0x22 t ≡ some n → string n ≡ some (name, r) → colon r ≡ some v
+    → read v ≡ some u
     → member read t ≡ some ((name, take (length v - length u) v), u)
 unfolding member spelled
 member-some read t a b c d = rw (member, a, b, c, spelled, d)

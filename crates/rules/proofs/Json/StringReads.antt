@@ -9,9 +9,11 @@ use lib.Dec.{eqb}
 use lib.ListN.{length}
 use Rattle.rules.specs.Bytes.{Bytes, ascii, _>>=_, guard, among}
 use Rattle.rules.specs.Json.Text.{Text, Reader, Taker, spelled, byte, byteIn, word}
-use Rattle.rules.specs.Json.Strings.{tails, leads, isPlain, multibyte, unescaped, hexDigit, hexDigits, codeUnit, Surrogate, high, low, neither, surrogate, paired, codePoint, utf8, shortEscape, escaped, char, chars, string}
+use Rattle.rules.specs.Json.Strings.{tails, leads, isPlain, multibyte, unescaped, hexDigit, hexDigits, codeUnit, Surrogate, high}
+use Rattle.rules.specs.Json.Strings.{low, neither, surrogate, paired, codePoint, utf8, shortEscape, escaped, char, chars, string}
 use Rattle.rules.proofs.Tests.{apart, by}
-use Rattle.rules.proofs.Json.Suffix.{Reads, EachReads, EachTakes, reads-none, reads-byte, reads-after, reads-as, reads-made, reads-then, reads-least, some-same, bound, taken, answered-byte, answered-none, answered-after, answered-as}
+use Rattle.rules.proofs.Json.Suffix.{Reads, EachReads, EachTakes, reads-none, reads-byte, reads-after, reads-as, reads-made, reads-then}
+use Rattle.rules.proofs.Json.Suffix.{reads-least, some-same, bound, taken, answered-byte, answered-none, answered-after, answered-as}
 use Rattle.rules.proofs.Json.Bounds.{Within, EachWithin, within-reads, within-bound, within-taken, within-last, within-turn}
 use Rattle.rules.proofs.Json.TextReads.{byte-same, byte-other, byte-reads, byteIn-reads, word-reads, spelled-reads}
 

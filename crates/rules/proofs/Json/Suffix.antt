@@ -107,7 +107,12 @@ module _ {O : Type 0} {read answer : Text → O} where
       go [] s n k = absurd (omega (arith, n))
       go (c ∷ p) s n k =
           let same-byte : b ≡ c = cc s in
-          record { passed = c ∷ p; split = s; enough = n; again = λ v j. subst (λ (x : ℕ). read (x ∷ (p ++ v)) ≡ other (x ∷ (p ++ v))) same-byte (f (p ++ v)) ∙ k v j }
+          record {
+            passed = c ∷ p;
+            split = s;
+            enough = n;
+            again = λ v j. subst (λ (x : ℕ). read (x ∷ (p ++ v)) ≡ other (x ∷ (p ++ v))) same-byte (f (p ++ v)) ∙ k v j;
+          }
 
 -- ---- readers from readers
 
@@ -124,7 +129,8 @@ module _ {O P : Type 0} {least : ℕ} {read answer : Text → O} {t r : Text} wh
     passed = h .passed ++ k .passed;
     split = h .split ∙ ap (λ (x : Text). h .passed ++ x) (k .split) ∙ sym (append-assoc (h .passed) (k .passed) u);
     enough = omega (arith, h .enough, k .enough, length-append (h .passed) (k .passed));
-    again = λ v j. ap both (append-assoc (h .passed) (k .passed) v) ∙ f _ _ (h .again (k .passed ++ v) (subst (λ (x : Text). Beside x (k .passed ++ v)) (sym (k .split)) (beside-append (k .passed) j))) ∙ k .again v j;
+    again = λ v j. ap both (append-assoc (h .passed) (k .passed) v)
+        ∙ f _ _ (h .again (k .passed ++ v) (subst (λ (x : Text). Beside x (k .passed ++ v)) (sym (k .split)) (beside-append (k .passed) j))) ∙ k .again v j;
   }
 
 pub reads-least : {O : Type 0} {least most : ℕ} {read answer : Text → O} {t r : Text} → least ≤ most → Reads most read answer t r → Reads least read answer t r

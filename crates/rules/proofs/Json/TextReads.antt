@@ -12,7 +12,8 @@ use lib.Seq.{take-at}
 use Rattle.rules.specs.Bytes.{Bytes, among}
 use Rattle.rules.specs.Json.Text.{Text, Reader, spelled, isWs, ws, byte, byteIn, word}
 use Rattle.rules.proofs.Tests.{apart, by}
-use Rattle.rules.proofs.Json.Suffix.{Reads, EachReads, EachTakes, reads-passed, reads-none, reads-end, reads-here, reads-after, reads-least, some-same, value-same, left-same, bound, taken, answered-byte, answered-none, answered-after}
+use Rattle.rules.proofs.Json.Suffix.{Reads, EachReads, EachTakes, reads-passed, reads-none, reads-end, reads-here, reads-after, reads-least}
+use Rattle.rules.proofs.Json.Suffix.{some-same, value-same, left-same, bound, taken, answered-byte, answered-none, answered-after}
 
 abbrev pub all : Text → Text
 all t = t

@@ -10,9 +10,11 @@ use Rattle.rules.specs.Bytes.{Bytes, ascii, _>>=_}
 use Rattle.rules.specs.Json.Text.{Text, Reader, Taker, behind, spelled, ws, byte, word}
 use Rattle.rules.specs.Json.Numbers.{number}
 use Rattle.rules.specs.Json.Strings.{string}
-use Rattle.rules.specs.Json.Values.{Behind, closed, onward, neither, openedBy, opening, closedBy, closing, andThen, afterItem, items, itemsBehind, list, Member, colon, member, contents, elements, scalar, valueBy, value}
+use Rattle.rules.specs.Json.Values.{Behind, closed, onward, neither, openedBy, opening, closedBy, closing, andThen, afterItem}
+use Rattle.rules.specs.Json.Values.{items, itemsBehind, list, Member, colon, member, contents, elements, scalar, valueBy, value}
 use Rattle.rules.proofs.Tests.{apart, by}
-use Rattle.rules.proofs.Json.Suffix.{Reads, EachReads, EachTakes, reads-byte, reads-after, reads-made, reads-then, reads-least, some-same, bound, taken, answered-after, answered-as}
+use Rattle.rules.proofs.Json.Suffix.{Reads, EachReads, EachTakes, reads-byte, reads-after, reads-made, reads-then}
+use Rattle.rules.proofs.Json.Suffix.{reads-least, some-same, bound, taken, answered-after, answered-as}
 use Rattle.rules.proofs.Json.Bounds.{Within, EachWithin, within-reads, within-bound, within-taken, within-last, within-turn}
 use Rattle.rules.proofs.Json.TextReads.{ws-reads, byte-reads, word-reads, spelled-reads}
 use Rattle.rules.proofs.Json.NumberReads.{number-reads}
@@ -79,9 +81,13 @@ module _ {A : Type 0} (item : Taker A) (close : ℕ) where
       rw (items, p) (ap (λ (z : A × Behind). afterItem (z .0) (z .1) (λ u. items item close n u)) (some-same q)))
 
   module _ (each : EachTakes 1 item) where
-    itemThen-reads : (next : Text → Behind) (x : A) (t r u : Text) → item t ≡ some (x, r) → Reads 1 (closing close) next r u → Reads 1 itemThen (λ v. some (x, next v)) t u
+    itemThen-reads : (next : Text → Behind) (x : A) (t r u : Text) → item t ≡ some (x, r) → Reads 1 (closing close) next r u
+        → Reads 1 itemThen (λ v. some (x, next v)) t u
     unfolding itemThen
-    itemThen-reads next x t r u e h = reads-least (omega arith) (reads-then {both = itemThen} (each x t r e) (reads-made {made = λ w. some (x, closing close w)} (λ w v s. ap (λ c. some (x, c)) s) h) (λ w v s. rw s))
+    itemThen-reads next x t r u e h =
+        reads-least
+        (omega arith)
+        (reads-then {both = itemThen} (each x t r e) (reads-made {made = λ w. some (x, closing close w)} (λ w v s. ap (λ c. some (x, c)) s) h) (λ w v s. rw s))
 
     pub items-within : EachWithin (items item close)
     unfolding items afterItem andThen
@@ -117,14 +123,16 @@ module _ {A : Type 0} (item : Taker A) (close : ℕ) where
 
     pub list-reads : EachTakes 1 (list item close)
     unfolding list opening
-    list-reads xs t r e = reads-then {both = list item close} (ws-reads t) (listBy-reads xs (ws t) r e) (λ w x s. ap (λ u. itemsBehind item close (openedBy close u)) s)
+    list-reads xs t r e =
+        reads-then {both = list item close} (ws-reads t) (listBy-reads xs (ws t) r e) (λ w x s. ap (λ u. itemsBehind item close (openedBy close u)) s)
 
 -- ---- objects and arrays
 
 pub colon-reads : EachReads 1 colon
 unfolding colon
 colon-reads t r e = bound (byte 0x3A (ws t)) _ e (λ u f g.
-    subst (Reads 1 colon some t) (some-same g) (reads-then {both = colon} (reads-then {both = λ w. byte 0x3A (ws w)} (ws-reads t) (byte-reads 0x3A (ws t) u f) (λ w x s. ap (byte 0x3A) s))
+    subst (Reads 1 colon some t) (some-same g) (reads-then {both = colon}
+    (reads-then {both = λ w. byte 0x3A (ws w)} (ws-reads t) (byte-reads 0x3A (ws t) u f) (λ w x s. ap (byte 0x3A) s))
     (reads-made {made = λ w. some (ws w)} (λ w v s. ap some s) (ws-reads u)) (λ w x s. rw (colon, s))))
 
 module _ {value : Reader} (each : EachReads 1 value) where
@@ -175,10 +183,14 @@ pub scalar-reads : EachReads 1 scalar
 unfolding scalar
 scalar-reads [] r e = apart (cc)
 scalar-reads (b ∷ t) r e =
-    by (eqb b 0x22) (λ p. reads-least (omega arith) (answered-after {other = λ w. behind (string w)} e (λ w. rw (scalar, p)) (behind-reads string-reads t r))) (λ p.
-    by (eqb b 0x66) (λ q. reads-least (omega arith) (answered-after {other = word (ascii "alse")} e (λ w. rw (scalar, p, q)) (word-reads (ascii "alse") t r))) (λ q.
-    by (eqb b 0x6E) (λ n. reads-least (omega arith) (answered-after {other = word (ascii "ull")} e (λ w. rw (scalar, p, q, n)) (word-reads (ascii "ull") t r))) (λ n.
-    by (eqb b 0x74) (λ u. reads-least (omega arith) (answered-after {other = word (ascii "rue")} e (λ w. rw (scalar, p, q, n, u)) (word-reads (ascii "rue") t r))) (λ u.
+    by (eqb b 0x22)
+    (λ p. reads-least (omega arith) (answered-after {other = λ w. behind (string w)} e (λ w. rw (scalar, p)) (behind-reads string-reads t r))) (λ p.
+    by (eqb b 0x66)
+    (λ q. reads-least (omega arith) (answered-after {other = word (ascii "alse")} e (λ w. rw (scalar, p, q)) (word-reads (ascii "alse") t r))) (λ q.
+    by (eqb b 0x6E)
+    (λ n. reads-least (omega arith) (answered-after {other = word (ascii "ull")} e (λ w. rw (scalar, p, q, n)) (word-reads (ascii "ull") t r))) (λ n.
+    by (eqb b 0x74)
+    (λ u. reads-least (omega arith) (answered-after {other = word (ascii "rue")} e (λ w. rw (scalar, p, q, n, u)) (word-reads (ascii "rue") t r))) (λ u.
     answered-as {other = number} e (λ w. rw (scalar, p, q, n, u)) (number-reads (b ∷ t) r)))))
 
 valueBy-reads : (object array : Reader) → EachReads 0 object → EachReads 0 array → EachReads 1 (valueBy object array)

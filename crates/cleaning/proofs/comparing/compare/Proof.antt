@@ -1,12 +1,13 @@
 -- `compare` meets its contract: version 0, the checkpoint and the way, in the paper's order.
+use denote.Ref.{now}
 use native.Mathlib.Omega.{arith}
 use borrow.Author.Needs.{needs}
 use mathlib.Core.Path.{subst}
 use Rattle.rules.specs.Live.{mostLive}
-use Rattle.replay.specs.Answers.{ZeroIs}
-use Rattle.history.proofs.Reaching.{bundle-places}
-use Rattle.history.proofs.Walking.{left-same}
-use Rattle.cleaning.proofs.Weighing.{compare-zero, compare-malformed, compare-many, compare-carries, compare-done}
+use Rattle.log_replay.specs.Answers.{ZeroIs}
+use Rattle.log_history.proofs.Reaching.{bundle-places}
+use Rattle.log_history.proofs.Walking.{left-same}
+use Rattle.cleaning.proofs.Weighing.{compare-zero, compare-refused, compare-carries, compare-done}
 use Rattle.cleaning.proofs.comparing.compare.Statement.{statement}
 use Rattle.cleaning.proofs.comparing.compare.Tie as tie
 
@@ -23,7 +24,8 @@ read-file-requires : tie.Need-read-file-requires
 unfolding mostLive
 read-file-requires c κs =
     let d = (subst (ZeroIs _ _) (c .before .before .before .z .given .1) (c .before .before .before .before .before .read-zero .ensures)) in
-    (c .before .nothing-live .ensures .1 _ _ _ (d .2 _ _ (bundle-places _ (c .before .before .before .before .before .before .before .before .before .pre .0)) (omega arith) (c .before .before .before .before .before .before .before .before .before .pre .4)), c .before .before .before .before .before .before .before .before .before .pre .2)
+    let p = c .before .before .before .before .before .before .before .before .before .pre in
+    (c .before .nothing-live .ensures .1 _ _ _ (d .2 _ _ (bundle-places _ (p .0)) (omega arith) (p .4)), p .2)
 
 enum-known-mine : tie.Need-enum-known-mine
 enum-known-mine c = search needs
@@ -31,17 +33,26 @@ enum-known-mine c = search needs
 compare-with-requires : tie.Need-compare-with-requires
 unfolding mostLive
 compare-with-requires c κs =
-    let d = (subst (ZeroIs _ _) (c .before .before .before .before .before .before .before .before .before .before .before .z .given .1) (c .before .before .before .before .before .before .before .before .before .before .before .before .before .read-zero .ensures)) in
-    (c .before .before .before .before .before .before .before .before .before .before .before .before .before .before .before .before .before .pre .0, d .2 _ _ (bundle-places _ (c .before .before .before .before .before .before .before .before .before .before .before .before .before .before .before .before .before .pre .0)) (omega arith) (c .before .before .before .before .before .before .before .before .before .before .before .before .before .before .before .before .before .pre .5), c .before .before .before .before .before .before .before .before .before .before .before .before .before .before .before .before .before .pre .3, compare-carries (c .before .before .before .before .before .before .before .before .before .before .before .before .before .before .before .before .before .args .src .now) (c .before .before .before .before .before .before .before .before .before .before .before .before .before .before .before .before .before .args .zero) (c .before .before .before .before .before .before .before .before .before .before .before .before .before .before .before .before .before .args .k) (c .before .before .before .before .before .before .before .before .before .before .before .before .before .before .before .before .before .args .start) (c .before .before .before .before .before .before .before .before .before .before .before .before .before .before .before .before .before .args .c .0) (c .before .before .before .before .before .before .before .before .before .before .before .z .given .0 .0) (subst (ZeroIs _ _) (c .before .before .before .before .before .before .before .before .before .before .before .z .given .1) (c .before .before .before .before .before .before .before .before .before .before .before .before .before .read-zero .ensures)) (c .before .before .before .before .before .before .before .before .before .nothing-live .result) (c .before .before .before .before .before .before .before .before .before .nothing-live .ensures) (c .before .before .before .before .before .before .before .before .before .before .before .before .before .before .before .before .before .args .one .now) _ (c .before .before .before .before .before .before .before .before .before .before .before .before .before .before .before .before .before .args .two .now) (c .before .before .before .before .before .before .before .read-file .result) (c .before .before .before .before .before .before .before .read-file .ensures) (c .before .before .before .mine .given .0 .0) (c .before .before .before .mine .given .1))
+    let b10 = c .before .before .before .before .before .before .before .before .before .before in
+    let s = b10 .before .before .before .before .before .before .before in
+    let a = s .args in
+    let z = b10 .before .z .given in
+    let d = subst (ZeroIs _ _) (z .1) (b10 .before .before .before .read-zero .ensures) in
+    let empty = c .before .before .before .before .before .before .before .before .before .nothing-live in
+    let f = c .before .before .before .before .before .before .before .read-file in
+    let mine = c .before .before .before .mine .given in (
+      s .pre .0,
+      d .2 _ _ (bundle-places _ (s .pre .0)) (omega arith) (s .pre .5),
+      s .pre .3,
+      compare-carries (now (a .src)) (a .zero) (a .k) (a .start) (a .c .0) (z .0 .0) d (empty .result) (empty .ensures) (now (a .one)) _ (now (a .two))
+          (f .result) (f .ensures) (mine .0 .0) (mine .1),
+    )
 
-enum-known-e : tie.Need-enum-known-e
-enum-known-e c = search needs
+enum-known-x : tie.Need-enum-known-x
+enum-known-x c = search needs
 
-enum-known-e-2 : tie.Need-enum-known-e-2
-enum-known-e-2 c = search needs
-
-enum-known-e-3 : tie.Need-enum-known-e-3
-enum-known-e-3 c = search needs
+enum-known-x-2 : tie.Need-enum-known-x-2
+enum-known-x-2 c = search needs
 
 same-length : tie.Need-same-length
 same-length c = search needs
@@ -51,25 +62,40 @@ same-length-2 c = search needs
 
 returns : tie.Need-returns
 unfolding mostLive
-returns c = compare-done (c .before .before .before .before .before .before .before .before .before .before .before .before .before .before .before .before .before .before .before .before .args .src .now) (c .before .before .before .before .before .before .before .before .before .before .before .before .before .before .before .before .before .before .before .before .args .zero) (c .before .before .before .before .before .before .before .before .before .before .before .before .before .before .before .before .before .before .before .before .args .k) (c .before .before .before .before .before .before .before .before .before .before .before .before .before .before .before .before .before .before .before .before .args .start) (c .before .before .before .before .before .before .before .before .before .before .before .before .before .before .before .before .before .before .before .before .args .c .0) (c .before .before .before .before .before .before .before .before .before .before .before .before .before .before .z .given .0 .0) (subst (ZeroIs _ _) (c .before .before .before .before .before .before .before .before .before .before .before .before .before .before .z .given .1) (c .before .before .before .before .before .before .before .before .before .before .before .before .before .before .before .before .read-zero .ensures)) (c .before .before .before .before .before .before .before .before .before .before .before .before .nothing-live .result) (c .before .before .before .before .before .before .before .before .before .before .before .before .nothing-live .ensures) (c .before .before .before .before .before .before .before .before .before .before .before .before .before .before .before .before .before .before .before .before .args .one .now) _ (c .before .before .before .before .before .before .before .before .before .before .before .before .before .before .before .before .before .before .before .before .args .two .now) (c .before .before .before .before .before .before .before .before .before .before .read-file .result) (c .before .before .before .before .before .before .before .before .before .before .read-file .ensures) (c .before .before .before .before .before .before .mine .given .0 .0) (c .before .before .before .before .before .before .mine .given .1) _ (c .before .before .compare-with .result) (c .before .before .compare-with .ensures)
+returns c =
+    let b10 = c .before .before .before .before .before .before .before .before .before .before in
+    let a = b10 .before .before .before .before .before .before .before .before .before .before .args in
+    let z = b10 .before .before .before .before .z .given in
+    let d = subst (ZeroIs _ _) (z .1) (b10 .before .before .before .before .before .before .read-zero .ensures) in
+    let empty = b10 .before .before .nothing-live in
+    let f = b10 .read-file in
+    let mine = c .before .before .before .before .before .before .mine .given in
+    let w = c .before .before .compare-with in
+    compare-done (now (a .src)) (a .zero) (a .k) (a .start) (a .c .0) (z .0 .0) d (empty .result) (empty .ensures) (now (a .one)) _ (now (a .two))
+    (f .result) (f .ensures) (mine .0 .0) (mine .1) _ (w .result) (w .ensures)
 
 same-length-3 : tie.Need-same-length-3
 same-length-3 c = search needs
 
 returns-2 : tie.Need-returns-2
 unfolding mostLive
-returns-2 c = let d = compare-malformed (c .before .before .before .before .before .before .before .before .before .before .before .before .before .before .before .args .src .now) (c .before .before .before .before .before .before .before .before .before .before .before .before .before .before .before .args .zero) (c .before .before .before .before .before .before .before .before .before .before .before .before .before .before .before .args .k) (c .before .before .before .before .before .before .before .before .before .before .before .before .before .before .before .args .start) (c .before .before .before .before .before .before .before .before .before .before .before .before .before .before .before .args .c .0) (c .before .before .before .before .before .before .before .before .before .z .given .0 .0) (subst (ZeroIs _ _) (c .before .before .before .before .before .before .before .before .before .z .given .1) (c .before .before .before .before .before .before .before .before .before .before .before .read-zero .ensures)) (c .before .before .before .before .before .before .before .nothing-live .result) (c .before .before .before .before .before .before .before .nothing-live .ensures) (c .before .before .before .before .before .before .before .before .before .before .before .before .before .before .before .args .one .now) _ (c .before .before .before .before .before .before .before .before .before .before .before .before .before .before .before .args .two .now) (c .before .before .before .before .before .read-file .result) (c .before .before .before .before .before .read-file .ensures) _ _ (c .before .e .given .1) in (d .0, d .1, left-same)
-
-same-length-4 : tie.Need-same-length-4
-same-length-4 c = search needs
+returns-2 c =
+    let b10 = c .before .before .before .before .before .before .before .before .before .before in
+    let a = b10 .before .before .before .before .before .args in
+    let z = c .before .before .before .before .before .before .before .before .before .z .given in
+    let d = subst (ZeroIs _ _) (z .1) (b10 .before .read-zero .ensures) in
+    let empty = c .before .before .before .before .before .before .before .nothing-live in
+    let f = c .before .before .before .before .before .read-file in
+    let r = compare-refused (now (a .src)) (a .zero) (a .k) (a .start) (a .c .0) (z .0 .0) d (empty .result) (empty .ensures) (now (a .one)) _ (now (a .two))
+    (f .result) (f .ensures) _ (c .before .x .given .1) in
+    (r .0, r .1, left-same)
 
 returns-3 : tie.Need-returns-3
 unfolding mostLive
-returns-3 c = let d = compare-many (c .before .before .before .before .before .before .before .before .before .before .before .before .before .before .before .args .src .now) (c .before .before .before .before .before .before .before .before .before .before .before .before .before .before .before .args .zero) (c .before .before .before .before .before .before .before .before .before .before .before .before .before .before .before .args .k) (c .before .before .before .before .before .before .before .before .before .before .before .before .before .before .before .args .start) (c .before .before .before .before .before .before .before .before .before .before .before .before .before .before .before .args .c .0) (c .before .before .before .before .before .before .before .before .before .z .given .0 .0) (subst (ZeroIs _ _) (c .before .before .before .before .before .before .before .before .before .z .given .1) (c .before .before .before .before .before .before .before .before .before .before .before .read-zero .ensures)) (c .before .before .before .before .before .before .before .nothing-live .result) (c .before .before .before .before .before .before .before .nothing-live .ensures) (c .before .before .before .before .before .before .before .before .before .before .before .before .before .before .before .args .one .now) _ (c .before .before .before .before .before .before .before .before .before .before .before .before .before .before .before .args .two .now) (c .before .before .before .before .before .read-file .result) (c .before .before .before .before .before .read-file .ensures) _ _ (c .before .e2 .given .1) in (d .0, d .1, left-same)
-
-returns-4 : tie.Need-returns-4
-unfolding mostLive
-returns-4 c = (compare-zero (c .before .before .before .before .before .before .before .args .src .now) (c .before .before .before .before .before .before .before .args .zero) (c .before .before .before .before .before .before .before .args .k) (c .before .before .before .before .before .before .before .args .start) (c .before .before .before .before .before .before .before .args .c .0) _ _ (c .before .before .before .read-zero .result) (c .before .e3 .given .1) (c .before .before .before .read-zero .ensures), left-same, left-same)
+returns-3 c =
+    let a = c .before .before .before .before .before .before .before .args in
+    let r = c .before .before .before .read-zero in
+    (compare-zero (now (a .src)) (a .zero) (a .k) (a .start) (a .c .0) _ (r .result) (c .before .x2 .given .1) (r .ensures), left-same, left-same)
 
 pub compare-spec : {M : Type 1} → statement M
 compare-spec =
@@ -81,14 +107,11 @@ compare-spec =
     read-file-requires
     enum-known-mine
     compare-with-requires
-    enum-known-e
-    enum-known-e-2
-    enum-known-e-3
+    enum-known-x
+    enum-known-x-2
     same-length
     same-length-2
     returns
     same-length-3
     returns-2
-    same-length-4
-    returns-3
-    returns-4)
+    returns-3)

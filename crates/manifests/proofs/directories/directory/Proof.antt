@@ -7,7 +7,7 @@ use lib.ListN.{length}
 use borrow.Author.Needs.{needs}
 use Rattle.rules.specs.Bytes.{ascii}
 use Rattle.manifests.specs.Slashes.{SlashIs}
-use Rattle.manifests.proofs.Slashes.{directory-slashless, directory-manifests, directory-state, directory-other}
+use Rattle.rules.proofs.Slashes.{directory-slashless, directory-manifests, directory-state, directory-other}
 use Rattle.manifests.proofs.directories.directory.Statement.{statement}
 use Rattle.manifests.proofs.directories.directory.Tie as tie
 
@@ -31,14 +31,16 @@ begins-with-requires c κs = search needs
 
 slice-aggregate-result : tie.Need-slice-aggregate-result
 slice-aggregate-result c =
-    let s = subst (SlashIs _) (c .before .before .before .before .before .i .given .1) (c .before .before .before .before .before .before .before .last-slash .ensures) in
-    let l : c .before .before .before .before .before .i .given .0 .0 < length (c .before .before .before .before .before .before .before .before .before .before .args .path .now) = s .within in
+    let i = c .before .before .before .before .before .i .given in
+    let s = subst (SlashIs _) (i .1) (c .before .before .before .before .before .before .before .last-slash .ensures) in
+    let l : i .0 .0 < length (c .before .before .before .before .before .before .before .before .before .before .args .path .now) = s .within in
     sym (length-take-le _ _ (omega arith))
 
 returns-2 : tie.Need-returns-2
 unfolding ascii
 returns-2 c =
-    let s = subst (SlashIs _) (c .before .before .before .before .before .i .given .1) (c .before .before .before .before .before .before .before .last-slash .ensures) in
+    let s = subst (SlashIs _) (c .before .before .before .before .before .i .given .1)
+    (c .before .before .before .before .before .before .before .last-slash .ensures) in
     sym (directory-manifests _ _ (sym (c .before .before .begins-with .ensures) ∙ c .before .if1 .taken) ∙ s .before)
 
 slice-aggregate-begins-with-2 : tie.Need-slice-aggregate-begins-with-2
@@ -49,19 +51,25 @@ begins-with-requires-2 c κs = search needs
 
 slice-aggregate-result-2 : tie.Need-slice-aggregate-result-2
 slice-aggregate-result-2 c =
-    let s = subst (SlashIs _) (c .before .before .before .before .before .before .before .before .i .given .1) (c .before .before .before .before .before .before .before .before .before .before .last-slash .ensures) in
-    let l : c .before .before .before .before .before .before .before .before .i .given .0 .0 < length (c .before .before .before .before .before .before .before .before .before .before .before .before .before .args .path .now) = s .within in
+    let i = c .before .before .before .before .before .before .before .before .i .given in
+    let args = c .before .before .before .before .before .before .before .before .before .before .before .before .before .args in
+    let s = subst (SlashIs _) (i .1) (c .before .before .before .before .before .before .before .before .before .before .last-slash .ensures) in
+    let l : i .0 .0 < length (args .path .now) = s .within in
     sym (length-take-le _ _ (omega arith))
 
 returns-3 : tie.Need-returns-3
 unfolding ascii
 returns-3 c =
-    let s = subst (SlashIs _) (c .before .before .before .before .before .before .before .before .i .given .1) (c .before .before .before .before .before .before .before .before .before .before .last-slash .ensures) in
+    let i = c .before .before .before .before .before .before .before .before .i .given in
+    let last-slash = c .before .before .before .before .before .before .before .before .before .before .last-slash in
+    let s = subst (SlashIs _) (i .1) (last-slash .ensures) in
     sym (directory-state _ _ (sym (c .before .before .begins-with2 .ensures) ∙ c .before .if2 .taken) (s .held) ∙ s .before)
 
 returns-4 : tie.Need-returns-4
 unfolding ascii
-returns-4 c = sym (directory-other _ _ (sym (c .before .before .before .before .begins-with .ensures) ∙ c .before .before .before .if1 .left) (sym (c .before .begins-with2 .ensures) ∙ c .if2 .left))
+returns-4 c =
+    sym (directory-other _ _ (sym (c .before .before .before .before .begins-with .ensures) ∙ c .before .before .before .if1 .left)
+    (sym (c .before .begins-with2 .ensures) ∙ c .if2 .left))
 
 pub directory-spec : {M : Type 1} → statement M
 directory-spec =

@@ -9,8 +9,6 @@ use Rattle.manifests.proofs.Slashes.{slashed-at, slash-not-at}
 use native.Mathlib.Omega.{arith}
 use Rattle.manifests.proofs.directories.last_slash.Statement.{statement}
 use Rattle.manifests.proofs.directories.last_slash.Tie as tie
-use Rattle.manifests.proofs.directories.last_slash.Reads as reads
-use Rattle.manifests.proofs.directories.last_slash.Lts as lts
 
 abbrev Inv-loop : tie.InvT-loop
 Inv-loop path end₀ end = (end ≤ length path) × (hasSlash (drop end path) ≡ false)
@@ -18,38 +16,37 @@ Inv-loop path end₀ end = (end ≤ length path) × (hasSlash (drop end path) �
 abbrev μ-loop : tie.MeasureT-loop
 μ-loop path end₀ end = end
 
--- src/directories.rt:18:5
 loop-holds : tie.Need-loop-holds Inv-loop μ-loop
 unfolding hasSlash
 loop-holds c = (omega arith, ap hasSlash (drop-length (c .args .path .now)))
 
--- src/directories.rt:19:17
 sub-i : tie.Need-sub-i Inv-loop μ-loop
 sub-i c = omega arith
 
--- src/directories.rt:20:12
 shared-slice-read-if1 : tie.Need-shared-slice-read-if1 Inv-loop μ-loop
 shared-slice-read-if1 c = omega arith
 
--- src/directories.rt:21:13
 returns : tie.Need-returns Inv-loop μ-loop
 unfolding slash
 returns c =
-    let e : c .before .before .before .loop .end ≡ c .before .before .before .loop .end - 1 + 1 = omega arith in
-    slashed-at (c .before .before .before .before .args .path .now) (c .before .before .before .loop .end - 1) (omega arith) (sym (ap (λ n. hasSlash (drop n (c .before .before .before .before .args .path .now))) e) ∙ c .before .before .before .loop .inv .1) (c .if1 .taken)
+    let loop = c .before .before .before .loop in
+    let args = c .before .before .before .before .args in
+    let e : loop .end ≡ loop .end - 1 + 1 = omega arith in
+    slashed-at (args .path .now) (loop .end - 1) (omega arith) (sym (ap (λ n. hasSlash (drop n (args .path .now))) e) ∙ loop .inv .1) (c .if1 .taken)
 
--- src/directories.rt:18:5
 loop-less : tie.Need-loop-less Inv-loop μ-loop
 loop-less c = omega arith
 
--- src/directories.rt:18:5
 loop-again : tie.Need-loop-again Inv-loop μ-loop
 unfolding slash
 loop-again c =
-    let e : c .before .before .before .loop .end ≡ c .before .before .before .loop .end - 1 + 1 = omega arith in
-    (omega arith, slash-not-at (c .before .before .before .before .args .path .now) (c .before .before .before .loop .end - 1) (omega arith) (sym (ap (λ n. hasSlash (drop n (c .before .before .before .before .args .path .now))) e) ∙ c .before .before .before .loop .inv .1) (c .if1 .left))
+    let loop = c .before .before .before .loop in
+    let args = c .before .before .before .before .args in
+    let e : loop .end ≡ loop .end - 1 + 1 = omega arith in (
+      omega arith,
+      slash-not-at (args .path .now) (loop .end - 1) (omega arith) (sym (ap (λ n. hasSlash (drop n (args .path .now))) e) ∙ loop .inv .1) (c .if1 .left),
+    )
 
--- src/directories.rt:14:1
 returns-2 : tie.Need-returns-2 Inv-loop μ-loop
 returns-2 c =
     let e : c .before .loop .end ≡ 0 = omega arith in

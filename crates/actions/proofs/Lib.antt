@@ -1,3 +1,0 @@
-pub mod Lines
-pub mod Assembled
-pub mod Usual

@@ -1,3 +1,0 @@
--- What the functions over lines promise, in the rules' terms.
-pub mod Line
-pub mod Begun

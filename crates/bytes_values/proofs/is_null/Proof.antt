@@ -1,0 +1,19 @@
+-- `is_null`: the word is the rules'.
+use Rattle.rules.specs.Bytes.{ascii}
+use Rattle.rules.specs.Json.Fields.{isNull}
+use borrow.Author.Needs.{needs}
+use Rattle.bytes_values.proofs.is_null.Statement.{statement}
+use Rattle.bytes_values.proofs.is_null.Tie as tie
+
+slice-aggregate-same-bytes : tie.Need-slice-aggregate-same-bytes
+slice-aggregate-same-bytes c = search needs
+
+same-bytes-requires : tie.Need-same-bytes-requires
+same-bytes-requires c κs = search needs
+
+returns : tie.Need-returns
+unfolding isNull ascii
+returns c = c .same-bytes .ensures
+
+pub is-null-spec : {M : Type 1} → statement M
+is-null-spec = tie.close (tie.spec slice-aggregate-same-bytes same-bytes-requires returns)

@@ -1,4 +1,0 @@
-pub mod Tails
-pub mod Inside
-pub mod Runs
-pub mod Alone

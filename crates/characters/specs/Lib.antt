@@ -1,3 +1,0 @@
--- What the scanners of characters promise, in the rules' terms.
-pub mod Leading
-pub mod Runs

@@ -1,4 +1,0 @@
-pub mod Naming
-pub mod Making
-pub mod Placing
-pub mod Numbered

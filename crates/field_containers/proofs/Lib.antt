@@ -1,0 +1,12 @@
+-- Laws of strings at positions of an array, of features, columns and partition values; the proofs of the functions cite them.
+pub mod Elements
+pub mod Collecting
+pub mod Walking
+pub mod Alone
+pub mod Valued
+pub mod Placed
+pub mod Partitions
+pub mod Few
+pub mod Arrays
+pub mod Stated
+pub mod Pairs

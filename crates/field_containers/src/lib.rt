@@ -1,0 +1,18 @@
+// Fields that hold others: arrays of strings, partition values, features, columns.
+mod features;
+mod lists;
+mod nested;
+
+pub use features::Features;
+pub use features::all_known;
+pub use features::features_in;
+pub use lists::Strings;
+pub use lists::distinct_strings;
+pub use lists::holds_string;
+pub use lists::strings_in;
+pub use nested::Array;
+pub use nested::Columns;
+pub use nested::IN_FIELD;
+pub use nested::Values;
+pub use nested::columns_in;
+pub use nested::values_in;

@@ -1,2 +1,0 @@
--- The crate's answers in the rules' terms.
-pub mod Ends

@@ -1,2 +1,0 @@
--- Laws of what drops a manifest; the proofs of the functions cite them.
-pub mod Excluding

@@ -1,2 +1,0 @@
--- What a query says of one manifest, in the rules' terms.
-pub mod Verdicts

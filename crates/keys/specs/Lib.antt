@@ -1,2 +1,0 @@
--- What the functions over names promise, in the rules' terms.
-pub mod Spelled

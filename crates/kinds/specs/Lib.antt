@@ -1,3 +1,0 @@
--- The names of each kind of object, in the rules' terms.
-pub mod Kinds
-pub mod Known

@@ -1,0 +1,4 @@
+pub mod Lines
+pub mod Assembled
+pub mod Usual
+pub mod Sole

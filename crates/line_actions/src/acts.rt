@@ -1,0 +1,132 @@
+// Actions by the fields of their objects.
+use crate::line::Action;
+use crate::line::Added;
+use crate::line::Stated;
+use bytes_values::Truth;
+use bytes_values::Whole;
+use field_containers::Columns;
+use field_containers::Features;
+use field_containers::Values;
+use field_objects::Fields;
+use field_scalars::Path;
+use field_scalars::Records;
+ghost use mathlib.Core.Path.{_≡_};
+ghost use Rattle.rules.specs.Actions.{action};
+ghost use Rattle.line_actions.specs.Begun.{Lined};
+ghost use Rattle.field_scalars.specs.Counts.{isBool, isKnown};
+ghost use Rattle.line_actions.specs.Line.{ActionIs};
+
+fn is_bool(t: Truth) -> bool
+    ensures { λ r. ⌜ r ≡ isBool t ⌝ }
+{
+    match t {
+        Truth::True => true,
+        Truth::False => true,
+        Truth::NotBool => false,
+    }
+}
+
+fn is_known(n: Records) -> bool
+    ensures { λ r. ⌜ r ≡ isKnown n ⌝ }
+{
+    match n {
+        Records::Number(_) => true,
+        Records::Missing => true,
+        Records::Bad => false,
+    }
+}
+
+// The facts of the file that is added.
+pub fn add_in(s: &[u8], f: Fields) -> Action
+    requires { ⌜ Lined (now s) 0 f ⌝ }
+    ensures { λ r. ⌜ ActionIs (action (now (s .entry))) (now (s .entry)) r ⌝ }
+{
+    let place = f.slots[0];
+    let start = place.start;
+    let close = place.end;
+    let Path::Spelled(_) = field_scalars::path_in(s, place) else {
+        return Action::Malformed;
+    };
+    let Whole::Number(size) = field_scalars::whole_in(s, f.slots[1]) else {
+        return Action::Malformed;
+    };
+    let Whole::Number(time) = field_scalars::whole_in(s, f.slots[2]) else {
+        return Action::Malformed;
+    };
+    let change = field_scalars::truth_in(s, f.slots[3]);
+    if is_bool(change) {
+        let Values::Behind(values) = field_containers::values_in(s, f.slots[4]) else {
+            return Action::Malformed;
+        };
+        let records = field_scalars::records_in(s, f.slots[5]);
+        if is_known(records) {
+            return Action::Add(Added {
+                path: start + 1,
+                end: close - 1,
+                size,
+                time,
+                records,
+                values,
+            });
+        }
+        return Action::Malformed;
+    }
+    Action::Malformed
+}
+
+// The path of the file that is removed.
+pub fn remove_in(s: &[u8], f: Fields) -> Action
+    requires { ⌜ Lined (now s) 1 f ⌝ }
+    ensures { λ r. ⌜ ActionIs (action (now (s .entry))) (now (s .entry)) r ⌝ }
+{
+    let place = f.slots[0];
+    let Path::Spelled(p) = field_scalars::path_in(s, place) else {
+        return Action::Malformed;
+    };
+    Action::Remove(p)
+}
+
+// The numbers and the features of a protocol.
+pub fn protocol_in(s: &[u8], f: Fields) -> Action
+    requires { ⌜ Lined (now s) 2 f ⌝ }
+    ensures { λ r. ⌜ ActionIs (action (now (s .entry))) (now (s .entry)) r ⌝ }
+{
+    let Whole::Number(reader) = field_scalars::version_in(s, f.slots[0]) else {
+        return Action::Malformed;
+    };
+    let Whole::Number(writer) = field_scalars::version_in(s, f.slots[1]) else {
+        return Action::Malformed;
+    };
+    let Features::Listed(readers, readable) = field_containers::features_in(s, f.slots[2], false)
+    else {
+        return Action::Malformed;
+    };
+    let Features::Listed(writers, writable) = field_containers::features_in(s, f.slots[3], true)
+    else {
+        return Action::Malformed;
+    };
+    Action::Protocol(Stated {
+        reader,
+        writer,
+        reader_known: readable,
+        writer_known: writable,
+        reader_features: readers,
+        writer_features: writers,
+    })
+}
+
+// The partition columns of a table.
+pub fn meta_data_in(s: &[u8], f: Fields) -> Action
+    requires { ⌜ Lined (now s) 3 f ⌝ }
+    ensures { λ r. ⌜ ActionIs (action (now (s .entry))) (now (s .entry)) r ⌝ }
+{
+    let id = f.slots[0];
+    if field_scalars::some_string_in(s, id) {
+        let columns = f.slots[1];
+        let Columns::Within(at) = field_containers::columns_in(s, columns) else {
+            return Action::Malformed;
+        };
+        return Action::MetaData(at);
+    }
+    Action::Malformed
+}

@@ -1,2 +1,0 @@
--- What the functions over arrays of strings promise, in the rules' terms.
-pub mod Strung

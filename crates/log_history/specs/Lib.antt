@@ -1,0 +1,3 @@
+-- The crate's answers in the rules' terms.
+pub mod Ends
+pub mod Answers

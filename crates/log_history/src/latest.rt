@@ -1,0 +1,76 @@
+// The state of a log at its latest version. The checkpoint that the marker names is read once: that its lines are read to the end shows
+// that it is a start, and what they give is where the version files behind it go on from.
+use crate::history;
+use bytes_values::Whole;
+use file_names::Version;
+use log_files::Place;
+use log_replay::Outcome;
+use log_replay::State;
+use rooms::MOST_LIVE;
+ghost use mathlib.Core.Path.{_≡_};
+ghost use Rattle.rules.specs.Bundle.{IsBundle};
+ghost use Rattle.rules.specs.Live.{mostLive};
+ghost use Rattle.row_table.specs.Table.{Room};
+ghost use Rattle.log_history.specs.Answers.{Named, Begun, LatestIs};
+
+// The latest version, and the state there or a refusal.
+pub struct Latest {
+    pub version: Version,
+    pub reached: Outcome,
+}
+
+// By the start that a search from the latest version downward finds.
+fn by_search(src: &[u8], t: &mut [u64]) -> Latest
+    requires { ⌜ IsBundle (now src) × Room mostLive (now t) ⌝ }
+    ensures { λ r. ⌜ LatestIs (now (src .entry)) (now (t .entry)) (now (t .exit)) r ⌝ }
+{
+    let version = log_starts::latest(src);
+    let reached = history::state_at(src, version, t);
+    Latest { version, reached }
+}
+
+// From the checkpoint of entry k at version n, which gave st, unless a higher start reaches the latest version.
+fn from_checkpoint(src: &[u8], k: usize, n: Version, st: State, t: &mut [u64]) -> Latest
+    requires { ⌜ IsBundle (now src) × Begun (now src) k (n .0) st (now t) ⌝ }
+    ensures { λ r. ⌜ LatestIs (now (src .entry)) (now (t .entry)) (now (t .exit)) r ⌝ }
+{
+    let version = log_starts::climb(src, n, k);
+    if log_starts::passes(src, n, version, k) {
+        let reached = history::onward(src, st, n, version, k, t, MOST_LIVE);
+        return Latest { version, reached };
+    }
+    let reached = history::state_at(src, version, t);
+    Latest { version, reached }
+}
+
+// By the checkpoint of entry k at version n, which the marker names, where version 0 gave z.
+fn by_checkpoint(src: &[u8], z: State, k: usize, n: Version, t: &mut [u64]) -> Latest
+    requires { ⌜ IsBundle (now src) × Room mostLive (now t) × Named (now src) z k (n .0) ⌝ }
+    ensures { λ r. ⌜ LatestIs (now (src .entry)) (now (t .entry)) (now (t .exit)) r ⌝ }
+{
+    let empty = log_replay::nothing_live(z);
+    match log_replay::read_file(src, k, empty, t, MOST_LIVE) {
+        Outcome::Done(st) => from_checkpoint(src, k, n, st, t),
+        Outcome::Refused(_) => by_search(src, t),
+    }
+}
+
+// The latest version of the well-formed bundle src, and the state there, read into the table t; or refusal 4, 5, 6 or 7.
+pub fn state_at_latest(src: &[u8], t: &mut [u64]) -> Latest
+    requires { ⌜ IsBundle (now src) × Room mostLive (now t) ⌝ }
+    ensures { λ r. ⌜ LatestIs (now (src .entry)) (now (t .entry)) (now (t .exit)) r ⌝ }
+{
+    let Whole::Number(n) = log_starts::named(src) else {
+        return by_search(src, t);
+    };
+    let Place::At(k) = log_files::checkpoint_file(src, Version(n), 0) else {
+        return by_search(src, t);
+    };
+    let Place::At(f) = log_files::version_file(src, Version(0), 0) else {
+        return by_search(src, t);
+    };
+    match log_replay::read_zero(src, f) {
+        Outcome::Done(z) => by_checkpoint(src, z, k, Version(n), t),
+        Outcome::Refused(_) => by_search(src, t),
+    }
+}

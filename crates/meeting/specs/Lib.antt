@@ -1,2 +1,0 @@
--- What a condition says of values, in the rules' terms.
-pub mod Between

@@ -1,2 +1,0 @@
--- Laws of members by their names.
-pub mod Going

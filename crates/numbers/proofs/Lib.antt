@@ -1,2 +1,0 @@
--- The laws that the proofs here cite beside those of crate `text`.
-pub mod Eights

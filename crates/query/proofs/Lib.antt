@@ -1,3 +1,0 @@
-pub mod Fusing
-pub mod Columns
-pub mod Gathering

@@ -1,0 +1,2 @@
+-- What the picking of rows leaves, in the rules' terms.
+pub mod Picked

@@ -1,2 +1,0 @@
--- What a scan of a string promises, in the rules' terms.
-pub mod Scanned

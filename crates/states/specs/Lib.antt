@@ -1,5 +1,0 @@
--- What the functions over state manifests promise, in the rules' terms.
-pub mod Objects
-pub mod Ranges
-pub mod Tables
-pub mod States

@@ -1,2 +1,0 @@
--- What the scanners of text promise, in the rules' terms.
-pub mod Answers

@@ -1,5 +1,0 @@
--- The laws that the proofs of the functions cite, and those for callers.
-pub mod Words
-pub mod Decimals
-pub mod Wholes
-pub mod Back

@@ -1,2 +1,0 @@
--- What the words of a condition say, in the rules' terms.
-pub mod Words
