@@ -68,7 +68,7 @@ extern "C" {
 #define KERUMPASE_ROW 4
 
 /* Bytes of stack that are enough for any call; tools/stack holds the library to it. */
-#define KERUMPASE_STACK 10240
+#define KERUMPASE_STACK 8192
 
 /* The refusals. Those of an entry are named with it; kerumpase_words.h has a text for each. */
 typedef enum kerumpase_refusal {

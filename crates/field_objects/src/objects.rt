@@ -107,12 +107,14 @@ pub fn scan(s: &[u8], at: usize, kind: Kind, depth: usize) -> Fields
         end: 0,
     }; 8];
     match json_values::opening(s, at, CLOSE_BRACE) {
-        Tail::Neither => no_fields(),
-        Tail::Closed(end) => Fields {
-            good: true,
-            end,
-            slots,
-        },
+        Tail::Neither => return no_fields(),
+        Tail::Closed(end) => {
+            return Fields {
+                good: true,
+                end,
+                slots,
+            };
+        }
         Tail::More(first) => {
             let mut i = first;
             loop {

@@ -1,4 +1,5 @@
 pub mod Names
+pub mod Numbers
 pub mod Turns
 pub mod Wholes
 pub mod Examples

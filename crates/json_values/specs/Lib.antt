@@ -1,2 +1,3 @@
 pub mod Follows
+pub mod Numbered
 pub mod Whole

@@ -1,4 +1,5 @@
 // The grammar of JSON (RFC 8259) over a lent text: values, objects and arrays, read at a position; each answers the position behind what it read.
+// The four that call each other answer it as a plain number, in a register, and 0 where there is none: no position behind something is 0.
 use json_characters::plain_end;
 use json_characters::skip_string;
 use json_tokens::CLOSE_BRACE;
@@ -19,8 +20,8 @@ ghost use lib.ListN.{length, drop, getD};
 ghost use Rattle.rules.specs.Json.Text.{behind};
 ghost use Rattle.rules.specs.Json.Values.{opening as rOpening, closing as rClosing, colon, member, contents, elements, scalar, value as rValue};
 ghost use Rattle.json_tokens.specs.Answers.{Answer};
-ghost use Rattle.json_tokens.specs.declared.tokens.Next.the-variants.{At};
 ghost use Rattle.json_values.specs.Follows.{Follows};
+ghost use Rattle.json_values.specs.Numbered.{Found, Numbered};
 ghost use Rattle.json_values.specs.Whole.{name, isJson};
 
 // What stands behind the byte that opens a container, or behind one of its items: the closing byte, one more item, or neither.
@@ -94,7 +95,7 @@ pub fn skip_name(s: &[u8], at: usize) -> Next
 // Where the member at `at` ends, where it is two strings of plain bytes and a colon, as most are; else 0.
 fn plain_member(s: &[u8], at: usize) -> usize
     requires { ⌜ at ≤ length (now s) ⌝ }
-    ensures { λ r. ⌜ (0 < r → (depth : ℕ) → Answer (behind (member (rValue depth) (drop at (now (s .entry))))) (now (s .entry)) (at + 1) (At r)) ⌝ }
+    ensures { λ r. ⌜ ((depth : ℕ) → Found (behind (member (rValue depth) (drop at (now (s .entry))))) (now (s .entry)) (at + 1) r) ⌝ }
 {
     let Next::At(i) = skip_byte(s, at, QUOTE) else {
         return 0;
@@ -143,68 +144,66 @@ pub fn skip_scalar(s: &[u8], at: usize) -> Next
     }
 }
 
-// A value inside of a container: objects and arrays nest in it at most `depth` deep.
-fn value_within(s: &[u8], at: usize, depth: usize) -> Next
+// A value inside of a container: objects and arrays nest in it at most `depth` deep. The position behind it, or 0 where there is none.
+fn value_within(s: &[u8], at: usize, depth: usize) -> usize
     requires { ⌜ at ≤ length (now s) ⌝ }
-    ensures { λ r. ⌜ Answer (rValue depth (drop at (now (s .entry)))) (now (s .entry)) (at + 1) r ⌝ }
+    ensures { λ r. ⌜ Numbered (rValue depth (drop at (now (s .entry)))) (now (s .entry)) (at + 1) r ⌝ }
 {
     if s.len() <= at {
-        return Next::Bad;
+        return 0;
     }
     let b = s[at];
     if b == OPEN_BRACE {
         if depth == 0 { // too deep for an object
-            return Next::Bad;
+            return 0;
         }
         return object(s, at + 1, depth - 1);
     }
     if b == OPEN_BRACKET {
         if depth == 0 { // too deep for an array
-            return Next::Bad;
+            return 0;
         }
         return array(s, at + 1, depth - 1);
     }
-    let Next::At(end) = skip_scalar(s, at) else { // the answer is made anew, not copied with its padding
-        return Next::Bad;
+    let Next::At(end) = skip_scalar(s, at) else {
+        return 0;
     };
-    Next::At(end)
+    end
 }
 
-// A member: its name, the colon and its value, in which objects and arrays nest at most `depth` deep.
-fn skip_member(s: &[u8], at: usize, depth: usize) -> Next
+// A member: its name, the colon and its value, in which objects and arrays nest at most `depth` deep. The position behind it, or 0.
+fn skip_member(s: &[u8], at: usize, depth: usize) -> usize
     requires { ⌜ at ≤ length (now s) ⌝ }
-    ensures { λ r. ⌜ Answer (behind (member (rValue depth) (drop at (now (s .entry))))) (now (s .entry)) (at + 1) r ⌝ }
+    ensures { λ r. ⌜ Numbered (behind (member (rValue depth) (drop at (now (s .entry))))) (now (s .entry)) (at + 1) r ⌝ }
 {
     let end = plain_member(s, at);
     if 0 < end {
-        return Next::At(end);
+        return end;
     }
     let Next::At(v) = skip_name(s, at) else {
-        return Next::Bad;
+        return 0;
     };
-    let Next::At(j) = value_within(s, v, depth) else {
-        return Next::Bad;
-    };
-    Next::At(j)
+    value_within(s, v, depth)
 }
 
-// Behind the opening brace: the members of an object, whose values nest at most `depth` deep, and its closing brace.
-pub fn object(s: &[u8], at: usize, depth: usize) -> Next
+// Behind the opening brace: the members of an object, whose values nest at most `depth` deep, and its closing brace. The position behind that, or 0.
+fn object(s: &[u8], at: usize, depth: usize) -> usize
     requires { ⌜ at ≤ length (now s) ⌝ }
-    ensures { λ r. ⌜ Answer (behind (contents (rValue depth) (drop at (now (s .entry))))) (now (s .entry)) (at + 1) r ⌝ }
+    ensures { λ r. ⌜ Numbered (behind (contents (rValue depth) (drop at (now (s .entry))))) (now (s .entry)) (at + 1) r ⌝ }
 {
     match opening(s, at, CLOSE_BRACE) {
-        Tail::Neither => Next::Bad,
-        Tail::Closed(end) => Next::At(end),
+        Tail::Neither => 0,
+        Tail::Closed(end) => end,
         Tail::More(first) => {
             let mut i = first;
             loop {
-                let Next::At(j) = skip_member(&s[0..], i, depth) else { // `&s[0..]` on purpose: it stays in registers (docs/PERFORMANCE-HISTORY.md)
-                    return Next::Bad;
-                };
+                let j = skip_member(&s[0..], i, depth); // `&s[0..]` on purpose: it stays in registers (docs/PERFORMANCE-HISTORY.md)
+                if j == 0 {
+                    return 0;
+                }
                 match closing(s, j, CLOSE_BRACE) {
-                    Tail::Neither => return Next::Bad,
-                    Tail::Closed(end) => return Next::At(end),
+                    Tail::Neither => return 0,
+                    Tail::Closed(end) => return end,
                     Tail::More(k) => i = k,
                 }
             }
@@ -212,23 +211,24 @@ pub fn object(s: &[u8], at: usize, depth: usize) -> Next
     }
 }
 
-// Behind the opening bracket: the values of an array, which nest at most `depth` deep, and its closing bracket.
-pub fn array(s: &[u8], at: usize, depth: usize) -> Next
+// Behind the opening bracket: the values of an array, which nest at most `depth` deep, and its closing bracket. The position behind that, or 0.
+fn array(s: &[u8], at: usize, depth: usize) -> usize
     requires { ⌜ at ≤ length (now s) ⌝ }
-    ensures { λ r. ⌜ Answer (behind (elements (rValue depth) (drop at (now (s .entry))))) (now (s .entry)) (at + 1) r ⌝ }
+    ensures { λ r. ⌜ Numbered (behind (elements (rValue depth) (drop at (now (s .entry))))) (now (s .entry)) (at + 1) r ⌝ }
 {
     match opening(s, at, CLOSE_BRACKET) {
-        Tail::Neither => Next::Bad,
-        Tail::Closed(end) => Next::At(end),
+        Tail::Neither => 0,
+        Tail::Closed(end) => end,
         Tail::More(first) => {
             let mut i = first;
             loop {
-                let Next::At(j) = value_within(s, i, depth) else {
-                    return Next::Bad; // no value behind the comma
-                };
+                let j = value_within(s, i, depth);
+                if j == 0 {
+                    return 0; // no value behind the comma
+                }
                 match closing(s, j, CLOSE_BRACKET) {
-                    Tail::Neither => return Next::Bad,
-                    Tail::Closed(end) => return Next::At(end),
+                    Tail::Neither => return 0,
+                    Tail::Closed(end) => return end,
                     Tail::More(k) => i = k,
                 }
             }
@@ -246,8 +246,13 @@ pub fn value(s: &[u8], at: usize, depth: usize) -> Next
     }
     match s[at] {
         0x22 => skip_string(s, at + 1),
-        0x5B => value_within(s, at, depth),
-        0x7B => value_within(s, at, depth),
+        0x5B | 0x7B => {
+            let end = value_within(s, at, depth);
+            if end == 0 {
+                return Next::Bad;
+            }
+            Next::At(end)
+        }
         _ => skip_bare(s, at),
     }
 }

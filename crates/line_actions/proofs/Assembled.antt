@@ -2,11 +2,11 @@
 use mathlib.Core.Path.{_≡_, refl, sym, ap, _∙_}
 use mathlib.Core.Bool.{Bool, true, false}
 use mathlib.Core.Option.{Option, none, some}
-use mathlib.Core.List.{List, _∷_}
+use mathlib.Core.List.{List, [], _∷_}
 use Prim.Native.Nat.{ℕ, zero, suc, _+_, _-_, _≤_}
 use native.Mathlib.Omega.{arith}
 use lib.Dec.{leb}
-use lib.ListN.{length, take, drop, getD, length-drop}
+use lib.ListN.{length, take, drop, length-drop}
 use lib.Seq.{drop-drop}
 use Rattle.facts.specs.Parts.{part}
 use Rattle.facts.proofs.Parts.{part-rest}
@@ -28,9 +28,8 @@ use Rattle.rules.proofs.PathPlaces.{pathLeft-by}
 use Rattle.bytes_values.specs.Answers.{truthIs}
 use Rattle.json_strings.proofs.Decoding.{decoded-some}
 use Rattle.field_names.specs.Kinds.{namesOf}
-use Rattle.field_objects.specs.Slots.{missing, textIn}
+use Rattle.field_objects.specs.Slots.{textIn}
 use Rattle.field_objects.specs.declared.notes.Slot.{Slot}
-use Rattle.field_objects.specs.declared.notes.Fields.{Fields}
 use Rattle.field_objects.proofs.Slots.{slot-once}
 use Rattle.line_actions.specs.Begun.{Lined}
 use Rattle.field_scalars.specs.Counts.{recordsIs, isKnown, isBool}
@@ -45,13 +44,11 @@ use Rattle.line_actions.specs.declared.line.Action.the-variants.{Add, Re
 use Rattle.field_containers.specs.declared.nested.Columns.the-variants.{Within}
 use Rattle.field_scalars.specs.declared.Records.{Records}
 use Rattle.line_actions.proofs.Lines.{lined-action}
-use Rattle.field_scalars.proofs.Single.{times-inside, inside-single}
+use Rattle.line_actions.proofs.Slotted.{lined-inside}
+use Rattle.field_scalars.proofs.Single.{inside-single}
 use Rattle.field_scalars.proofs.Stated.{field-whole, field-bool, field-string, field-optional, field-path, field-version}
 use Rattle.field_containers.proofs.Stated.{field-values, field-features, field-columns}
 use Rattle.field_scalars.proofs.Strings.{byte-text, string-behind}
-
-abbrev pub slot : Fields → ℕ → Slot
-slot f k = getD (f .slots) k missing
 
 -- ---- a path that is spelled in its place
 
@@ -99,17 +96,17 @@ placed s v e y h k f =
     rest-is : (t : Text) → drop v s ≡ 0x22 ∷ t → t ≡ drop (v + 1) s
     rest-is t q = sym (ap (drop 1) q) ∙ drop-drop 1 v s
 
-pub path-placed : (s : Text) (x : Slot) (y : Bytes) → Inside s x → pathOf (stringIn s x) ≡ some y → Placed s (x .start) (x .end) y
+path-placed : (s : Text) (x : Slot) (y : Bytes) → Inside s x → pathOf (stringIn s x) ≡ some y → Placed s (x .start) (x .end) y
 path-placed s x y i e =
     let (sole, f) = string-single s x (path-string (stringIn s x) e) in
     let (h, k) = inside-single s x sole i in
     placed s (x .start) (x .end) y h k f
 
 -- and where it begins, by the places of the fields
-path-left : (s : Text) (k : ℕ) (f : Fields) (l : Lined s k f) {y : Bytes} → Placed s (slot f 0 .start) (slot f 0 .end) y
-    → once "path" (l .lefts) ≡ some (drop (slot f 0 .start) s) → pathLeft s ≡ some (drop (slot f 0 .start + 1) s)
+path-left : (s : Text) (k : ℕ) {slots : List Slot} (l : Lined s k slots) (x : Slot) {y : Bytes} → Placed s (x .start) (x .end) y
+    → once "path" (l .lefts) ≡ some (drop (x .start) s) → pathLeft s ≡ some (drop (x .start + 1) s)
 unfolding onlyOne byte
-path-left s k f l p e = pathLeft-by s (l .line-left) refl (l .object-left) e (ap (byte 0x22) (p .quote))
+path-left s k l x p e = pathLeft-by s (l .line-left) refl (l .object-left) e (ap (byte 0x22) (p .quote))
 
 -- ---- add
 
@@ -177,95 +174,91 @@ no-records (some p) (some s) (some t) none v n e = refl
 no-records (some p) (some s) (some t) (some c) none n e = refl
 no-records (some p) (some s) (some t) (some c) (some v) n e = rw e
 
-module _ (s : Text) (f : Fields) (l : Lined s 0 f) where
+module _ (s : Text) {path size time change values records : Slot} (l : Lined s 0 (path ∷ size ∷ time ∷ change ∷ values ∷ records ∷ [])) where
   lined-add : action s
-      ≡ added (pathOf (stringIn s (slot f 0))) (wholeIn s (slot f 1)) (wholeIn s (slot f 2)) (boolIn s (slot f 3)) (valuesIn s (slot f 4))
-      (optionalWholeIn s (slot f 5))
+      ≡ added (pathOf (stringIn s path)) (wholeIn s size) (wholeIn s time) (boolIn s change) (valuesIn s values) (optionalWholeIn s records)
   unfolding actionBy namesOf added
   lined-add =
-      let a = field-path s (slot f 0) (l .ms) (l .each 0 (omega arith)) in
-      let b = field-whole s (slot f 1) "size" (l .ms) (l .each 1 (omega arith)) in
-      let c = field-whole s (slot f 2) "modificationTime" (l .ms) (l .each 2 (omega arith)) in
-      let d = field-bool s (slot f 3) "dataChange" (l .ms) (l .each 3 (omega arith)) in
-      let e = field-values s (slot f 4) (l .ms) (l .each 4 (omega arith)) in
-      let g = field-optional s (slot f 5) "numRecords" (l .ms) (l .each 5 (omega arith)) in
-      lined-action s 0 f l ∙ ap (λ o. o >>= (λ ms. addOf ms >>= (λ a. some (add a)))) (l .object)
+      let a = field-path s path (l .ms) (l .each 0 (omega arith)) in
+      let b = field-whole s size "size" (l .ms) (l .each 1 (omega arith)) in
+      let c = field-whole s time "modificationTime" (l .ms) (l .each 2 (omega arith)) in
+      let d = field-bool s change "dataChange" (l .ms) (l .each 3 (omega arith)) in
+      let e = field-values s values (l .ms) (l .each 4 (omega arith)) in
+      let g = field-optional s records "numRecords" (l .ms) (l .each 5 (omega arith)) in
+      lined-action s 0 l ∙ ap (λ o. o >>= (λ ms. addOf ms >>= (λ a. some (add a)))) (l .object)
       ∙ ap (λ o. o >>= (λ a. some (add a))) (add-facts (l .ms)) ∙ rw (a, b, c, d, e, g)
 
-  pub add-no-path : pathOf (stringIn s (slot f 0)) ≡ none → action s ≡ none
+  pub add-no-path : pathOf (stringIn s path) ≡ none → action s ≡ none
   add-no-path e =
       lined-add
-      ∙ no-path (pathOf (stringIn s (slot f 0))) (wholeIn s (slot f 1)) (wholeIn s (slot f 2)) (boolIn s (slot f 3)) (valuesIn s (slot f 4))
-      (optionalWholeIn s (slot f 5)) e
+      ∙ no-path (pathOf (stringIn s path)) (wholeIn s size) (wholeIn s time) (boolIn s change) (valuesIn s values) (optionalWholeIn s records) e
 
-  pub add-no-size : wholeIn s (slot f 1) ≡ none → action s ≡ none
+  pub add-no-size : wholeIn s size ≡ none → action s ≡ none
   add-no-size e =
       lined-add
-      ∙ no-size (pathOf (stringIn s (slot f 0))) (wholeIn s (slot f 1)) (wholeIn s (slot f 2)) (boolIn s (slot f 3)) (valuesIn s (slot f 4))
-      (optionalWholeIn s (slot f 5)) e
+      ∙ no-size (pathOf (stringIn s path)) (wholeIn s size) (wholeIn s time) (boolIn s change) (valuesIn s values) (optionalWholeIn s records) e
 
-  pub add-no-time : wholeIn s (slot f 2) ≡ none → action s ≡ none
+  pub add-no-time : wholeIn s time ≡ none → action s ≡ none
   add-no-time e =
       lined-add
-      ∙ no-time (pathOf (stringIn s (slot f 0))) (wholeIn s (slot f 1)) (wholeIn s (slot f 2)) (boolIn s (slot f 3)) (valuesIn s (slot f 4))
-      (optionalWholeIn s (slot f 5)) e
+      ∙ no-time (pathOf (stringIn s path)) (wholeIn s size) (wholeIn s time) (boolIn s change) (valuesIn s values) (optionalWholeIn s records) e
 
-  pub add-no-change : boolIn s (slot f 3) ≡ none → action s ≡ none
+  pub add-no-change : boolIn s change ≡ none → action s ≡ none
   add-no-change e =
       lined-add
-      ∙ no-change (pathOf (stringIn s (slot f 0))) (wholeIn s (slot f 1)) (wholeIn s (slot f 2)) (boolIn s (slot f 3)) (valuesIn s (slot f 4))
-      (optionalWholeIn s (slot f 5)) e
+      ∙ no-change (pathOf (stringIn s path)) (wholeIn s size) (wholeIn s time) (boolIn s change) (valuesIn s values) (optionalWholeIn s records) e
 
-  pub add-no-values : valuesIn s (slot f 4) ≡ none → action s ≡ none
+  pub add-no-values : valuesIn s values ≡ none → action s ≡ none
   add-no-values e =
       lined-add
-      ∙ no-values (pathOf (stringIn s (slot f 0))) (wholeIn s (slot f 1)) (wholeIn s (slot f 2)) (boolIn s (slot f 3)) (valuesIn s (slot f 4))
-      (optionalWholeIn s (slot f 5)) e
+      ∙ no-values (pathOf (stringIn s path)) (wholeIn s size) (wholeIn s time) (boolIn s change) (valuesIn s values) (optionalWholeIn s records) e
 
-  pub add-no-records : optionalWholeIn s (slot f 5) ≡ none → action s ≡ none
+  pub add-no-records : optionalWholeIn s records ≡ none → action s ≡ none
   add-no-records e =
       lined-add
-      ∙ no-records (pathOf (stringIn s (slot f 0))) (wholeIn s (slot f 1)) (wholeIn s (slot f 2)) (boolIn s (slot f 3)) (valuesIn s (slot f 4))
-      (optionalWholeIn s (slot f 5)) e
+      ∙ no-records (pathOf (stringIn s path)) (wholeIn s size) (wholeIn s time) (boolIn s change) (valuesIn s values) (optionalWholeIn s records) e
+
+  pub add-placed : (y : Bytes) → pathOf (stringIn s path) ≡ some y → Placed s (path .start) (path .end) y
+  unfolding namesOf
+  add-placed y e = path-placed s path y (lined-inside s 0 l 0 (omega arith)) e
 
   -- the path as the line writes it
-  path-written : (y : Bytes) → Inside s (slot f 0) → pathOf (stringIn s (slot f 0)) ≡ some y
-      → pathWritten s ≡ some (part s (slot f 0 .start + 1) (slot f 0 .end - 1))
+  path-written : (y : Bytes) → pathOf (stringIn s path) ≡ some y → pathWritten s ≡ some (part s (path .start + 1) (path .end - 1))
   unfolding pathWritten namesOf part
-  path-written y i e =
-      let v = slot f 0 .start in
-      let k = slot f 0 .end in
-      let p = path-placed s (slot f 0) y i e in
-      let (sole, g) = string-single s (slot f 0) (path-string (stringIn s (slot f 0)) e) in
+  path-written y e =
+      let v = path .start in
+      let k = path .end in
+      let p = add-placed y e in
+      let (sole, g) = string-single s path (path-string (stringIn s path) e) in
       let o : once "path" (l .ms) ≡ some (take (k - v) (drop v s)) =
-      slot-once s "path" (l .ms) (slot f 0 .seen) v k (l .each 0 (omega arith)) ∙ ap (λ (n : ℕ). textIn s n v k) sole in
+      slot-once s "path" (l .ms) (path .seen) v k (l .each 0 (omega arith)) ∙ ap (λ (n : ℕ). textIn s n v k) sole in
       let far : v + 2 ≤ k = p .further in
-      let size : k - v - 2 ≡ k - 1 - (v + 1) = omega arith in
+      let count : k - v - 2 ≡ k - 1 - (v + 1) = omega arith in
       ap (λ o. o >>= (λ m. objectOf inAction (m .1) >>= (λ ms. once "path" ms >>= (λ v. some (unquoted v))))) (l .line)
       ∙ ap (λ o. o >>= (λ ms. once "path" ms >>= (λ v. some (unquoted v)))) (l .object)
       ∙ ap (λ o. o >>= (λ v. some (unquoted v))) o
-      ∙ ap some (unquoted-place s v k (omega arith) (p .within) 0x22 (p .quote) ∙ ap (λ (n : ℕ). take n (drop (v + 1) s)) size)
+      ∙ ap some (unquoted-place s v k (omega arith) (p .within) 0x22 (p .quote) ∙ ap (λ (n : ℕ). take n (drop (v + 1) s)) count)
 
-  add-starts : slot f 0 .seen ≡ 1 → once "path" (l .lefts) ≡ some (drop (slot f 0 .start) s)
+  add-starts : path .seen ≡ 1 → once "path" (l .lefts) ≡ some (drop (path .start) s)
   unfolding once namesOf
   add-starts o = l .starts 0 (omega arith) o
 
-  pub add-there : (y : Bytes) (a t at : ℕ) (b : Bool) (ps : Pairs) (n : Option ℕ) (r : Records) → Inside s (slot f 0)
-      → pathOf (stringIn s (slot f 0)) ≡ some y → wholeIn s (slot f 1) ≡ some a → wholeIn s (slot f 2) ≡ some t
-      → boolIn s (slot f 3) ≡ some b → valuesIn s (slot f 4) ≡ some ps → Pairing s at ps → optionalWholeIn s (slot f 5) ≡ some n → r ≡ recordsIs (some n)
-      → ActionIs (action s) s (Add (record { path = slot f 0 .start + 1; end = slot f 0 .end - 1; size = a; time = t; records = r; values = at }))
+  pub add-there : (y : Bytes) (a t at : ℕ) (b : Bool) (ps : Pairs) (n : Option ℕ) (r : Records)
+      → pathOf (stringIn s path) ≡ some y → wholeIn s size ≡ some a → wholeIn s time ≡ some t
+      → boolIn s change ≡ some b → valuesIn s values ≡ some ps → Pairing s at ps → optionalWholeIn s records ≡ some n → r ≡ recordsIs (some n)
+      → ActionIs (action s) s (Add (record { path = path .start + 1; end = path .end - 1; size = a; time = t; records = r; values = at }))
   unfolding added
-  add-there y a t at b ps n r i e1 e2 e3 e4 e5 q e6 e7 =
-      let p = path-placed s (slot f 0) y i e1 in
-      let far : slot f 0 .start + 2 ≤ slot f 0 .end = p .further in
-      let fits : slot f 0 .end ≤ length s = p .within in (
+  add-there y a t at b ps n r e1 e2 e3 e4 e5 q e6 e7 =
+      let p = add-placed y e1 in
+      let far : path .start + 2 ≤ path .end = p .further in
+      let fits : path .end ≤ length s = p .within in (
         record { path = y; size = a; modificationTime = t; numRecords = n; partitionValues = ps },
         lined-add ∙ rw (e1, e2, e3, e4, e5, e6),
         record {
-          spelled = record { end = slot f 0 .end; closed = ap behind (p .read) };
-          path = decoded-some (drop (slot f 0 .start + 1) s) (p .read);
-          written = path-written y i e1;
-          left = path-left s 0 f l p (add-starts (string-single s (slot f 0) (path-string (stringIn s (slot f 0)) e1) .0));
+          spelled = record { end = path .end; closed = ap behind (p .read) };
+          path = decoded-some (drop (path .start + 1) s) (p .read);
+          written = path-written y e1;
+          left = path-left s 0 l path p (add-starts (string-single s path (path-string (stringIn s path) e1) .0));
           ordered = omega arith;
           within = omega arith;
           size = refl;
@@ -296,30 +289,27 @@ records-told (some (some n)) false e = apart (cc)
 
 -- ---- remove
 
-module _ (s : Text) (f : Fields) (l : Lined s 1 f) where
-  lined-remove : action s ≡ (pathOf (stringIn s (slot f 0)) >>= (λ p. some (remove p)))
+module _ (s : Text) {path : Slot} (l : Lined s 1 (path ∷ [])) where
+  lined-remove : action s ≡ (pathOf (stringIn s path) >>= (λ p. some (remove p)))
   unfolding actionBy namesOf
-  lined-remove = lined-action s 1 f l ∙ ap (λ o. o >>= (λ ms. pathAt ms >>= (λ p. some (remove p)))) (l .object)
-      ∙ ap (λ o. o >>= (λ p. some (remove p))) (field-path s (slot f 0) (l .ms) (l .each 0 (omega arith)))
+  lined-remove = lined-action s 1 l ∙ ap (λ o. o >>= (λ ms. pathAt ms >>= (λ p. some (remove p)))) (l .object)
+      ∙ ap (λ o. o >>= (λ p. some (remove p))) (field-path s path (l .ms) (l .each 0 (omega arith)))
 
-  pub remove-no-path : pathOf (stringIn s (slot f 0)) ≡ none → action s ≡ none
+  pub remove-no-path : pathOf (stringIn s path) ≡ none → action s ≡ none
   remove-no-path e = lined-remove ∙ rw e
 
-  remove-starts : slot f 0 .seen ≡ 1 → once "path" (l .lefts) ≡ some (drop (slot f 0 .start) s)
+  remove-starts : path .seen ≡ 1 → once "path" (l .lefts) ≡ some (drop (path .start) s)
   unfolding once namesOf
   remove-starts o = l .starts 0 (omega arith) o
 
-  remove-inside : Inside s (slot f 0)
+  pub remove-there : (p : ℕ) → PathIs (pathOf (stringIn s path)) s (path .start) (Spelled p) → ActionIs (action s) s (Remove p)
   unfolding namesOf
-  remove-inside = times-inside s (slot f 0 .seen) (slot f 0 .start) (slot f 0 .end) _ (l .each 0 (omega arith))
-
-  pub remove-there : (p : ℕ) → PathIs (pathOf (stringIn s (slot f 0))) s (slot f 0 .start) (Spelled p) → ActionIs (action s) s (Remove p)
   remove-there p (r, place) =
       let (y, g) = behind-some (string (drop p s)) (r .spelled .closed) in
       let few : length (drop (r .spelled .end) s) + 1 ≤ length (drop p s) = reads-fewer (string-reads y (drop p s) (drop (r .spelled .end) s) g) in
       let n : length (drop p s) ≡ length s - p = length-drop p s in
-      let single = string-single s (slot f 0) (path-string (stringIn s (slot f 0)) (r .says)) .0 in
-      let left = path-left s 1 f l (path-placed s (slot f 0) _ remove-inside (r .says)) (remove-starts single) in
+      let single = string-single s path (path-string (stringIn s path) (r .says)) .0 in
+      let left = path-left s 1 l path (path-placed s path _ (lined-inside s 1 l 0 (omega arith)) (r .says)) (remove-starts single) in
       (lined-remove ∙ ap (λ o. o >>= (λ p. some (remove p))) (r .says), r .spelled, omega arith, left ∙ ap (λ (i : ℕ). some (drop i s)) (sym place))
 
 -- ---- protocol
@@ -350,36 +340,36 @@ no-writer-features (some r) none rs ws e = refl
 no-writer-features (some r) (some w) none ws e = refl
 no-writer-features (some r) (some w) (some rs) ws e = rw e
 
-module _ (s : Text) (f : Fields) (l : Lined s 2 f) where
-  lined-protocol : action s ≡ stated (versionOf (wholeIn s (slot f 0))) (versionOf (wholeIn s (slot f 1))) (featuresIn s (slot f 2)) (featuresIn s (slot f 3))
+module _ (s : Text) {reader writer readers writers : Slot} (l : Lined s 2 (reader ∷ writer ∷ readers ∷ writers ∷ [])) where
+  lined-protocol : action s ≡ stated (versionOf (wholeIn s reader)) (versionOf (wholeIn s writer)) (featuresIn s readers) (featuresIn s writers)
   unfolding actionBy namesOf protocolOf stated
   lined-protocol =
-      let a = field-version s (slot f 0) "minReaderVersion" (l .ms) (l .each 0 (omega arith)) in
-      let b = field-version s (slot f 1) "minWriterVersion" (l .ms) (l .each 1 (omega arith)) in
-      let c = field-features s (slot f 2) "readerFeatures" (l .ms) (l .each 2 (omega arith)) in
-      let d = field-features s (slot f 3) "writerFeatures" (l .ms) (l .each 3 (omega arith)) in
-      lined-action s 2 f l ∙ ap (λ o. o >>= (λ ms. protocolOf ms >>= (λ p. some (protocol p)))) (l .object) ∙ rw (protocolOf, a, b, c, d)
+      let a = field-version s reader "minReaderVersion" (l .ms) (l .each 0 (omega arith)) in
+      let b = field-version s writer "minWriterVersion" (l .ms) (l .each 1 (omega arith)) in
+      let c = field-features s readers "readerFeatures" (l .ms) (l .each 2 (omega arith)) in
+      let d = field-features s writers "writerFeatures" (l .ms) (l .each 3 (omega arith)) in
+      lined-action s 2 l ∙ ap (λ o. o >>= (λ ms. protocolOf ms >>= (λ p. some (protocol p)))) (l .object) ∙ rw (protocolOf, a, b, c, d)
 
-  pub protocol-no-reader : versionOf (wholeIn s (slot f 0)) ≡ none → action s ≡ none
+  pub protocol-no-reader : versionOf (wholeIn s reader) ≡ none → action s ≡ none
   protocol-no-reader e =
-      lined-protocol ∙ no-reader (versionOf (wholeIn s (slot f 0))) (versionOf (wholeIn s (slot f 1))) (featuresIn s (slot f 2)) (featuresIn s (slot f 3)) e
+      lined-protocol ∙ no-reader (versionOf (wholeIn s reader)) (versionOf (wholeIn s writer)) (featuresIn s readers) (featuresIn s writers) e
 
-  pub protocol-no-writer : versionOf (wholeIn s (slot f 1)) ≡ none → action s ≡ none
+  pub protocol-no-writer : versionOf (wholeIn s writer) ≡ none → action s ≡ none
   protocol-no-writer e =
-      lined-protocol ∙ no-writer (versionOf (wholeIn s (slot f 0))) (versionOf (wholeIn s (slot f 1))) (featuresIn s (slot f 2)) (featuresIn s (slot f 3)) e
+      lined-protocol ∙ no-writer (versionOf (wholeIn s reader)) (versionOf (wholeIn s writer)) (featuresIn s readers) (featuresIn s writers) e
 
-  pub protocol-no-reader-features : featuresIn s (slot f 2) ≡ none → action s ≡ none
+  pub protocol-no-reader-features : featuresIn s readers ≡ none → action s ≡ none
   protocol-no-reader-features e =
       lined-protocol
-      ∙ no-reader-features (versionOf (wholeIn s (slot f 0))) (versionOf (wholeIn s (slot f 1))) (featuresIn s (slot f 2)) (featuresIn s (slot f 3)) e
+      ∙ no-reader-features (versionOf (wholeIn s reader)) (versionOf (wholeIn s writer)) (featuresIn s readers) (featuresIn s writers) e
 
-  pub protocol-no-writer-features : featuresIn s (slot f 3) ≡ none → action s ≡ none
+  pub protocol-no-writer-features : featuresIn s writers ≡ none → action s ≡ none
   protocol-no-writer-features e =
       lined-protocol
-      ∙ no-writer-features (versionOf (wholeIn s (slot f 0))) (versionOf (wholeIn s (slot f 1))) (featuresIn s (slot f 2)) (featuresIn s (slot f 3)) e
+      ∙ no-writer-features (versionOf (wholeIn s reader)) (versionOf (wholeIn s writer)) (featuresIn s readers) (featuresIn s writers) e
 
-  pub protocol-there : (a b i j : ℕ) (c d : Bool) → versionOf (wholeIn s (slot f 0)) ≡ some a → versionOf (wholeIn s (slot f 1)) ≡ some b
-      → Known (featuresIn s (slot f 2)) s false i c → Known (featuresIn s (slot f 3)) s true j d
+  pub protocol-there : (a b i j : ℕ) (c d : Bool) → versionOf (wholeIn s reader) ≡ some a → versionOf (wholeIn s writer) ≡ some b
+      → Known (featuresIn s readers) s false i c → Known (featuresIn s writers) s true j d
       → ActionIs (action s) s
       (Protocol (record { reader = a; writer = b; «reader_known» = c; «writer_known» = d; «reader_features» = i; «writer_features» = j }))
   unfolding stated
@@ -432,27 +422,27 @@ meta-fields ms = go (idAt ms)
     go none = refl
     go (some i) = field i (once "partitionColumns" ms)
 
-module _ (s : Text) (f : Fields) (l : Lined s 3 f) where
-  lined-meta : action s ≡ described (idOf (stringIn s (slot f 0))) (columnsIn s (slot f 1))
+module _ (s : Text) {id columns : Slot} (l : Lined s 3 (id ∷ columns ∷ [])) where
+  lined-meta : action s ≡ described (idOf (stringIn s id)) (columnsIn s columns)
   unfolding actionBy namesOf
-  lined-meta = lined-action s 3 f l ∙ ap (λ o. o >>= (λ ms. metaDataOf ms >>= (λ m. some (metaData m)))) (l .object) ∙ meta-fields (l .ms)
-      ∙ ap (λ o. described (idOf o) (once "partitionColumns" (l .ms) >>= columnsOf)) (field-string s (slot f 0) "id" (l .ms) (l .each 0 (omega arith)))
-      ∙ ap (described (idOf (stringIn s (slot f 0)))) (field-columns s (slot f 1) "partitionColumns" (l .ms) (l .each 1 (omega arith)))
+  lined-meta = lined-action s 3 l ∙ ap (λ o. o >>= (λ ms. metaDataOf ms >>= (λ m. some (metaData m)))) (l .object) ∙ meta-fields (l .ms)
+      ∙ ap (λ o. described (idOf o) (once "partitionColumns" (l .ms) >>= columnsOf)) (field-string s id "id" (l .ms) (l .each 0 (omega arith)))
+      ∙ ap (described (idOf (stringIn s id))) (field-columns s columns "partitionColumns" (l .ms) (l .each 1 (omega arith)))
 
-  pub meta-no-id : idOf (stringIn s (slot f 0)) ≡ none → action s ≡ none
-  meta-no-id e = lined-meta ∙ ap (λ o. described o (columnsIn s (slot f 1))) e
+  pub meta-no-id : idOf (stringIn s id) ≡ none → action s ≡ none
+  meta-no-id e = lined-meta ∙ ap (λ o. described o (columnsIn s columns)) e
 
-  pub meta-no-columns : columnsIn s (slot f 1) ≡ none → action s ≡ none
-  meta-no-columns e = lined-meta ∙ ap (described (idOf (stringIn s (slot f 0)))) e ∙ go (idOf (stringIn s (slot f 0)))
+  pub meta-no-columns : columnsIn s columns ≡ none → action s ≡ none
+  meta-no-columns e = lined-meta ∙ ap (described (idOf (stringIn s id))) e ∙ go (idOf (stringIn s id))
     where
       go : (i : Option Bytes) → described i none ≡ none
       go none = refl
       go (some i) = refl
 
-  pub meta-there : (at : ℕ) → Told (idOf (stringIn s (slot f 0))) true → ColumnsIs (columnsIn s (slot f 1)) s (Within at) → ActionIs (action s) s (MetaData at)
+  pub meta-there : (at : ℕ) → Told (idOf (stringIn s id)) true → ColumnsIs (columnsIn s columns) s (Within at) → ActionIs (action s) s (MetaData at)
   meta-there at t c = (
     record { id = t .0; partitionColumns = c .0 },
-    lined-meta ∙ ap (λ o. described o (columnsIn s (slot f 1))) (t .1) ∙ ap (described (some (t .0))) (c .1),
+    lined-meta ∙ ap (λ o. described o (columnsIn s columns)) (t .1) ∙ ap (described (some (t .0))) (c .1),
     c .2,
     c .3,
   )

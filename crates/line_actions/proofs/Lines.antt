@@ -30,6 +30,7 @@ use Rattle.field_objects.specs.Slots.{Filled, ScannedBy, Scanned}
 use Rattle.field_names.specs.Spelled.{nameIn, Quoted}
 use Rattle.field_names.specs.declared.kinds.Kind.the-variants.{Line, MetaData}
 use Rattle.field_names.specs.declared.keys.Spell.{Spell}
+use Rattle.field_objects.specs.declared.notes.Slot.{Slot}
 use Rattle.field_objects.specs.declared.notes.Fields.{Fields}
 use Rattle.field_objects.proofs.Members.{member-nameless, member-no-colon}
 use Rattle.field_objects.proofs.Lefts.{filled-left}
@@ -231,9 +232,9 @@ pub line-malformed : (s : Text) → lineMember s ≡ none → action s ≡ none
 unfolding action
 line-malformed s e = ap (λ o. o >>= (λ m. actionBy (keyOf (m .0)) (m .1))) e
 
-pub lined-action : (s : Text) (k : ℕ) (f : Fields) (l : Lined s k f) → action s ≡ actionBy (keyAt k) (l .text)
+pub lined-action : (s : Text) (k : ℕ) {slots : List Slot} (l : Lined s k slots) → action s ≡ actionBy (keyAt k) (l .text)
 unfolding action
-lined-action s k f l = ap (λ o. o >>= (λ m. actionBy (keyOf (m .0)) (m .1))) (l .line) ∙ ap (λ (key : Key). actionBy key (l .text)) (l .key)
+lined-action s k l = ap (λ o. o >>= (λ m. actionBy (keyOf (m .0)) (m .1))) (l .line) ∙ ap (λ (key : Key). actionBy key (l .text)) (l .key)
 
 few-names : (k : ℕ) → length (namesOf (kindAt k)) ≤ 8
 unfolding namesOf
@@ -315,7 +316,7 @@ module _ (s : Text) (k v : ℕ) (g : Begun s k v) where
     begun-contents f = ap (value inLine) (byte-text 0x7B (drop v s) b) ∙ value-object inLine inAction (drop i s) refl ∙ ap left f
 
     pub begun-lined : (f : Fields) (r : Filled (contents (value inAction) (drop i s)) s i (namesOf (kindAt k)) (f .end) (f .slots))
-        → ends (drop (f .end) s) ≡ true → Lined s k f
+        → ends (drop (f .end) s) ≡ true → Lined s k (f .slots)
     begun-lined f r t =
         let next : i ≡ v + 1 = byte-next s v i 0x7B (g .within) l b in
         let low : i + 1 ≤ f .end = r .from in

@@ -13,7 +13,7 @@ use Rattle.field_names.specs.Kinds.{namesOf}
 use Rattle.field_objects.specs.Slots.{Each, EachLeft}
 use Rattle.field_names.specs.declared.kinds.Kind.{Kind}
 use Rattle.field_names.specs.declared.kinds.Kind.the-variants.{Add, Remove, Protocol, MetaData}
-use Rattle.field_objects.specs.declared.notes.Fields.{Fields}
+use Rattle.field_objects.specs.declared.notes.Slot.{Slot}
 use Rattle.field_containers.specs.Valued.{Valued}
 use Rattle.line_actions.specs.declared.line.Keyed.{Keyed}
 use Rattle.line_actions.specs.declared.line.Keyed.the-variants.{Value, NoKey}
@@ -74,8 +74,8 @@ abbrev pub FoundIs : Text → Keyed → Type 0
 FoundIs s (Value k v) = Begun s k v
 FoundIs s NoKey = Unit {0}
 
--- its value is an object, whose members are in the slots of f
-pub record Lined (s : Text) (k : ℕ) (f : Fields) : Type 0 where
+-- its value is an object, whose members are in the slots
+pub record Lined (s : Text) (k : ℕ) (slots : List Slot) : Type 0 where
   pub name : Bytes
   pub text : Text
   pub ms : List Member
@@ -83,10 +83,10 @@ pub record Lined (s : Text) (k : ℕ) (f : Fields) : Type 0 where
   pub line : lineMember s ≡ some (name, text)
   pub object : objectOf inAction text ≡ some ms
   pub valued : Valued inAction ms
-  pub each : Each s (namesOf (kindAt k)) ms (f .slots)
+  pub each : Each s (namesOf (kindAt k)) ms slots
   -- and by their places
   pub left : Text
   pub lefts : List Member
   pub line-left : membersLeft inLine s ≡ some ((name, left) ∷ [])
   pub object-left : membersLeft inAction left ≡ some lefts
-  pub starts : EachLeft s (namesOf (kindAt k)) lefts (f .slots)
+  pub starts : EachLeft s (namesOf (kindAt k)) lefts slots

@@ -1,4 +1,4 @@
-// Actions by the fields of their objects.
+// Actions by the slots of their fields, in the order of the names of their kinds.
 use crate::line::Action;
 use crate::line::Added;
 use crate::line::Stated;
@@ -7,10 +7,11 @@ use bytes_values::Whole;
 use field_containers::Columns;
 use field_containers::Features;
 use field_containers::Values;
-use field_objects::Fields;
+use field_objects::Slot;
 use field_scalars::Path;
 use field_scalars::Records;
 ghost use mathlib.Core.Path.{_≡_};
+ghost use mathlib.Core.List.{[], _∷_};
 ghost use Rattle.rules.specs.Actions.{action};
 ghost use Rattle.line_actions.specs.Begun.{Lined};
 ghost use Rattle.field_scalars.specs.Counts.{isBool, isKnown};
@@ -37,28 +38,35 @@ fn is_known(n: Records) -> bool
 }
 
 // The facts of the file that is added.
-pub fn add_in(s: &[u8], f: Fields) -> Action
-    requires { ⌜ Lined (now s) 0 f ⌝ }
+pub fn add_in(
+    s: &[u8],
+    path: Slot,
+    size: Slot,
+    time: Slot,
+    change: Slot,
+    values: Slot,
+    records: Slot,
+) -> Action
+    requires { ⌜ Lined (now s) 0 (path ∷ size ∷ time ∷ change ∷ values ∷ records ∷ []) ⌝ }
     ensures { λ r. ⌜ ActionIs (action (now (s .entry))) (now (s .entry)) r ⌝ }
 {
-    let place = f.slots[0];
-    let start = place.start;
-    let close = place.end;
-    let Path::Spelled(_) = field_scalars::path_in(s, place) else {
+    let start = path.start;
+    let close = path.end;
+    let Path::Spelled(_) = field_scalars::path_in(s, path) else {
         return Action::Malformed;
     };
-    let Whole::Number(size) = field_scalars::whole_in(s, f.slots[1]) else {
+    let Whole::Number(size) = field_scalars::whole_in(s, size) else {
         return Action::Malformed;
     };
-    let Whole::Number(time) = field_scalars::whole_in(s, f.slots[2]) else {
+    let Whole::Number(time) = field_scalars::whole_in(s, time) else {
         return Action::Malformed;
     };
-    let change = field_scalars::truth_in(s, f.slots[3]);
+    let change = field_scalars::truth_in(s, change);
     if is_bool(change) {
-        let Values::Behind(values) = field_containers::values_in(s, f.slots[4]) else {
+        let Values::Behind(values) = field_containers::values_in(s, values) else {
             return Action::Malformed;
         };
-        let records = field_scalars::records_in(s, f.slots[5]);
+        let records = field_scalars::records_in(s, records);
         if is_known(records) {
             return Action::Add(Added {
                 path: start + 1,
@@ -75,34 +83,32 @@ pub fn add_in(s: &[u8], f: Fields) -> Action
 }
 
 // The path of the file that is removed.
-pub fn remove_in(s: &[u8], f: Fields) -> Action
-    requires { ⌜ Lined (now s) 1 f ⌝ }
+pub fn remove_in(s: &[u8], path: Slot) -> Action
+    requires { ⌜ Lined (now s) 1 (path ∷ []) ⌝ }
     ensures { λ r. ⌜ ActionIs (action (now (s .entry))) (now (s .entry)) r ⌝ }
 {
-    let place = f.slots[0];
-    let Path::Spelled(p) = field_scalars::path_in(s, place) else {
+    let Path::Spelled(p) = field_scalars::path_in(s, path) else {
         return Action::Malformed;
     };
     Action::Remove(p)
 }
 
 // The numbers and the features of a protocol.
-pub fn protocol_in(s: &[u8], f: Fields) -> Action
-    requires { ⌜ Lined (now s) 2 f ⌝ }
+pub fn protocol_in(s: &[u8], reader: Slot, writer: Slot, readers: Slot, writers: Slot) -> Action
+    requires { ⌜ Lined (now s) 2 (reader ∷ writer ∷ readers ∷ writers ∷ []) ⌝ }
     ensures { λ r. ⌜ ActionIs (action (now (s .entry))) (now (s .entry)) r ⌝ }
 {
-    let Whole::Number(reader) = field_scalars::version_in(s, f.slots[0]) else {
+    let Whole::Number(reader) = field_scalars::version_in(s, reader) else {
         return Action::Malformed;
     };
-    let Whole::Number(writer) = field_scalars::version_in(s, f.slots[1]) else {
+    let Whole::Number(writer) = field_scalars::version_in(s, writer) else {
         return Action::Malformed;
     };
-    let Features::Listed(readers, readable) = field_containers::features_in(s, f.slots[2], false)
+    let Features::Listed(readers, readable) = field_containers::features_in(s, readers, false)
     else {
         return Action::Malformed;
     };
-    let Features::Listed(writers, writable) = field_containers::features_in(s, f.slots[3], true)
-    else {
+    let Features::Listed(writers, writable) = field_containers::features_in(s, writers, true) else {
         return Action::Malformed;
     };
     Action::Protocol(Stated {
@@ -116,13 +122,11 @@ pub fn protocol_in(s: &[u8], f: Fields) -> Action
 }
 
 // The partition columns of a table.
-pub fn meta_data_in(s: &[u8], f: Fields) -> Action
-    requires { ⌜ Lined (now s) 3 f ⌝ }
+pub fn meta_data_in(s: &[u8], id: Slot, columns: Slot) -> Action
+    requires { ⌜ Lined (now s) 3 (id ∷ columns ∷ []) ⌝ }
     ensures { λ r. ⌜ ActionIs (action (now (s .entry))) (now (s .entry)) r ⌝ }
 {
-    let id = f.slots[0];
     if field_scalars::some_string_in(s, id) {
-        let columns = f.slots[1];
         let Columns::Within(at) = field_containers::columns_in(s, columns) else {
             return Action::Malformed;
         };

@@ -171,19 +171,27 @@ fn kind_at(k: usize) -> Kind
 
 // The action of the key of place k by the fields of its object.
 fn action_in(line: &[u8], k: usize, f: Fields) -> Action
-    requires { ⌜ (k < 4) × Lined (now line) k f ⌝ }
+    requires { ⌜ (k < 4) × Lined (now line) k (f .slots) ⌝ }
     ensures { λ r. ⌜ ActionIs (action (now (line .entry))) (now (line .entry)) r ⌝ }
 {
     if k == ADD {
-        return add_in(line, f);
+        return add_in(
+            line,
+            f.slots[0],
+            f.slots[1],
+            f.slots[2],
+            f.slots[3],
+            f.slots[4],
+            f.slots[5],
+        );
     }
     if k == REMOVE {
-        return remove_in(line, f);
+        return remove_in(line, f.slots[0]);
     }
     if k == PROTOCOL {
-        return protocol_in(line, f);
+        return protocol_in(line, f.slots[0], f.slots[1], f.slots[2], f.slots[3]);
     }
-    meta_data_in(line, f)
+    meta_data_in(line, f.slots[0], f.slots[1])
 }
 
 // The action of a key that needs an object, whose value begins at v.

@@ -5,37 +5,41 @@ use mathlib.Core.Option.{some}
 use Prim.Native.Nat.{ℕ}
 use Rattle.rules.specs.Bytes.{Bytes}
 use Rattle.rules.specs.Numbers.{most}
+use Rattle.rules.specs.Bundle.{File}
 use Rattle.rules.specs.Live.{mostLive}
 use Rattle.rules.specs.Refusals.{Answer}
-use Rattle.rules.specs.History.{readFile}
+use Rattle.rules.specs.History.{readFile, readZero}
 use Rattle.rules.specs.History.{State as rState}
 use Rattle.rules.specs.Starts.{logOf, startAt, fromCheckpoint, wayTo, follow}
 use Rattle.rules.specs.Marker.{climb, latest}
 use Rattle.rules.specs.Reading.{stateBy}
 use Rattle.file_bundle.specs.Files.{filesIn, fileIn}
+use Rattle.log_starts.specs.Marks.{namedBy}
 use Rattle.log_starts.proofs.Starting.{start-good, marked-at, latest-at, way-start}
 use Rattle.log_starts.proofs.Passing.{Through}
 use Rattle.log_replay.specs.Views.{stateOf}
-use Rattle.log_replay.specs.Answers.{Left, OutcomeIs, Renewed}
+use Rattle.log_replay.specs.Answers.{Left, OutcomeIs, ZeroIs, Renewed}
 use Rattle.log_replay.specs.declared.State.{State}
 use Rattle.log_replay.specs.declared.Outcome.{Outcome}
 use Rattle.log_replay.specs.declared.Outcome.the-variants.{Done}
 use Rattle.log_history.specs.Ends.{GoesOn, OnwardIs}
-use Rattle.log_history.specs.Answers.{Named, Begun, LatestIs}
+use Rattle.log_history.specs.Answers.{Begun, LatestIs}
 use Rattle.log_history.specs.declared.latest.Latest.{Latest}
 use Rattle.rules.proofs.Readable.{readFile-readable}
 use Rattle.log_history.proofs.Reaching.{outcome-join}
 
 -- its lines are applied to what version 0 says
-pub begun : {src : Bytes} {z : State} {k n : ℕ} (t t₁ : List ℕ) (empty st : State) → Named src z k n → Renewed z empty
-    → OutcomeIs src mostLive (readFile mostLive (fileIn src k) (stateOf src empty t)) t t₁ (Done st) → Begun src k n st t₁
-begun {src} {z} {k} t t₁ empty st m renewed d = record {
-  zero = m .zero;
+pub begun : {src : Bytes} {zero : File} {z : State} {k n : ℕ} (t t₁ : List ℕ) (empty st : State)
+    → logOf (filesIn src) .versionFile 0 ≡ some zero → ZeroIs src (readZero zero) (Done z)
+    → namedBy (logOf (filesIn src)) ≡ some n → logOf (filesIn src) .checkpointFile n ≡ some (fileIn src k)
+    → Renewed z empty → OutcomeIs src mostLive (readFile mostLive (fileIn src k) (stateOf src empty t)) t t₁ (Done st) → Begun src k n st t₁
+begun {src} {zero} {z} {k} t t₁ empty st first says marker checkpoint renewed d = record {
+  zero = zero;
   z = stateOf src z t;
-  first = m .first;
-  says = m .says .0 t;
-  marker = m .marker;
-  checkpoint = m .checkpoint;
+  first = first;
+  says = says .0 t;
+  marker = marker;
+  checkpoint = checkpoint;
   gives = ap (readFile mostLive (fileIn src k)) (sym (renewed .0 src t)) ∙ d .0;
   carries = d .1 .carries;
 }

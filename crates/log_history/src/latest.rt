@@ -11,7 +11,7 @@ ghost use mathlib.Core.Path.{_≡_};
 ghost use Rattle.rules.specs.Bundle.{IsBundle};
 ghost use Rattle.rules.specs.Live.{mostLive};
 ghost use Rattle.row_table.specs.Table.{Room};
-ghost use Rattle.log_history.specs.Answers.{Named, Begun, LatestIs};
+ghost use Rattle.log_history.specs.Answers.{Begun, MarkedIs, LatestIs};
 
 // The latest version, and the state there or a refusal.
 pub struct Latest {
@@ -43,16 +43,34 @@ fn from_checkpoint(src: &[u8], k: usize, n: Version, st: State, t: &mut [u64]) -
     Latest { version, reached }
 }
 
-// By the checkpoint of entry k at version n, which the marker names, where version 0 gave z.
-fn by_checkpoint(src: &[u8], z: State, k: usize, n: Version, t: &mut [u64]) -> Latest
-    requires { ⌜ IsBundle (now src) × Room mostLive (now t) × Named (now src) z k (n .0) ⌝ }
-    ensures { λ r. ⌜ LatestIs (now (src .entry)) (now (t .entry)) (now (t .exit)) r ⌝ }
+// What the checkpoint that the marker names gives.
+enum Marked {
+    Read(usize, Version, State), // its entry, its version, and the state that its lines give
+    NotRead, // none is named or found, or its lines or those of version 0 are refused
+}
+
+// Reads version 0, and over it the checkpoint that the marker names.
+fn read_marked(src: &[u8], t: &mut [u64]) -> Marked
+    requires { ⌜ IsBundle (now src) × Room mostLive (now t) ⌝ }
+    ensures { λ r. ⌜ MarkedIs (now (src .entry)) (now (t .entry)) (now (t .exit)) r ⌝ }
 {
+    let Whole::Number(n) = log_starts::named(src) else {
+        return Marked::NotRead;
+    };
+    let Place::At(k) = log_files::checkpoint_file(src, Version(n), 0) else {
+        return Marked::NotRead;
+    };
+    let Place::At(f) = log_files::version_file(src, Version(0), 0) else {
+        return Marked::NotRead;
+    };
+    let Outcome::Done(z) = log_replay::read_zero(src, f) else {
+        return Marked::NotRead;
+    };
     let empty = log_replay::nothing_live(z);
-    match log_replay::read_file(src, k, empty, t, MOST_LIVE) {
-        Outcome::Done(st) => from_checkpoint(src, k, n, st, t),
-        Outcome::Refused(_) => by_search(src, t),
-    }
+    let Outcome::Done(st) = log_replay::read_file(src, k, empty, t, MOST_LIVE) else {
+        return Marked::NotRead;
+    };
+    Marked::Read(k, Version(n), st)
 }
 
 // The latest version of the well-formed bundle src, and the state there, read into the table t; or refusal 4, 5, 6 or 7.
@@ -60,17 +78,9 @@ pub fn state_at_latest(src: &[u8], t: &mut [u64]) -> Latest
     requires { ⌜ IsBundle (now src) × Room mostLive (now t) ⌝ }
     ensures { λ r. ⌜ LatestIs (now (src .entry)) (now (t .entry)) (now (t .exit)) r ⌝ }
 {
-    let Whole::Number(n) = log_starts::named(src) else {
-        return by_search(src, t);
-    };
-    let Place::At(k) = log_files::checkpoint_file(src, Version(n), 0) else {
-        return by_search(src, t);
-    };
-    let Place::At(f) = log_files::version_file(src, Version(0), 0) else {
-        return by_search(src, t);
-    };
-    match log_replay::read_zero(src, f) {
-        Outcome::Done(z) => by_checkpoint(src, z, k, Version(n), t),
-        Outcome::Refused(_) => by_search(src, t),
+    // `read_marked` returns before the rest is read, which goes deepest: the rest needs no more stack for it
+    match read_marked(src, t) {
+        Marked::Read(k, n, st) => from_checkpoint(src, k, n, st, t),
+        Marked::NotRead => by_search(src, t),
     }
 }

@@ -74,6 +74,7 @@ module _ (q : Text) (at : ℕ) where
       → Array (fewOf (list conditionRead 0x5D (drop at q))) q end 0 (replicate 8 noCondition)
   unfolding conditionsOf
   opened-closed end f = record {
+    size = length-replicate 8 noCondition;
     held = held-none q;
     all = ap fewOf (list-closed conditionRead 0x5D (drop at q) (f .0)) ∙ few-all [] (drop end q) (omega arith);
     within = f .2;
@@ -120,6 +121,7 @@ module _ (q : Text) (at : ℕ) where
         pub going-closed : (k : ℕ) → Follows (closing 0x5D (drop e q)) q (e + 1) (Closed k)
             → Array (fewOf (list conditionRead 0x5D (drop at q))) q k (n + 1) (set cs n c)
         going-closed k f = record {
+          size = length-set cs n c ∙ g .size;
           held = held-more q n cs c (g .size) room (g .held) (st .sound);
           all =
               ap fewOf (passed-closed (g .passed) e (st .read) f)

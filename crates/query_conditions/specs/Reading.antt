@@ -9,6 +9,7 @@ use lib.ListN.{length, take, drop, getD, replicate}
 use Rattle.rules.specs.Bytes.{Bytes, _>>=_, guard}
 use Rattle.rules.specs.Json.Text.{Text}
 use Rattle.rules.specs.Query.{Condition as rCondition, columnOf, mostConditions, query}
+use Rattle.json_strings.specs.Decoded.{decoded}
 use Rattle.query_conditions.specs.declared.words.Op.the-variants.{Eq}
 use Rattle.query_conditions.specs.Words.{zero}
 use Rattle.query_conditions.specs.Conditions.{conditionOf, Sound}
@@ -31,6 +32,10 @@ conditionsOf q n cs = map (conditionOf q) (take n cs)
 unfoldable pub columnsOf : Text → (n : ℕ) → List Condition → List Bytes
 columnsOf q n cs = map columnOf (conditionsOf q n cs)
 
+-- the columns that are spelled at these positions
+unfoldable pub namesAt : Text → List ℕ → List Bytes
+namesAt q ps = map (λ (p : ℕ). decoded (drop p q)) ps
+
 -- there are n at most, and all of them are sound
 pub record Sounds (q : Text) (n : ℕ) (cs : List Condition) : Type 0 where
   pub few : n ≤ 8
@@ -48,6 +53,7 @@ abbrev pub fewOf : Option (List rCondition × Text) → Option (List rCondition 
 fewOf o = o >>= (λ p. guard (leb (length (p .0)) mostConditions) >>= (λ _. some p))
 
 pub record Array (o : Option (List rCondition × Text)) (q : Text) (end n : ℕ) (cs : List Condition) : Type 0 where
+  pub size : length cs ≡ 8
   pub held : Held q n cs
   pub all : o ≡ some (conditionsOf q n cs, drop end q)
   pub within : end ≤ length q

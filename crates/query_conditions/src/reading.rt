@@ -12,11 +12,12 @@ use query_numbers::Signed;
 ghost use mathlib.Core.Path.{_≡_};
 ghost use Prim.Native.Nat.{_≤_};
 ghost use lib.ListN.{length, drop};
+ghost use Rattle.facts.specs.Lists.{All};
 ghost use Rattle.rules.specs.Bytes.{holds, distinct};
 ghost use Rattle.rules.specs.Json.Values.{list};
 ghost use Rattle.json_strings.specs.Decoded.{decoded, WellSpelled};
 ghost use Rattle.query_conditions.specs.Conditions.{conditionRead};
-ghost use Rattle.query_conditions.specs.Reading.{noCondition, noArray, noQuery, Sounds, columnsOf, fewOf, GatheredIs, QueryIs};
+ghost use Rattle.query_conditions.specs.Reading.{noCondition, noArray, noQuery, namesAt, fewOf, GatheredIs, QueryIs};
 
 // The most bytes that a query may have.
 const MOST_BYTES: usize = 4_096;
@@ -76,8 +77,8 @@ fn conditions_in(q: &[u8], at: usize) -> Gathered
     let blank = no_condition();
     let mut conditions = [blank; 8];
     match json_values::opening(q, at, CLOSE_BRACKET) {
-        Tail::Neither => no_array(),
-        Tail::Closed(end) => Gathered {
+        Tail::Neither => return no_array(),
+        Tail::Closed(end) => return Gathered {
             good: true,
             end,
             count: 0,
@@ -110,16 +111,14 @@ fn conditions_in(q: &[u8], at: usize) -> Gathered
     }
 }
 
-// Whether one of the conditions from `from` up to n is on the column that is spelled behind `at`.
-fn holds_column(q: &[u8], conditions: [Condition; 8], from: usize, n: usize, at: usize) -> bool
-    requires { ⌜ Sounds (now q) n conditions × (from ≤ n) × WellSpelled (now q) at ⌝ }
-    ensures { λ r. ⌜ r ≡ holds (decoded (drop at (now (q .entry)))) (drop from (columnsOf (now (q .entry)) n conditions)) ⌝ }
+// Whether the string that is spelled behind `at` is one of those that are spelled behind `columns`.
+fn holds_column(q: &[u8], columns: &[usize], at: usize) -> bool
+    requires { ⌜ All (WellSpelled (now q)) (now columns) × WellSpelled (now q) at ⌝ }
+    ensures { λ r. ⌜ r ≡ holds (decoded (drop at (now (q .entry)))) (namesAt (now (q .entry)) (now (columns .entry))) ⌝ }
 {
-    let mut k = from;
-    while k < n {
-        let c = conditions[k];
-        let column = c.column;
-        if json_strings::same_strings(q, at, q, column) {
+    let mut k = 0;
+    while k < columns.len() {
+        if json_strings::same_strings(q, at, q, columns[k]) {
             return true;
         }
         k += 1;
@@ -127,17 +126,16 @@ fn holds_column(q: &[u8], conditions: [Condition; 8], from: usize, n: usize, at:
     false
 }
 
-// Whether the columns of the first n conditions differ.
-fn columns_differ(q: &[u8], conditions: [Condition; 8], n: usize) -> bool
-    requires { ⌜ Sounds (now q) n conditions ⌝ }
-    ensures { λ r. ⌜ r ≡ distinct (columnsOf (now (q .entry)) n conditions) ⌝ }
+// Whether the strings that are spelled behind `columns` differ.
+fn columns_differ(q: &[u8], columns: &[usize]) -> bool
+    requires { ⌜ All (WellSpelled (now q)) (now columns) ⌝ }
+    ensures { λ r. ⌜ r ≡ distinct (namesAt (now (q .entry)) (now (columns .entry))) ⌝ }
 {
     let mut k = 0;
-    while k < n {
-        let c = conditions[k];
-        let column = c.column;
+    while k < columns.len() {
+        let column = columns[k];
         k += 1;
-        if holds_column(q, conditions, k, n, column) {
+        if holds_column(q, &columns[k..], column) {
             return false;
         }
     }
@@ -176,7 +174,14 @@ pub fn read(q: &[u8]) -> Query
     }
     let count = g.count;
     let conditions = g.conditions;
-    if columns_differ(q, conditions, count) {
+    let mut columns = [0; 8]; // lent alone, and gathered from all 8 whatever the count: either takes less stack
+    let mut k = 0;
+    while k < MOST_CONDITIONS {
+        let c = conditions[k];
+        columns[k] = c.column;
+        k += 1;
+    }
+    if columns_differ(q, &columns[..count]) {
         return Query {
             good: true,
             count,

@@ -18,13 +18,13 @@ enum-told : tie.Need-enum-told
 enum-told c = search needs
 
 returns : tie.Need-returns
-returns c = λ h _. absurd (omega arith)
+returns c = λ _ h. absurd (omega arith)
 
 plain-end-requires : tie.Need-plain-end-requires
 plain-end-requires c κs = subst (Answer _ _ _) (c .before .i .given .1) (c .before .before .before .skip-byte .ensures) .2
 
 returns-2 : tie.Need-returns-2
-returns-2 c = λ h _. absurd (omega arith)
+returns-2 c = λ _ h. absurd (omega arith)
 
 sub-if2 : tie.Need-sub-if2
 sub-if2 c =
@@ -33,13 +33,13 @@ sub-if2 c =
     x .2
 
 returns-3 : tie.Need-returns-3
-returns-3 c = λ h _. absurd (omega arith)
+returns-3 c = λ _ h. absurd (omega arith)
 
 shared-slice-read-if3 : tie.Need-shared-slice-read-if3
 shared-slice-read-if3 c = search needs
 
 returns-4 : tie.Need-returns-4
-returns-4 c = λ h _. absurd (omega arith)
+returns-4 c = λ _ h. absurd (omega arith)
 
 add-if4 : tie.Need-add-if4
 add-if4 c = search needs
@@ -48,7 +48,7 @@ shared-slice-read-if4 : tie.Need-shared-slice-read-if4
 shared-slice-read-if4 c = search needs
 
 returns-5 : tie.Need-returns-5
-returns-5 c = λ h _. absurd (omega arith)
+returns-5 c = λ _ h. absurd (omega arith)
 
 add-plain-end : tie.Need-add-plain-end
 add-plain-end c = search needs
@@ -57,7 +57,7 @@ plain-end-requires-2 : tie.Need-plain-end-requires-2
 plain-end-requires-2 c κs = search needs
 
 returns-6 : tie.Need-returns-6
-returns-6 c h d =
+returns-6 c d h =
     let i = c .before .before .before .before .before .before .before .before .before .i .given in
     let skip-byte = c .before .before .before .before .before .before .before .before .before .before .before .skip-byte in
     let q = subst (Answer _ _ _) (i .1) (skip-byte .ensures) in

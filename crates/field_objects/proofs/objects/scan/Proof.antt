@@ -37,8 +37,33 @@ enum-told c = search needs
 no-fields-requires : tie.Need-no-fields-requires Inv-loop μ-loop
 no-fields-requires c κs = search needs
 
+returns : tie.Need-returns Inv-loop μ-loop
+returns c =
+    let a = c .before .before .before .before .before .before .args in
+    scanned-none
+    (a .s .now)
+    (a .at)
+    (namesOf (a .kind))
+    (c .no-fields .ensures)
+    (opened-neither (rValue (a .depth)) (a .s .now) (a .at) (a .kind)
+    (subst (Follows _ _ _) (c .before .enum-told .given .1) (c .before .before .before .opening .ensures)))
+
 enum-known-end : tie.Need-enum-known-end Inv-loop μ-loop
 enum-known-end c = search needs
+
+returns-2 : tie.Need-returns-2 Inv-loop μ-loop
+returns-2 c =
+    let b6 = c .before .before .before .before .before .before in
+    let a = b6 .args in
+    opened-closed
+    (rValue (a .depth))
+    (a .s .now)
+    (a .at)
+    (a .kind)
+    (value-reads (a .depth))
+    (b6 .pre)
+    (c .before .end .given .0 .0)
+    (subst (Follows _ _ _) (c .before .end .given .1) (c .before .before .before .opening .ensures))
 
 enum-known-first : tie.Need-enum-known-first Inv-loop μ-loop
 enum-known-first c = search needs
@@ -66,8 +91,8 @@ enum-told-2 c = search needs
 no-fields-requires-2 : tie.Need-no-fields-requires-2 Inv-loop μ-loop
 no-fields-requires-2 c κs = search needs
 
-returns : tie.Need-returns Inv-loop μ-loop
-returns c =
+returns-3 : tie.Need-returns-3 Inv-loop μ-loop
+returns-3 c =
     let a = c .before .before .before .before .before .before .before .before .before .before .before .args in
     let loop = c .before .before .before .before .loop in
     scanned-none
@@ -92,8 +117,8 @@ enum-told-3 c = search needs
 no-fields-requires-3 : tie.Need-no-fields-requires-3 Inv-loop μ-loop
 no-fields-requires-3 c κs = search needs
 
-returns-2 : tie.Need-returns-2 Inv-loop μ-loop
-returns-2 c =
+returns-4 : tie.Need-returns-4 Inv-loop μ-loop
+returns-4 c =
     let b10 = c .before .before .before .before .before .before .before .before .before .before in
     let a = b10 .before .before .before .before .before .args in
     let loop = c .before .before .before .before .before .before .before .before .loop in
@@ -120,8 +145,8 @@ enum-told-4 c = search needs
 no-fields-requires-4 : tie.Need-no-fields-requires-4 Inv-loop μ-loop
 no-fields-requires-4 c κs = search needs
 
-returns-3 : tie.Need-returns-3 Inv-loop μ-loop
-returns-3 c =
+returns-5 : tie.Need-returns-5 Inv-loop μ-loop
+returns-5 c =
     let b10 = c .before .before .before .before .before .before .before .before .before .before in
     let a = b10 .before .before .before .before .before .before .before .before .before .args in
     let loop = b10 .before .before .loop in
@@ -183,8 +208,8 @@ enum-told-5 c = search needs
 no-fields-requires-5 : tie.Need-no-fields-requires-5 Inv-loop μ-loop
 no-fields-requires-5 c κs = search needs
 
-returns-4 : tie.Need-returns-4 Inv-loop μ-loop
-returns-4 c =
+returns-6 : tie.Need-returns-6 Inv-loop μ-loop
+returns-6 c =
     let b10 = c .before .before .before .before .before .before .before .before .before .before in
     let b20 = b10 .before .before .before .before .before .before .before .before .before .before in
     let a = b20 .before .before .before .before .before .args in
@@ -208,8 +233,8 @@ returns-4 c =
 enum-known-end-2 : tie.Need-enum-known-end-2 Inv-loop μ-loop
 enum-known-end-2 c = search needs
 
-returns-5 : tie.Need-returns-5 Inv-loop μ-loop
-returns-5 c =
+returns-7 : tie.Need-returns-7 Inv-loop μ-loop
+returns-7 c =
     let b10 = c .before .before .before .before .before .before .before .before .before .before in
     let b20 = b10 .before .before .before .before .before .before .before .before .before .before in
     let b25 = b20 .before .before .before .before .before in
@@ -312,31 +337,6 @@ loop-again c =
     (c .before .j .given .0 .0)
     (subst (Follows _ _ _) (c .before .j .given .1) (c .before .before .before .closing .ensures))
 
-returns-6 : tie.Need-returns-6 Inv-loop μ-loop
-returns-6 c =
-    let a = c .before .before .before .before .before .before .args in
-    scanned-none
-    (a .s .now)
-    (a .at)
-    (namesOf (a .kind))
-    (c .no-fields .ensures)
-    (opened-neither (rValue (a .depth)) (a .s .now) (a .at) (a .kind)
-    (subst (Follows _ _ _) (c .before .enum-told .given .1) (c .before .before .before .opening .ensures)))
-
-returns-7 : tie.Need-returns-7 Inv-loop μ-loop
-returns-7 c =
-    let b6 = c .before .before .before .before .before .before in
-    let a = b6 .args in
-    opened-closed
-    (rValue (a .depth))
-    (a .s .now)
-    (a .at)
-    (a .kind)
-    (value-reads (a .depth))
-    (b6 .pre)
-    (c .before .end .given .0 .0)
-    (subst (Follows _ _ _) (c .before .end .given .1) (c .before .before .before .opening .ensures))
-
 pub scan-spec : {M : Type 1} → statement M
 scan-spec =
     tie.close
@@ -347,24 +347,26 @@ scan-spec =
     opening-requires
     enum-told
     no-fields-requires
+    returns
     enum-known-end
+    returns-2
     enum-known-first
     loop-holds
     read-known-requires
     enum-known-n
     enum-told-2
     no-fields-requires-2
-    returns
+    returns-3
     skip-colon-requires
     enum-known-v
     enum-told-3
     no-fields-requires-3
-    returns-2
+    returns-4
     value-requires
     enum-known-e
     enum-told-4
     no-fields-requires-4
-    returns-3
+    returns-5
     mul-old
     array-copy-out-old
     noted-requires
@@ -373,11 +375,9 @@ scan-spec =
     closing-requires
     enum-told-5
     no-fields-requires-5
-    returns-4
+    returns-6
     enum-known-end-2
-    returns-5
+    returns-7
     enum-known-j
     loop-less
-    loop-again
-    returns-6
-    returns-7)
+    loop-again)

@@ -9,7 +9,6 @@ use Rattle.rules.specs.Json.Values.{elements, value as rValue}
 use Rattle.rules.proofs.Json.TextReads.{spelled-reads}
 use Rattle.rules.proofs.Json.ValueReads.{value-reads}
 use Rattle.rules.proofs.Json.Shadows.{behind-spelled}
-use Rattle.json_tokens.specs.Answers.{Answer}
 use Rattle.json_values.specs.Follows.{Follows}
 use Rattle.json_values.proofs.Turns.{Going, going-start, opened-none, opened-closed, going-none, going-neither, going-closed, going-more, turn-less}
 use Rattle.json_values.proofs.array.Reads as array
@@ -54,35 +53,25 @@ module _ (t : ℕ) where
   pub value-within-requires : lts.Need-value-within-requires (claims t) (array-at t) array.Post Inv-loop μ-loop
   value-within-requires c κs = (omega arith, (c .loop .inv .within))
 
-  pub enum-known-j : lts.Need-enum-known-j (claims t) (array-at t) array.Post Inv-loop μ-loop
-  enum-known-j c = search needs
+  pub returns : lts.Need-returns (claims t) (array-at t) array.Post Inv-loop μ-loop
+  unfolding elements
+  returns c = going-none (c .before .before .loop .inv) (behind-spelled _ _ ∙ c .before .value-within .ensures .nothing (c .if1 .taken))
+
+  pub closing-requires : lts.Need-closing-requires (claims t) (array-at t) array.Post Inv-loop μ-loop
+  closing-requires c κs = c .before .value-within .ensures .found (omega arith) .2
 
   pub enum-told-2 : lts.Need-enum-told-2 (claims t) (array-at t) array.Post Inv-loop μ-loop
   enum-told-2 c = search needs
 
-  pub returns : lts.Need-returns (claims t) (array-at t) array.Post Inv-loop μ-loop
-  unfolding elements
-  returns c =
-      going-none
-      (c .before .before .before .loop .inv)
-      (behind-spelled _ _ ∙ subst (Answer _ _ _) (c .enum-told2 .given .1) (c .before .before .value-within .ensures))
-
-  pub closing-requires : lts.Need-closing-requires (claims t) (array-at t) array.Post Inv-loop μ-loop
-  closing-requires c κs = subst (Answer _ _ _) (c .before .j .given .1) (c .before .before .before .value-within .ensures) .2
-
-  pub enum-told-3 : lts.Need-enum-told-3 (claims t) (array-at t) array.Post Inv-loop μ-loop
-  enum-told-3 c = search needs
-
   pub returns-2 : lts.Need-returns-2 (claims t) (array-at t) array.Post Inv-loop μ-loop
   unfolding elements
   returns-2 c =
-      let j = c .before .before .before .before .j .given in
-      let v = subst (Answer _ _ _) (j .1) (c .before .before .before .before .before .before .value-within .ensures) in
+      let within = c .before .before .before .before .value-within in
       going-neither
-      (c .before .before .before .before .before .before .before .loop .inv)
-      (j .0 .0)
-      (behind-spelled _ _ ∙ v .0)
-      (subst (Follows _ _ _) (c .enum-told3 .given .1) (c .before .before .closing .ensures))
+      (c .before .before .before .before .before .loop .inv)
+      (within .result)
+      (behind-spelled _ _ ∙ within .ensures .found (omega arith) .0)
+      (subst (Follows _ _ _) (c .enum-told2 .given .1) (c .before .before .closing .ensures))
 
   pub enum-known-end-2 : lts.Need-enum-known-end-2 (claims t) (array-at t) array.Post Inv-loop μ-loop
   enum-known-end-2 c = search needs
@@ -90,18 +79,14 @@ module _ (t : ℕ) where
   pub returns-3 : lts.Need-returns-3 (claims t) (array-at t) array.Post Inv-loop μ-loop
   unfolding elements
   returns-3 c =
-      let b14 = c .before .before .before .before .before .before .before .before .before .before .before .before .before .before in
-      let j = c .before .before .before .before .before .j .given in
-      let loop = c .before .before .before .before .before .before .before .before .loop in
-      let args = b14 .args in
-      let pre = b14 .pre in
-      let v = subst (Answer _ _ _) (j .1) (c .before .before .before .before .before .before .before .value-within .ensures) in
+      let within = c .before .before .before .before .before .value-within in
+      let a = c .before .before .before .before .before .before .before .before .before .before .before .before in
       going-closed
-      (loop .inv)
-      (j .0 .0)
-      (behind-spelled _ _ ∙ v .0)
-      (spelled-reads (value-reads (args .depth)))
-      (pre .1)
+      (c .before .before .before .before .before .before .loop .inv)
+      (within .result)
+      (behind-spelled _ _ ∙ within .ensures .found (omega arith) .0)
+      (spelled-reads (value-reads (a .args .depth)))
+      (a .pre .1)
       (subst (Follows _ _ _) (c .before .end2 .given .1) (c .before .before .before .closing .ensures))
 
   pub enum-known-k : lts.Need-enum-known-k (claims t) (array-at t) array.Post Inv-loop μ-loop
@@ -109,23 +94,19 @@ module _ (t : ℕ) where
 
   pub loop-less : lts.Need-loop-less (claims t) (array-at t) array.Post Inv-loop μ-loop
   loop-less c =
-      let loop = c .before .before .before .before .before .before .before .before .loop in
-      let args = c .before .before .before .before .before .before .before .before .before .before .before .before .before .before .args in
-      let v = subst (Answer _ _ _) (c .before .before .before .before .before .j .given .1)
-      (c .before .before .before .before .before .before .before .value-within .ensures) in
+      let args = c .before .before .before .before .before .before .before .before .before .before .before .before .args in
+      let v = c .before .before .before .before .before .value-within .ensures .found (omega arith) in
       let o = subst (Follows _ _ _) (c .before .k .given .1) (c .before .before .before .closing .ensures) in
-      turn-less (args .s .now) (loop .i) (v .1) (o .1) (o .2)
+      turn-less (args .s .now) (c .before .before .before .before .before .before .loop .i) (v .1) (o .1) (o .2)
 
   pub loop-again : lts.Need-loop-again (claims t) (array-at t) array.Post Inv-loop μ-loop
   loop-again c =
-      let j = c .before .before .before .before .before .j .given in
-      let loop = c .before .before .before .before .before .before .before .before .loop in
-      let args = c .before .before .before .before .before .before .before .before .before .before .before .before .before .before .args in
-      let v = subst (Answer _ _ _) (j .1) (c .before .before .before .before .before .before .before .value-within .ensures) in
+      let within = c .before .before .before .before .before .value-within in
+      let args = c .before .before .before .before .before .before .before .before .before .before .before .before .args in
       going-more
-      (loop .inv)
-      (j .0 .0)
-      (behind-spelled _ _ ∙ v .0)
+      (c .before .before .before .before .before .before .loop .inv)
+      (within .result)
+      (behind-spelled _ _ ∙ within .ensures .found (omega arith) .0)
       (spelled-reads (value-reads (args .depth)))
       (subst (Follows _ _ _) (c .before .k .given .1) (c .before .before .before .closing .ensures))
 

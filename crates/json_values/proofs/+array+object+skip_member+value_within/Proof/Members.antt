@@ -8,8 +8,11 @@ use Rattle.rules.specs.Json.Text.{behind}
 use Rattle.rules.specs.Json.Values.{member, contents, value as rValue}
 use Rattle.rules.proofs.Json.ValueReads.{member-reads, value-reads}
 use Rattle.json_tokens.specs.Answers.{Answer}
-use Rattle.json_tokens.proofs.Anew.{within-anew, answer-anew}
+use Rattle.json_tokens.specs.declared.tokens.Next.the-variants.{At}
+use Rattle.json_tokens.proofs.Anew.{within-anew}
 use Rattle.json_values.specs.Follows.{Follows}
+use Rattle.json_values.specs.Numbered.{Numbered}
+use Rattle.json_values.proofs.Numbers.{numbered-anew}
 use Rattle.json_values.proofs.Turns.{Going, going-start, opened-none, opened-closed, going-none, going-neither, going-closed, going-more, turn-less}
 use Rattle.json_values.proofs.object.Reads as object
 use Rattle.json_values.proofs.skip_member.Reads as skip-member
@@ -67,39 +70,41 @@ module _ (t : ℕ) where
   member-answer : (c : lts.After-skip-member (claims t) (object-at t) object.Post Inv-loop μ-loop) →
       let loop = c .before .before .loop in
       let args = c .before .before .before .before .before .before .before .before .args in
-      Answer (behind (member (rValue (args .depth)) (drop (loop .i) (args .s .now)))) (args .s .now) (loop .i + 1) (c .skip-member .result)
+      Numbered (behind (member (rValue (args .depth)) (drop (loop .i) (args .s .now)))) (args .s .now) (loop .i + 1) (c .skip-member .result)
   member-answer c =
       let args8 = c .before .before .before .before .before .before .before .before .args in
-      answer-anew
+      numbered-anew
       (λ u. behind (member (rValue (args8 .depth)) u))
       (args8 .s .now)
       (c .before .before .loop .i)
       (c .skip-member .result)
       (c .skip-member .ensures)
 
-  pub enum-known-j : lts.Need-enum-known-j (claims t) (object-at t) object.Post Inv-loop μ-loop
-  enum-known-j c = search needs
+  -- where the member ends
+  member-found : (c : lts.Else1 (claims t) (object-at t) object.Post Inv-loop μ-loop) →
+      let loop = c .before .before .before .loop in
+      let args = c .before .before .before .before .before .before .before .before .before .args in
+      Answer (behind (member (rValue (args .depth)) (drop (loop .i) (args .s .now)))) (args .s .now) (loop .i + 1) (At (c .before .skip-member .result))
+  member-found c = member-answer (c .before) .found (omega arith)
+
+  pub returns : lts.Need-returns (claims t) (object-at t) object.Post Inv-loop μ-loop
+  unfolding contents
+  returns c = going-none (c .before .before .before .loop .inv) (member-answer (c .before) .nothing (c .if1 .taken))
+
+  pub closing-requires : lts.Need-closing-requires (claims t) (object-at t) object.Post Inv-loop μ-loop
+  closing-requires c κs = member-found c .2
 
   pub enum-told-2 : lts.Need-enum-told-2 (claims t) (object-at t) object.Post Inv-loop μ-loop
   enum-told-2 c = search needs
 
-  pub returns : lts.Need-returns (claims t) (object-at t) object.Post Inv-loop μ-loop
-  unfolding contents
-  returns c = going-none (c .before .before .before .before .loop .inv) (subst (Answer _ _ _) (c .enum-told2 .given .1) (member-answer (c .before .before)))
-
-  pub closing-requires : lts.Need-closing-requires (claims t) (object-at t) object.Post Inv-loop μ-loop
-  closing-requires c κs = subst (Answer _ _ _) (c .before .j .given .1) (member-answer (c .before .before .before)) .2
-
-  pub enum-told-3 : lts.Need-enum-told-3 (claims t) (object-at t) object.Post Inv-loop μ-loop
-  enum-told-3 c = search needs
-
   pub returns-2 : lts.Need-returns-2 (claims t) (object-at t) object.Post Inv-loop μ-loop
   unfolding contents
   returns-2 c =
-      let j = c .before .before .before .before .j .given in
-      let loop = c .before .before .before .before .before .before .before .before .loop in
-      let m = subst (Answer _ _ _) (j .1) (member-answer (c .before .before .before .before .before .before)) in
-      going-neither (loop .inv) (j .0 .0) (m .0) (subst (Follows _ _ _) (c .enum-told3 .given .1) (c .before .before .closing .ensures))
+      going-neither
+      (c .before .before .before .before .before .before .loop .inv)
+      (c .before .before .before .before .skip-member .result)
+      (member-found (c .before .before .before) .0)
+      (subst (Follows _ _ _) (c .enum-told2 .given .1) (c .before .before .closing .ensures))
 
   pub enum-known-end-2 : lts.Need-enum-known-end-2 (claims t) (object-at t) object.Post Inv-loop μ-loop
   enum-known-end-2 c = search needs
@@ -107,15 +112,12 @@ module _ (t : ℕ) where
   pub returns-3 : lts.Need-returns-3 (claims t) (object-at t) object.Post Inv-loop μ-loop
   unfolding contents
   returns-3 c =
-      let b10 = c .before .before .before .before .before .before .before .before .before .before in
-      let j = c .before .before .before .before .before .j .given in
-      let loop = c .before .before .before .before .before .before .before .before .before .loop in
-      let a = b10 .before .before .before .before .before in
-      let m = subst (Answer _ _ _) (j .1) (member-answer (c .before .before .before .before .before .before .before)) in
+      let loop = c .before .before .before .before .before .before .before .loop in
+      let a = c .before .before .before .before .before .before .before .before .before .before .before .before .before in
       going-closed
       (loop .inv)
-      (j .0 .0)
-      (m .0)
+      (c .before .before .before .before .before .skip-member .result)
+      (member-found (c .before .before .before .before) .0)
       (member-reads (value-reads (a .args .depth)))
       (a .pre .1)
       (subst (Follows _ _ _) (c .before .end2 .given .1) (c .before .before .before .closing .ensures))
@@ -125,25 +127,18 @@ module _ (t : ℕ) where
 
   pub loop-less : lts.Need-loop-less (claims t) (object-at t) object.Post Inv-loop μ-loop
   loop-less c =
-      let b10 = c .before .before .before .before .before .before .before .before .before .before in
-      let loop = c .before .before .before .before .before .before .before .before .before .loop in
-      let args = b10 .before .before .before .before .before .args in
-      let m = subst (Answer _ _ _) (c .before .before .before .before .before .j .given .1)
-      (member-answer (c .before .before .before .before .before .before .before)) in
+      let args = c .before .before .before .before .before .before .before .before .before .before .before .before .before .args in
+      let m = member-found (c .before .before .before .before) in
       let o = subst (Follows _ _ _) (c .before .k .given .1) (c .before .before .before .closing .ensures) in
-      turn-less (args .s .now) (loop .i) (m .1) (o .1) (o .2)
+      turn-less (args .s .now) (c .before .before .before .before .before .before .before .loop .i) (m .1) (o .1) (o .2)
 
   pub loop-again : lts.Need-loop-again (claims t) (object-at t) object.Post Inv-loop μ-loop
   loop-again c =
-      let b10 = c .before .before .before .before .before .before .before .before .before .before in
-      let j = c .before .before .before .before .before .j .given in
-      let loop = c .before .before .before .before .before .before .before .before .before .loop in
-      let args = b10 .before .before .before .before .before .args in
-      let m = subst (Answer _ _ _) (j .1) (member-answer (c .before .before .before .before .before .before .before)) in
+      let args = c .before .before .before .before .before .before .before .before .before .before .before .before .before .args in
       going-more
-      (loop .inv)
-      (j .0 .0)
-      (m .0)
+      (c .before .before .before .before .before .before .before .loop .inv)
+      (c .before .before .before .before .before .skip-member .result)
+      (member-found (c .before .before .before .before) .0)
       (member-reads (value-reads (args .depth)))
       (subst (Follows _ _ _) (c .before .k .given .1) (c .before .before .before .closing .ensures))
 

@@ -8,6 +8,7 @@ use Rattle.rules.specs.Json.Values.{scalar, value as rValue}
 use Rattle.rules.proofs.Json.Steps.{value-end, value-object, value-array, value-no-object, value-no-array, value-scalar}
 use Rattle.json_tokens.specs.Answers.{Answer}
 use Rattle.json_tokens.proofs.Places.{here, here-is, ended, answer-from}
+use Rattle.json_values.proofs.Numbers.{numbered-none, numbered-at, numbered-from}
 use Rattle.json_values.proofs.array.Reads as array
 use Rattle.json_values.proofs.object.Reads as object
 use Rattle.json_values.proofs.value_within.Reads as value
@@ -20,15 +21,16 @@ claims t = (object-below t, object.Post, array-below t, array.Post, skip-scalar.
 
 module _ (t : ℕ) where
   pub returns : lts.Need-returns (claims t) (value-at t) value.Post
-  returns c = ap (rValue (c .before .before .args .depth)) (ended _ _ (c .if1 .taken)) ∙ value-end _
+  returns c = numbered-none (ap (rValue (c .before .before .args .depth)) (ended _ _ (c .if1 .taken)) ∙ value-end _)
 
   pub shared-slice-read-b : lts.Need-shared-slice-read-b (claims t) (value-at t) value.Post
   shared-slice-read-b c = search needs
 
   pub returns-2 : lts.Need-returns-2 (claims t) (value-at t) value.Post
   returns-2 c =
-      ap (rValue (c .before .before .before .before .before .args .depth)) (here-is _ _ 0x7B (c .before .before .before .if1 .left) (c .before .if2 .taken))
-      ∙ value-no-object _ _ (c .if3 .taken)
+      numbered-none
+      (ap (rValue (c .before .before .before .before .before .args .depth)) (here-is _ _ 0x7B (c .before .before .before .if1 .left) (c .before .if2 .taken))
+      ∙ value-no-object _ _ (c .if3 .taken))
 
   pub add-object : lts.Need-add-object (claims t) (value-at t) value.Post
   add-object c = search needs
@@ -42,7 +44,7 @@ module _ (t : ℕ) where
   pub returns-3 : lts.Need-returns-3 (claims t) (value-at t) value.Post
   returns-3 c =
       let args = c .before .before .before .before .before .before .args in
-      answer-from _ _
+      numbered-from _ _
       (args .s .now)
       _ _
       (c .object .result)
@@ -53,8 +55,9 @@ module _ (t : ℕ) where
 
   pub returns-4 : lts.Need-returns-4 (claims t) (value-at t) value.Post
   returns-4 c =
-      ap (rValue (c .before .before .before .before .before .before .args .depth))
-      (here-is _ _ 0x5B (c .before .before .before .before .if1 .left) (c .before .if4 .taken)) ∙ value-no-array _ _ (c .if5 .taken)
+      numbered-none
+      (ap (rValue (c .before .before .before .before .before .before .args .depth))
+      (here-is _ _ 0x5B (c .before .before .before .before .if1 .left) (c .before .if4 .taken)) ∙ value-no-array _ _ (c .if5 .taken))
 
   pub add-array : lts.Need-add-array (claims t) (value-at t) value.Post
   add-array c = search needs
@@ -68,7 +71,7 @@ module _ (t : ℕ) where
   pub returns-5 : lts.Need-returns-5 (claims t) (value-at t) value.Post
   returns-5 c =
       let args = c .before .before .before .before .before .before .before .args in
-      answer-from _ _
+      numbered-from _ _
       (args .s .now)
       _ _
       (c .array .result)
@@ -102,7 +105,7 @@ module _ (t : ℕ) where
       (ap (rValue (args6 .depth)) h ∙ value-scalar _ _ _ (c .before .before .if2 .left) (c .before .if4 .left) ∙ ap scalar (sym h))
 
   pub returns-6 : lts.Need-returns-6 (claims t) (value-at t) value.Post
-  returns-6 c = subst (Answer _ _ _) (c .enum-told .given .1) (scalar-answer (c .before .before))
+  returns-6 c = numbered-none (subst (Answer _ _ _) (c .enum-told .given .1) (scalar-answer (c .before .before)))
 
   pub returns-7 : lts.Need-returns-7 (claims t) (value-at t) value.Post
-  returns-7 c = subst (Answer _ _ _) (c .before .end .given .1) (scalar-answer (c .before .before .before))
+  returns-7 c = numbered-at (omega arith) (subst (Answer _ _ _) (c .before .end .given .1) (scalar-answer (c .before .before .before)))

@@ -1,70 +1,96 @@
 -- `columns_differ` meets its contract: what is asked of all columns is asked of those from k on.
 use Rattle.query_conditions.proofs.Columns.{columns-none, columns-twice, columns-past}
-use Rattle.query_conditions.specs.Reading.{columnsOf}
-use Rattle.rules.specs.Bytes.{distinct}
-use lib.ListN.{length, drop}
-use Prim.Native.Nat.{_-_, _≤_}
-use mathlib.Core.Path.{_≡_, refl, sym, _∙_}
+use Rattle.query_conditions.specs.Reading.{namesAt}
+use Rattle.json_strings.specs.Decoded.{decoded, WellSpelled}
+use Rattle.facts.specs.Parts.{part}
+use Rattle.facts.specs.Lists.{All}
+use Rattle.facts.proofs.Parts.{part-behind}
+use Rattle.facts.proofs.Lists.{All-at, All-drop}
+use Rattle.rules.specs.Bytes.{holds, distinct}
+use lib.ListN.{length, take, drop, getD}
+use Prim.Native.Nat.{ℕ, _+_, _-_, _≤_}
+use mathlib.Core.List.{List}
+use mathlib.Core.Path.{_≡_, refl, sym, ap, _∙_, subst}
 use native.Mathlib.Omega.{arith}
 use borrow.Author.Needs.{needs}
 use Rattle.query_conditions.proofs.reading.columns_differ.Statement.{statement}
 use Rattle.query_conditions.proofs.reading.columns_differ.Tie as tie
 
 abbrev Inv-loop : tie.InvT-loop
-Inv-loop q n conditions k₀ k = (k ≤ n) × (distinct (columnsOf q n conditions) ≡ distinct (drop k (columnsOf q n conditions)))
+Inv-loop q columns k₀ k = (k ≤ length columns) × (distinct (namesAt q columns) ≡ distinct (namesAt q (drop k columns)))
 
 abbrev μ-loop : tie.MeasureT-loop
-μ-loop q n conditions k₀ k = n - k
+μ-loop q columns k₀ k = length columns - k
+
+-- what is lent from k on
+lent : (ps : List ℕ) (k : ℕ) → take (length ps - k) (drop k ps) ≡ drop k ps
+unfolding part
+lent ps k = part-behind ps k (length ps) (omega arith)
 
 loop-holds : tie.Need-loop-holds Inv-loop μ-loop
 loop-holds c = (omega arith, refl)
 
-mul-c : tie.Need-mul-c Inv-loop μ-loop
-mul-c c =
-    let b3 = c .before .before .before in
-    let few : b3 .args .n ≤ 8 = b3 .pre .few in search needs
+mul-column : tie.Need-mul-column Inv-loop μ-loop
+mul-column c = search needs
 
-array-copy-out-c : tie.Need-array-copy-out-c Inv-loop μ-loop
-array-copy-out-c c =
-    let b3 = c .before .before .before in
-    let few : b3 .args .n ≤ 8 = b3 .pre .few in search needs
+shared-slice-read-column : tie.Need-shared-slice-read-column Inv-loop μ-loop
+shared-slice-read-column c = search needs
 
 add-k : tie.Need-add-k Inv-loop μ-loop
 add-k c = search needs
 
+mul-holds-column : tie.Need-mul-holds-column Inv-loop μ-loop
+mul-holds-column c = search needs
+
+sub-holds-column : tie.Need-sub-holds-column Inv-loop μ-loop
+sub-holds-column c = search needs
+
+part-holds-column-start : tie.Need-part-holds-column-start Inv-loop μ-loop
+part-holds-column-start c = search needs
+
+part-holds-column-end : tie.Need-part-holds-column-end Inv-loop μ-loop
+part-holds-column-end c = search needs
+
 holds-column-requires : tie.Need-holds-column-requires Inv-loop μ-loop
 holds-column-requires c κs =
-    let pre = c .before .before .before .before .pre in
-    (pre, omega arith, pre .each (c .before .before .loop .k) (c .before .loop-test .taken) .column)
+    let b6 = c .before .before .before .before .before .before in
+    let k = c .before .before .before .loop .k in
+    let ps = b6 .args .columns .now in
+    let spelled = WellSpelled (b6 .args .q .now) in (
+      subst (All spelled) (sym (lent ps (k + 1))) (All-drop spelled (k + 1) ps (b6 .pre)),
+      All-at spelled ps k 0 (c .before .before .loop-test .taken) (b6 .pre),
+    )
 
 returns : tie.Need-returns Inv-loop μ-loop
 returns c =
-    let b6 = c .before .before .before .before .before .before in
-    let loop = c .before .before .before .before .loop in
-    let args = b6 .args in
-    columns-twice (args .q .now) (args .n) (args .t2) (let size : length (args .t2) ≡ 8 = search needs in omega (arith, b6 .pre .few)) (loop .k)
-    (c .before .before .before .loop-test .taken) (sym (c .before .holds-column .ensures) ∙ c .if1 .taken) ∙ sym (loop .inv .1)
+    let loop = c .before .before .before .before .before .loop in
+    let args = c .before .before .before .before .before .before .before .before .args in
+    let q = args .q .now in
+    let ps = args .columns .now in
+    columns-twice q ps (loop .k) (c .before .before .before .before .loop-test .taken)
+    (ap (λ (xs : List ℕ). holds (decoded (drop (getD ps (loop .k) 0) q)) (namesAt q xs)) (sym (lent ps (loop .k + 1)))
+    ∙ sym (c .before .holds-column .ensures) ∙ c .if1 .taken) ∙ sym (loop .inv .1)
 
 loop-less : tie.Need-loop-less Inv-loop μ-loop
 loop-less c = search needs
 
 loop-again : tie.Need-loop-again Inv-loop μ-loop
 loop-again c =
-    let b6 = c .before .before .before .before .before .before in
-    let loop = c .before .before .before .before .loop in
-    let args = b6 .args in (
+    let loop = c .before .before .before .before .before .loop in
+    let args = c .before .before .before .before .before .before .before .before .args in
+    let q = args .q .now in
+    let ps = args .columns .now in (
       omega arith,
       loop .inv .1
-          ∙ columns-past (args .q .now) (args .n) (args .t2) (let size : length (args .t2) ≡ 8 = search needs in omega (arith, b6 .pre .few)) (loop .k)
-          (c .before .before .before .loop-test .taken) (sym (c .before .holds-column .ensures) ∙ c .if1 .left),
+          ∙ columns-past q ps (loop .k) (c .before .before .before .before .loop-test .taken)
+          (ap (λ (xs : List ℕ). holds (decoded (drop (getD ps (loop .k) 0) q)) (namesAt q xs)) (sym (lent ps (loop .k + 1)))
+          ∙ sym (c .before .holds-column .ensures) ∙ c .if1 .left),
     )
 
 returns-2 : tie.Need-returns-2 Inv-loop μ-loop
 returns-2 c =
-    let b3 = c .before .before .before in
-    let args = b3 .args in
-    columns-none (args .q .now) (args .n) (args .t2) (let size : length (args .t2) ≡ 8 = search needs in omega (arith, b3 .pre .few)) (c .before .loop .k)
-    (c .loop-test .left) ∙ sym (c .before .loop .inv .1)
+    let args = c .before .before .before .before .args in
+    columns-none (args .q .now) (args .columns .now) (c .before .loop .k) (c .loop-test .left) ∙ sym (c .before .loop .inv .1)
 
 pub columns-differ-spec : {M : Type 1} → statement M
 columns-differ-spec =
@@ -73,9 +99,13 @@ columns-differ-spec =
     Inv-loop
     μ-loop
     loop-holds
-    mul-c
-    array-copy-out-c
+    mul-column
+    shared-slice-read-column
     add-k
+    mul-holds-column
+    sub-holds-column
+    part-holds-column-start
+    part-holds-column-end
     holds-column-requires
     returns
     loop-less

@@ -32,8 +32,27 @@ enum-told c = search needs
 no-array-requires : tie.Need-no-array-requires Inv-loop μ-loop
 no-array-requires c κs = search needs
 
+returns : tie.Need-returns Inv-loop μ-loop
+returns c =
+    let args = c .before .before .before .before .before .before .args in
+    let q = args .q .now in
+    subst
+    (GatheredIs (fewOf (list conditionRead 0x5D (drop (args .at) q))) q)
+    (sym (c .no-array .ensures))
+    (opened-neither q (args .at) (subst (Follows _ _ _) (c .before .enum-told .given .1) (c .before .before .before .opening .ensures)), refl)
+
 enum-known-end : tie.Need-enum-known-end Inv-loop μ-loop
 enum-known-end c = search needs
+
+returns-2 : tie.Need-returns-2 Inv-loop μ-loop
+returns-2 c =
+    let end = c .before .end .given in
+    let args = c .before .before .before .before .before .before .args in
+    let q = args .q .now in
+    subst
+    (λ (x : Condition). Array (fewOf (list conditionRead 0x5D (drop (args .at) q))) q (end .0 .0) 0 (replicate 8 x))
+    (sym (c .before .before .before .before .no-condition .ensures))
+    (opened-closed q (args .at) (end .0 .0) (subst (Follows _ _ _) (end .1) (c .before .before .before .opening .ensures)))
 
 enum-known-first : tie.Need-enum-known-first Inv-loop μ-loop
 enum-known-first c = search needs
@@ -50,8 +69,8 @@ loop-holds c =
 no-array-requires-2 : tie.Need-no-array-requires-2 Inv-loop μ-loop
 no-array-requires-2 c κs = search needs
 
-returns : tie.Need-returns Inv-loop μ-loop
-returns c =
+returns-3 : tie.Need-returns-3 Inv-loop μ-loop
+returns-3 c =
     let loop = c .before .before .loop in
     let args = c .before .before .before .before .before .before .before .before .before .args in
     let q = args .q .now in
@@ -72,8 +91,8 @@ enum-told-2 c = search needs
 no-array-requires-3 : tie.Need-no-array-requires-3 Inv-loop μ-loop
 no-array-requires-3 c κs = search needs
 
-returns-2 : tie.Need-returns-2 Inv-loop μ-loop
-returns-2 c =
+returns-4 : tie.Need-returns-4 Inv-loop μ-loop
+returns-4 c =
     let loop = c .before .before .before .before .before .loop in
     let args = c .before .before .before .before .before .before .before .before .before .before .before .before .args in
     let q = args .q .now in
@@ -112,8 +131,8 @@ enum-told-3 c = search needs
 no-array-requires-4 : tie.Need-no-array-requires-4 Inv-loop μ-loop
 no-array-requires-4 c κs = search needs
 
-returns-3 : tie.Need-returns-3 Inv-loop μ-loop
-returns-3 c =
+returns-5 : tie.Need-returns-5 Inv-loop μ-loop
+returns-5 c =
     let b10 = c .before .before .before .before .before .before .before .before .before .before in
     let c5 = c .before .before .before .before .before .c .given in
     let loop = c .before .before .before .before .before .before .before .before .before .loop in
@@ -131,8 +150,8 @@ returns-3 c =
 enum-known-end-2 : tie.Need-enum-known-end-2 Inv-loop μ-loop
 enum-known-end-2 c = search needs
 
-returns-4 : tie.Need-returns-4 Inv-loop μ-loop
-returns-4 c =
+returns-6 : tie.Need-returns-6 Inv-loop μ-loop
+returns-6 c =
     let b10 = c .before .before .before .before .before .before .before .before .before .before in
     let c5 = c .before .before .before .before .before .c .given in
     let loop = c .before .before .before .before .before .before .before .before .before .loop in
@@ -190,25 +209,6 @@ loop-again c =
     (c .before .j .given .0 .0)
     (subst (Follows _ _ _) (c .before .j .given .1) (c .before .before .before .closing .ensures))
 
-returns-5 : tie.Need-returns-5 Inv-loop μ-loop
-returns-5 c =
-    let args = c .before .before .before .before .before .before .args in
-    let q = args .q .now in
-    subst
-    (GatheredIs (fewOf (list conditionRead 0x5D (drop (args .at) q))) q)
-    (sym (c .no-array .ensures))
-    (opened-neither q (args .at) (subst (Follows _ _ _) (c .before .enum-told .given .1) (c .before .before .before .opening .ensures)), refl)
-
-returns-6 : tie.Need-returns-6 Inv-loop μ-loop
-returns-6 c =
-    let end = c .before .end .given in
-    let args = c .before .before .before .before .before .before .args in
-    let q = args .q .now in
-    subst
-    (λ (x : Condition). Array (fewOf (list conditionRead 0x5D (drop (args .at) q))) q (end .0 .0) 0 (replicate 8 x))
-    (sym (c .before .before .before .before .no-condition .ensures))
-    (opened-closed q (args .at) (end .0 .0) (subst (Follows _ _ _) (end .1) (c .before .before .before .opening .ensures)))
-
 pub conditions-in-spec : {M : Type 1} → statement M
 conditions-in-spec =
     tie.close
@@ -219,27 +219,27 @@ conditions-in-spec =
     opening-requires
     enum-told
     no-array-requires
+    returns
     enum-known-end
+    returns-2
     enum-known-first
     loop-holds
     no-array-requires-2
-    returns
+    returns-3
     condition-at-requires
     enum-known-c
     enum-told-2
     no-array-requires-3
-    returns-2
+    returns-4
     mul-conditions
     array-set-from-conditions
     add-n
     closing-requires
     enum-told-3
     no-array-requires-4
-    returns-3
+    returns-5
     enum-known-end-2
-    returns-4
+    returns-6
     enum-known-j
     loop-less
-    loop-again
-    returns-5
-    returns-6)
+    loop-again)

@@ -1,7 +1,8 @@
--- `holds_column` meets its contract: what is asked of the conditions from `from` on is asked of those from k on.
+-- `holds_column` meets its contract: what is asked of all columns is asked of those from k on.
 use Rattle.query_conditions.proofs.Columns.{column-none, column-held, column-past}
-use Rattle.query_conditions.specs.Reading.{columnsOf}
-use Rattle.json_strings.specs.Decoded.{decoded}
+use Rattle.query_conditions.specs.Reading.{namesAt}
+use Rattle.json_strings.specs.Decoded.{decoded, WellSpelled}
+use Rattle.facts.proofs.Lists.{All-at}
 use Rattle.rules.specs.Bytes.{holds}
 use lib.ListN.{length, drop}
 use Prim.Native.Nat.{_-_, _≤_}
@@ -12,37 +13,31 @@ use Rattle.query_conditions.proofs.reading.holds_column.Statement.{stat
 use Rattle.query_conditions.proofs.reading.holds_column.Tie as tie
 
 abbrev Inv-loop : tie.InvT-loop
-Inv-loop q from n at conditions k₀ k =
-    (k ≤ n) × (holds (decoded (drop at q)) (drop from (columnsOf q n conditions)) ≡ holds (decoded (drop at q)) (drop k (columnsOf q n conditions)))
+Inv-loop q columns at k₀ k =
+    (k ≤ length columns) × (holds (decoded (drop at q)) (namesAt q columns) ≡ holds (decoded (drop at q)) (namesAt q (drop k columns)))
 
 abbrev μ-loop : tie.MeasureT-loop
-μ-loop q from n at conditions k₀ k = n - k
+μ-loop q columns at k₀ k = length columns - k
 
 loop-holds : tie.Need-loop-holds Inv-loop μ-loop
-loop-holds c = (c .before .pre .1, refl)
+loop-holds c = (omega arith, refl)
 
-mul-c : tie.Need-mul-c Inv-loop μ-loop
-mul-c c =
-    let b3 = c .before .before .before in
-    let few : b3 .args .n ≤ 8 = b3 .pre .0 .few in search needs
+mul-same-strings : tie.Need-mul-same-strings Inv-loop μ-loop
+mul-same-strings c = search needs
 
-array-copy-out-c : tie.Need-array-copy-out-c Inv-loop μ-loop
-array-copy-out-c c =
-    let b3 = c .before .before .before in
-    let few : b3 .args .n ≤ 8 = b3 .pre .0 .few in search needs
+shared-slice-read-same-strings : tie.Need-shared-slice-read-same-strings Inv-loop μ-loop
+shared-slice-read-same-strings c = search needs
 
 same-strings-requires : tie.Need-same-strings-requires Inv-loop μ-loop
 same-strings-requires c κs =
-    let pre = c .before .before .before .before .pre in
-    (pre .2, pre .0 .each (c .before .before .loop .k) (c .before .loop-test .taken) .column)
+    let b5 = c .before .before .before .before .before in
+    (b5 .pre .1, All-at (WellSpelled (b5 .args .q .now)) (b5 .args .columns .now) (c .before .before .loop .k) 0 (c .before .loop-test .taken) (b5 .pre .0))
 
 returns : tie.Need-returns Inv-loop μ-loop
 returns c =
-    let b6 = c .before .before .before .before .before .before in
     let loop = c .before .before .before .before .loop in
-    let args = b6 .args in
-    column-held (args .q .now) (args .n) (args .t2) (let size : length (args .t2) ≡ 8 = search needs in omega (arith, b6 .pre .0 .few))
-    (decoded (drop (args .at) (args .q .now))) (loop .k) (c .before .before .before .loop-test .taken)
+    let args = c .before .before .before .before .before .before .before .args in
+    column-held (args .q .now) (args .columns .now) (decoded (drop (args .at) (args .q .now))) (loop .k) (c .before .before .before .loop-test .taken)
     (sym (c .before .same-strings .ensures) ∙ c .if1 .taken) ∙ sym (loop .inv .1)
 
 add-k : tie.Need-add-k Inv-loop μ-loop
@@ -53,22 +48,19 @@ loop-less c = search needs
 
 loop-again : tie.Need-loop-again Inv-loop μ-loop
 loop-again c =
-    let b6 = c .before .before .before .before .before .before in
     let loop = c .before .before .before .before .loop in
-    let args = b6 .args in (
+    let args = c .before .before .before .before .before .before .before .args in (
       omega arith,
       loop .inv .1
-          ∙ column-past (args .q .now) (args .n) (args .t2) (let size : length (args .t2) ≡ 8 = search needs in omega (arith, b6 .pre .0 .few))
-          (decoded (drop (args .at) (args .q .now))) (loop .k) (c .before .before .before .loop-test .taken)
+          ∙ column-past (args .q .now) (args .columns .now) (decoded (drop (args .at) (args .q .now))) (loop .k) (c .before .before .before .loop-test .taken)
           (sym (c .before .same-strings .ensures) ∙ c .if1 .left),
     )
 
 returns-2 : tie.Need-returns-2 Inv-loop μ-loop
 returns-2 c =
-    let b3 = c .before .before .before in
-    let args = b3 .args in
-    column-none (args .q .now) (args .n) (args .t2) (let size : length (args .t2) ≡ 8 = search needs in omega (arith, b3 .pre .0 .few))
-    (decoded (drop (args .at) (args .q .now))) (c .before .loop .k) (c .loop-test .left) ∙ sym (c .before .loop .inv .1)
+    let args = c .before .before .before .before .args in
+    column-none (args .q .now) (args .columns .now) (decoded (drop (args .at) (args .q .now))) (c .before .loop .k) (c .loop-test .left)
+    ∙ sym (c .before .loop .inv .1)
 
 pub holds-column-spec : {M : Type 1} → statement M
 holds-column-spec =
@@ -77,8 +69,8 @@ holds-column-spec =
     Inv-loop
     μ-loop
     loop-holds
-    mul-c
-    array-copy-out-c
+    mul-same-strings
+    shared-slice-read-same-strings
     same-strings-requires
     returns
     add-k
