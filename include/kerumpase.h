@@ -77,15 +77,15 @@ typedef enum kerumpase_refusal {
     KERUMPASE_BUNDLE_MALFORMED = 2,
     KERUMPASE_VERSION_TOO_LARGE = 3,     /* in a name */
     KERUMPASE_NO_VERSION_ZERO = 4,       /* no version file 0 */
-    KERUMPASE_NOT_KEPT = 5,              /* no start reaches the version */
+    KERUMPASE_NOT_KEPT = 5,              /* no start (below) reaches the version */
     KERUMPASE_MALFORMED = 6,             /* a line or file that is read; entry and line say which */
     KERUMPASE_TOO_MANY_LIVE = 7,         /* more than 1,024 live files after a line; entry and line say which */
     KERUMPASE_READER_TOO_HIGH = 8,       /* minReaderVersion above 3 */
     KERUMPASE_UNKNOWN_FEATURE = 9,       /* a reader feature */
     KERUMPASE_QUERY_MALFORMED = 10,
-    KERUMPASE_NO_SUCH_COLUMN = 11,       /* a condition on no partition column */
+    KERUMPASE_NO_SUCH_COLUMN = 11,       /* a condition on no partition column in force at the version */
     KERUMPASE_NOT_WRITABLE = 12,
-    KERUMPASE_CHECKPOINT_DISAGREES = 13,
+    KERUMPASE_CHECKPOINT_DISAGREES = 13, /* with the other start: files, protocol, id, partition columns */
     KERUMPASE_STATE_MALFORMED = 14,
     KERUMPASE_TOO_MANY_MANIFESTS = 15    /* over 256 */
 } kerumpase_refusal;
@@ -104,7 +104,12 @@ typedef struct kerumpase_counted {
     size_t count;
 } kerumpase_counted;
 
-/* ---- bundles: a log as one byte string, contents first, then bodies ---- */
+/*
+ * ---- bundles: a log as one byte string, contents first, then bodies ----
+ *
+ * A log is read from a start: version file 0, or a checkpoint that is well formed and has a metaData
+ * line. The last protocol line and the last metaData line on the way from there are in force.
+ */
 
 /* The version listed, how many rows are in the room, the protocol in force and whether it may be
  * written under; all 0 where refused. */
@@ -128,8 +133,9 @@ typedef struct kerumpase_row {
 
 /*
  * The files of the table at a version that a query (JSON, at most 4,096 bytes; `[]` picks all)
- * picks: the first `rows` rows of the room, in the byte order of the decoded paths; the rest of the
- * first 4,096 numbers are 0. kerumpase_path_of and kerumpase_records_of show more of a row's line.
+ * picks, by the partition columns in force at that version: the first `rows` rows of the room, in
+ * the byte order of the decoded paths; the rest of the first 4,096 numbers are 0. kerumpase_path_of
+ * and kerumpase_records_of show more of a row's line.
  * Refusals 1, 10, 2, 3, 4, 5, then 6 or 7, 8, 9, 11, the first that holds; after all but 1 the
  * first 4,096 numbers are 0.
  */
@@ -146,9 +152,10 @@ kerumpase_listed kerumpase_read_latest(const uint8_t *KERUMPASE_RESTRICT bundle,
 /*
  * Which version files may go: those above version 0 and below the marker's checkpoint that were
  * modified more than `retention` before `today` (both in milliseconds), if another start reaches the
- * checkpoint and says the same. The first `count` numbers of the room are their places in the
- * bundle's contents, from 0 and ascending; the rest of the first 1,024 are 0. The two tables are lent
- * for the work, at least KERUMPASE_ROWS_ROOM each: their first 4,096 numbers are 0 at the end.
+ * checkpoint and says the same: files, protocol, id and partition columns. The first `count` numbers
+ * of the room are their places in the bundle's contents, from 0 and ascending; the rest of the first
+ * 1,024 are 0. The two tables are lent for the work, at least KERUMPASE_ROWS_ROOM each: their first
+ * 4,096 numbers are 0 at the end.
  * Refusals 1, 2, 3, 4, then 6 or 7, 8, 9, 12, 13; after all but 1 the rooms hold zeros.
  */
 kerumpase_counted kerumpase_clean(const uint8_t *KERUMPASE_RESTRICT bundle, size_t bundle_length,

@@ -3,7 +3,7 @@
 use kerumpase::{bundle, Reason, Refusal};
 
 use crate::json::{object, or_null, quoted};
-use crate::log::{Survey, VersionSeen};
+use crate::log::{NoStart, Survey, VersionSeen};
 use crate::refusals::{explained, Told};
 use crate::text::excerpt;
 
@@ -80,6 +80,7 @@ fn versions_named(versions: &[u64]) -> String {
 }
 
 pub fn faults_of(survey: &Survey, bytes: &[u8]) -> Vec<Fault> {
+    let name_of = |entry| bundle::file(bytes, entry).map(|file| String::from_utf8_lossy(file.name).to_string());
     let mut faults = Vec::new();
     let mut known: Vec<Refusal> = Vec::new();
     let mut push = |refusal: Refusal, met: String, faults: &mut Vec<Fault>| {
@@ -116,13 +117,20 @@ pub fn faults_of(survey: &Survey, bytes: &[u8]) -> Vec<Fault> {
         faults.push(Fault::beside_reading(what, None, 0, explained(5).todo));
     }
     for checkpoint in &survey.checkpoints {
-        if let Some(line) = checkpoint.fault {
-            let what = format!("checkpoint {} is malformed and not used", checkpoint.version);
-            faults.push(malformed(what, bytes, checkpoint.entry, line));
+        match checkpoint.fault {
+            Some(NoStart::Malformed(line)) => {
+                let what = format!("checkpoint {} is malformed and not used", checkpoint.version);
+                faults.push(malformed(what, bytes, checkpoint.entry, line));
+            }
+            Some(NoStart::WithoutMetaData) => {
+                let what = format!("checkpoint {} has no metaData line and is not used", checkpoint.version);
+                let todo = "Have the box write a new checkpoint, which brings the table's metaData. Until then remove no file of the log.";
+                faults.push(Fault::beside_reading(what, name_of(checkpoint.entry), 0, todo));
+            }
+            None => (),
         }
     }
     if let (Some(entry), None) = (survey.marker, survey.marked()) {
-        let name_of = |entry| bundle::file(bytes, entry).map(|file| String::from_utf8_lossy(file.name).to_string());
         let body = bundle::file(bytes, entry).map_or(&b""[..], |file| file.body);
         let what = format!(
             "the marker names no checkpoint that can be used, so reading starts at version 0; it says: {}",
@@ -170,16 +178,18 @@ mod tests {
     use kerumpase::bundle::File;
 
     const META: &str = r#"{"metaData":{"id":"t","partitionColumns":[]}}"#;
+    const RENAMED: &str = r#"{"metaData":{"id":"t","partitionColumns":["class"]}}"#;
     const ADD: &str = r#"{"add":{"path":"a","size":3,"modificationTime":7,"dataChange":true,"partitionValues":{}}}"#;
     const OTHER: &str = r#"{"add":{"path":"a","size":4,"modificationTime":7,"dataChange":true,"partitionValues":{}}}"#;
 
     /// The faults of a log of version files 0 to 3, with a checkpoint at 2 that the marker names, after these files were put in or taken out.
     fn faults(changes: &[(&str, Option<&str>)]) -> Vec<String> {
         let name = |version: u64, ending: &str| format!("{version:020}{ending}");
+        let checkpoint = format!("{META}\n{ADD}");
         let mut files = vec![
             (name(0, ".json"), META),
             (name(1, ".json"), ADD),
-            (name(2, ".checkpoint.json"), ADD),
+            (name(2, ".checkpoint.json"), &checkpoint),
             (name(2, ".json"), "{\"x\":1}"),
             (name(3, ".json"), "{\"x\":1}"),
             ("_last_checkpoint".to_string(), r#"{"version":2}"#),
@@ -210,8 +220,11 @@ mod tests {
         // No checkpoint and no marker; a table that may not be written.
         assert_eq!(faults(&[(CHECKPOINT, None), (MARKER, None)]), [""; 0]);
         let newer = "{\"protocol\":{\"minReaderVersion\":1,\"minWriterVersion\":7}}\n";
-        let (zero, checkpoint) = (format!("{META}\n{newer}"), format!("{newer}{ADD}"));
+        let (zero, checkpoint) = (format!("{META}\n{newer}"), format!("{META}\n{newer}{ADD}"));
         assert_eq!(faults(&[(ZERO, Some(&zero)), (CHECKPOINT, Some(&checkpoint))]), [""; 0]);
+        // Renamed columns, in a version file and in the checkpoint behind it.
+        let checkpoint = format!("{RENAMED}\n{ADD}");
+        assert_eq!(faults(&[(TWO, Some(RENAMED)), (CHECKPOINT, Some(&checkpoint))]), [""; 0]);
     }
 
     fn of_line(met: &str, place: &str) -> String {
@@ -220,6 +233,7 @@ mod tests {
 
     #[test]
     fn each_fault_is_told_once() {
+        let other = format!("{META}\n{OTHER}");
         for (changes, expected) in [
             (&[(ZERO, None)][..], &["the latest version: refusal 4: no version file 0"][..]),
             (
@@ -228,7 +242,8 @@ mod tests {
             ),
             (&[(THREE, Some(""))], &[&of_line("the latest version", "00000000000000000003.json, at its end")]),
             (&[(ONE, Some("x"))], &[&of_line("version 1", "00000000000000000001.json, line 1; the line begins: x")]),
-            (&[(CHECKPOINT, Some(OTHER))], &["the cleaner: refusal 13: checkpoint disagrees (cleaner)"]),
+            (&[(CHECKPOINT, Some(&other))], &["the cleaner: refusal 13: checkpoint disagrees (cleaner)"]),
+            (&[(TWO, Some(RENAMED))], &["the cleaner: refusal 13: checkpoint disagrees (cleaner)"]),
             (
                 &[(ONE, None), (TWO, Some("x"))],
                 &["version file 2 is malformed, which no version that can be read needs: line 1; the line begins: x"],
@@ -236,6 +251,15 @@ mod tests {
             (
                 &[(CHECKPOINT, Some("{}")), (MARKER, None)],
                 &["checkpoint 2 is malformed and not used: line 1; the line begins: {}"],
+            ),
+            (&[(CHECKPOINT, Some(ADD)), (MARKER, None)], &["checkpoint 2 has no metaData line and is not used"]),
+            (
+                &[(CHECKPOINT, Some(ADD)), (ONE, None)],
+                &[
+                    "versions 2 to 3 beyond the latest version 0: a file on the way is missing",
+                    "checkpoint 2 has no metaData line and is not used",
+                    "the marker names no checkpoint that can be used, so reading starts at version 0; it says: {\"version\":2}",
+                ],
             ),
             (
                 &[(MARKER, Some("{}")), (TWO, None), (CHECKPOINT, None)],

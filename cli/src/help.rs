@@ -48,18 +48,20 @@ modificationTime, its number of records or -.
 
   --at V               at version V instead of the latest
   --text 'C = VALUE'   only files whose partition value of column C meets the condition, compared
-                       as text; the sign is one of = < <= > >=
+                       as text; the sign is one of = < <= > >=; C is a column of the last metaData
+                       line at or below the version
   --number 'C < 10'    the same, compared as numbers
   --query JSON         the query as the rules have it, instead of the conditions above
   --json               one JSON object a line
 
 At most 8 conditions, one to a column; a file has to meet all. A missing, null or unreadable value
-meets none.
+meets none, so a condition on a renamed column picks no file from before the renaming.
 
 Examples:
   kerumpase files examples/school
   kerumpase files examples/school --at 1
   kerumpase files examples/school --at 1 --text 'subject = art' --number 'year >= 2024'
+  kerumpase files examples/renamed --text 'course = art'
   kerumpase files examples/school --json
 ",
     ),
@@ -101,9 +103,10 @@ Examples:
         "\
 kerumpase check TABLE... [--jobs N] [--json] [--progress]
 
-Reads every version of each table and makes the cleaner's comparison. One line a table: good, or
-faults with a line for each: what, in which file, which line, and how that line begins. Versions
-that were cleaned away are no fault. Tables are told in the order in which they are named.
+Reads every version of each table, judges its checkpoints, which must be well formed and have a
+metaData line, and makes the cleaner's comparison. One line a table: good, or faults with a line
+for each: what, in which file, which line, and how that line begins. Versions that were cleaned
+away are no fault. Tables are told in the order in which they are named.
 
   --jobs N     checks N tables at a time, 1 to 256; 1 if it is not given
   --json       one JSON object a table
@@ -122,8 +125,9 @@ Examples:
 kerumpase clean TABLE --older-than SPAN [--now TIME] [--apply] [--time NAME=TIME]... [--json] [--progress]
 
 Which version files may go: those above version 0 and below the checkpoint that the marker names,
-older than SPAN, if another start reaches that checkpoint and says the same. It is a dry run and
-removes nothing, unless --apply is given.
+older than SPAN, if another start reaches that checkpoint and says the same: files, protocol, id
+and partition columns. A start is version file 0, or a checkpoint that is well formed and has a
+metaData line. It is a dry run and removes nothing, unless --apply is given.
 
   --older-than SPAN  a number and its unit: ms, s, m, h, d, w
   --now TIME         instead of the machine's clock: 2024-06-01, 2024-06-01T08:00:00Z (UTC) or

@@ -51,12 +51,21 @@ pub struct VersionSeen {
     pub answer: Result<Summary, Refusal>,
 }
 
+/// Why a checkpoint is no start.
+#[derive(Clone, Copy, Debug, PartialEq, Eq)]
+pub enum NoStart {
+    /// Its first malformed line (0: it has no object).
+    Malformed(usize),
+    /// Every line is well formed, and none is a metaData.
+    WithoutMetaData,
+}
+
 #[derive(Clone, Debug)]
 pub struct CheckpointSeen {
     pub version: u64,
     pub entry: usize,
-    /// Whether it is a start; if not, the line at which it is malformed (0: it has no object).
-    pub fault: Option<usize>,
+    /// Why it is no start; nothing where it is one.
+    pub fault: Option<NoStart>,
     pub marked: bool,
 }
 
@@ -168,11 +177,13 @@ fn behind_zero(name: &[u8], body: &[u8]) -> Option<Vec<u8>> {
     bundle::write(&[ZERO, File { name, time: 0, body }]).ok()
 }
 
-/// Whether a checkpoint is a start, asked of the library. If it is not, its first malformed line; nothing where it is one, or too long to ask.
-fn fault_of(body: &[u8]) -> Option<usize> {
+/// Whether a checkpoint is a start, asked of the library, and if not, why; nothing where it is one, or too long to ask.
+fn fault_of(body: &[u8]) -> Option<NoStart> {
     let alone = behind_zero(b"00000000000000000001.checkpoint.json", body)?;
     match kerumpase::read_at(&alone, ALL, 1) {
-        Err(Refusal { reason: Reason::NotKept, .. }) => malformed_line(body),
+        Err(Refusal { reason: Reason::NotKept, .. }) => {
+            Some(malformed_line(body).map_or(NoStart::WithoutMetaData, NoStart::Malformed))
+        }
         _ => None,
     }
 }
@@ -181,8 +192,19 @@ fn fault_of(body: &[u8]) -> Option<usize> {
 fn malformed_line(body: &[u8]) -> Option<usize> {
     match kerumpase::read_at(&behind_zero(b"00000000000000000001.json", body)?, ALL, 1) {
         Err(Refusal { reason: Reason::Malformed, line, .. }) => Some(line),
+        // It reads no further than a line after which too many files are live: the lines behind it are asked for by themselves.
+        Err(Refusal { reason: Reason::TooManyLive, line, .. }) => {
+            let more = malformed_line(lines_behind(body, line)).filter(|&more| more > 0)?;
+            Some(line + more)
+        }
         _ => None,
     }
+}
+
+/// The lines behind the one with this number, from 1.
+fn lines_behind(body: &[u8], number: usize) -> &[u8] {
+    let mut ends = body.iter().enumerate().filter(|(_, &byte)| byte == b'\n');
+    ends.nth(number - 1).map_or(&[], |(end, _)| &body[end + 1..])
 }
 
 /// Whether a marker can be used and names this checkpoint, asked of the library: beside a checkpoint that no reader may read, it makes the latest
@@ -194,7 +216,7 @@ fn names(marker: &[u8], version: u64) -> bool {
         File {
             name: checkpoint.as_bytes(),
             time: 0,
-            body: br#"{"protocol":{"minReaderVersion":4,"minWriterVersion":4}}"#,
+            body: &[ZERO.body, b"\n", br#"{"protocol":{"minReaderVersion":4,"minWriterVersion":4}}"#].concat(),
         },
         File { name: b"_last_checkpoint", time: 0, body: marker },
     ];
@@ -229,7 +251,7 @@ mod tests {
         let bytes = bundle_of(&[
             ("00000000000000000000.json", META),
             ("00000000000000000001.json", ADD),
-            ("00000000000000000004.checkpoint.json", ADD),
+            ("00000000000000000004.checkpoint.json", &format!("{META}\n{ADD}")),
             ("00000000000000000005.json", ADD),
             ("_last_checkpoint", marker),
         ]);
@@ -247,12 +269,30 @@ mod tests {
 
     #[test]
     fn checkpoints_are_judged_by_the_library() {
-        assert_eq!(fault_of(ADD.as_bytes()), None);
-        assert_eq!(fault_of(b""), Some(0));
-        assert_eq!(fault_of(b"\n\n{}"), Some(3));
-        assert_eq!(fault_of(format!("{ADD}\n{ADD}x\n").as_bytes()), Some(2));
-        let newer = br#"{"protocol":{"minReaderVersion":9,"minWriterVersion":9}}"#;
-        assert_eq!(fault_of(newer), None);
+        let fault = |lines: &[&str]| fault_of(lines.join("\n").as_bytes());
+        assert_eq!(fault(&[META]), None);
+        assert_eq!(fault(&[ADD, META, ""]), None);
+        assert_eq!(fault(&[META, ADD, META]), None);
+        assert_eq!(fault(&[]), Some(NoStart::Malformed(0)));
+        assert_eq!(fault(&["", "", "{}"]), Some(NoStart::Malformed(3)));
+        assert_eq!(fault(&[ADD, &format!("{ADD}x"), ""]), Some(NoStart::Malformed(2)));
+        assert_eq!(fault(&[META, r#"{"metaData":{"id":"t"}}"#]), Some(NoStart::Malformed(2)));
+        assert_eq!(fault(&[ADD]), Some(NoStart::WithoutMetaData));
+        let newer = r#"{"protocol":{"minReaderVersion":9,"minWriterVersion":9}}"#;
+        assert_eq!(fault(&[newer, META]), None);
+        assert_eq!(fault(&[newer]), Some(NoStart::WithoutMetaData));
+    }
+
+    #[test]
+    fn a_fault_behind_too_many_files_is_found() {
+        let many: Vec<String> = (0..2_100).map(|file| ADD.replace("\"a\"", &format!("\"{file}\""))).collect();
+        let fault = |more: &str| fault_of(format!("{}{more}", many.join("\n")).as_bytes());
+        assert_eq!(fault(""), Some(NoStart::WithoutMetaData));
+        assert_eq!(fault("\n\n"), Some(NoStart::WithoutMetaData));
+        assert_eq!(fault("\n\n{}"), Some(NoStart::Malformed(2_102)));
+        // A start that reading refuses by 7.
+        assert_eq!(fault(&format!("\n{META}")), None);
+        assert_eq!((lines_behind(b"a\n\nb", 2), lines_behind(b"a", 1)), (&b"b"[..], &b""[..]));
     }
 
     #[test]

@@ -294,6 +294,8 @@ fn refusals_say_what_they_mean_and_what_to_do() {
     assert!(kerumpase(&["files", &folder.path("t")]).err.contains("compressed by gzip"));
     for (words, number) in [
         ("files examples/school --text 'no = 1'", 11),
+        ("files examples/renamed --text 'subject = art'", 11),
+        ("files examples/renamed --at 1 --text 'course = art'", 11),
         ("files examples/school --number 'year = x'", 10),
         ("files examples/school --query '{}'", 10),
         ("files examples/school --at 9", 5),

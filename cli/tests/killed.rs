@@ -103,10 +103,13 @@ fn checkpoint_at_the_end(table: &str) -> bool {
     if marked(table) == listing.version.to_string() {
         return false;
     }
-    let zero = kerumpase::bundle::file(&packed, 0).expect("version 0 is there").body;
-    let protocol = kerumpase::bundle::line(zero, 1).expect("it has a line");
+    // The last lines of their kind: files stand in the order of their versions, and a true checkpoint says what the history says.
+    let lines: Vec<&[u8]> =
+        kerumpase::bundle::files(&packed).flat_map(|file| file.body.split(|&byte| byte == b'\n')).collect();
+    let last = |key: &[u8]| *lines.iter().rev().find(|line| line.starts_with(key)).expect("version 0 has one");
+    let (protocol, meta_data) = (last(b"{\"protocol\":"), last(b"{\"metaData\":"));
     let rows = listing.rows.iter().map(|row| &packed[row.place..row.place + row.length]);
-    let text = std::iter::once(protocol).chain(rows).collect::<Vec<_>>().join(&b'\n');
+    let text = [protocol, meta_data].into_iter().chain(rows).collect::<Vec<_>>().join(&b'\n');
     let log = Path::new(table).join("_transaction_log");
     std::fs::write(log.join(format!("{:020}.checkpoint.json", listing.version)), text).expect("it can be written");
     std::fs::write(log.join("_last_checkpoint"), format!("{{\"version\":{}}}", listing.version))

@@ -9,6 +9,7 @@ import struct
 TABLE, NAMES, MANIFESTS = 4096, 1024, 256
 MARKER = "_last_checkpoint"
 META = '{"metaData":{"id":"t","partitionColumns":["year"]}}\n'
+CHECKPOINT = ".checkpoint.json"
 
 
 # Files and lines
@@ -18,7 +19,7 @@ def version(number):
 
 
 def checkpoint(number):
-    return "%020d.checkpoint.json" % number
+    return "%020d" % number + CHECKPOINT
 
 
 def add(path, size=1, time=7, values="{}", more=""):
@@ -34,17 +35,34 @@ def protocol(reader, writer, more=""):
     return '{"protocol":{"minReaderVersion":%d,"minWriterVersion":%d%s}}\n' % (reader, writer, more)
 
 
+def meta_data(columns, table="t", more=""):
+    """A metaData line; the columns are the letters of a word."""
+    return '{"metaData":{"id":"%s","partitionColumns":[%s]%s}}\n' % (table, ",".join('"%s"' % column for column in columns), more)
+
+
+class bare(str):
+    """A checkpoint's lines as they are, with no metaData line put behind them."""
+
+
+def with_meta_data(name, body):
+    """A checkpoint has a metaData line: META at its end if it has lines, but none of its own."""
+    if not name.endswith(CHECKPOINT) or not body or isinstance(body, bare) or "metaData" in body:
+        return body
+    return body + ("" if body.endswith("\n") else "\n") + META
+
+
 def condition(kind, op, value, column="year"):
     return '{"column":"%s","as":"%s","op":"%s","value":"%s"}' % (column, kind, op, value)
 
 
 class Log:
-    """Files by name with their bodies; version 0 is a metaData alone unless said otherwise."""
+    """Files by name with their bodies; version 0 is a metaData alone unless said otherwise, and a
+    checkpoint ends with one unless it is bare or has its own."""
 
     def __init__(self, files=None, zero=META, modified=0, times=None):
         self.files = {version(0): zero}
         self.files.update(files or {})
-        self.files = {name: body for name, body in self.files.items() if body is not None}
+        self.files = {name: with_meta_data(name, body) for name, body in self.files.items() if body is not None}
         self.modified = modified
         self.times = times or {}
 

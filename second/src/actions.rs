@@ -40,6 +40,7 @@ impl Protocol {
 
 #[derive(Clone, Debug, PartialEq, Eq)]
 pub struct MetaData {
+    pub id: Vec<u8>,
     pub columns: Vec<Vec<u8>>,
 }
 
@@ -128,7 +129,8 @@ fn protocol(members: &[Member]) -> Option<Protocol> {
 }
 
 fn meta_data(members: &[Member]) -> Option<MetaData> {
-    if need(members, "id")?.as_text()?.decoded.is_empty() {
+    let id = need(members, "id")?.as_text()?.decoded.clone();
+    if id.is_empty() {
         return None;
     }
     let columns = strings(need(members, "partitionColumns")?)?;
@@ -136,7 +138,7 @@ fn meta_data(members: &[Member]) -> Option<MetaData> {
     if columns.len() > MOST_COLUMNS || distinct.len() < columns.len() {
         return None;
     }
-    Some(MetaData { columns })
+    Some(MetaData { id, columns })
 }
 
 fn strings(array: &Value) -> Option<Vec<Vec<u8>>> {

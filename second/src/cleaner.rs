@@ -46,7 +46,7 @@ fn files_that_may_go(now: u64, retention: u64, bundle: &[u8]) -> Result<Vec<usiz
         None => return Ok(Vec::new()),
     };
 
-    let (_, version_zero) = history::read_version_zero(&log)?;
+    let version_zero = history::read_version_zero(&log)?;
     let state = history::read_checkpoint(&log, checkpoint)?;
     let other_state = history::read_way(&log, &version_zero, other_start, checkpoint)?;
     gate::readable(&state.protocol)?;

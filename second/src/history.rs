@@ -1,4 +1,4 @@
-//! History: lines applied in order to a live set and a protocol.
+//! History: lines applied in order to a live set, a protocol and the metadata.
 
 use std::collections::BTreeMap;
 
@@ -29,21 +29,30 @@ impl LiveFile {
     }
 }
 
-/// The live files by decoded path, and the protocol in force.
+/// The live files by decoded path, and the protocol and metadata in force: those of the last line.
 #[derive(Clone, Debug)]
 pub struct State {
     pub live: BTreeMap<Vec<u8>, LiveFile>,
     pub protocol: Protocol,
+    /// Missing only while a start has not been read to its end: every start brings its own.
+    meta_data: Option<MetaData>,
 }
 
 impl State {
     fn empty() -> State {
-        State { live: BTreeMap::new(), protocol: Protocol::unsaid() }
+        State { live: BTreeMap::new(), protocol: Protocol::unsaid(), meta_data: None }
     }
 
-    /// Equal states: the same protocol and the same files with the same facts, wherever they stand.
+    /// The partition columns in force.
+    pub fn columns(&self) -> &[Vec<u8>] {
+        self.meta_data.as_ref().map_or(&[], |meta_data| &meta_data.columns)
+    }
+
+    /// Equal states: the same protocol, the same metadata (id, and columns in order), and the same
+    /// files with the same facts, wherever they stand.
     pub fn agrees_with(&self, other: &State) -> bool {
         self.protocol == other.protocol
+            && self.meta_data == other.meta_data
             && self.live.len() == other.live.len()
             && self
                 .live
@@ -59,6 +68,7 @@ impl State {
         for line in &lines {
             match actions::read(line.bytes).ok_or(malformed(entry, line.number))? {
                 Action::Protocol(protocol) => self.protocol = protocol,
+                Action::MetaData(meta_data) => self.meta_data = Some(meta_data),
                 Action::Add(add) => {
                     let live_file = LiveFile {
                         position: (file.start + line.position) as u64,
@@ -73,7 +83,7 @@ impl State {
                 Action::Remove(path) => {
                     self.live.remove(&path);
                 }
-                Action::MetaData(_) | Action::MergeSkip | Action::Other => (),
+                Action::MergeSkip | Action::Other => (),
             }
             if self.live.len() > MOST_LIVE {
                 return Err(too_many_live(entry, line.number));
@@ -87,15 +97,14 @@ impl State {
 }
 
 /// Version 0: exactly one metaData, at most one protocol, and no add, remove or mergeskip.
-pub fn read_version_zero(log: &Log) -> Result<(MetaData, State), Refusal> {
+pub fn read_version_zero(log: &Log) -> Result<State, Refusal> {
     let entry = log.versions[&0];
     let mut state = State::empty();
-    let mut meta_data = None;
     let mut protocols = 0;
     for line in lines::of(log.entries[entry].body) {
         let refused = malformed(entry, line.number);
         match actions::read(line.bytes).ok_or(refused)? {
-            Action::MetaData(first) if meta_data.is_none() => meta_data = Some(first),
+            Action::MetaData(first) if state.meta_data.is_none() => state.meta_data = Some(first),
             Action::Protocol(first) if protocols == 0 => {
                 state.protocol = first;
                 protocols = 1;
@@ -104,11 +113,13 @@ pub fn read_version_zero(log: &Log) -> Result<(MetaData, State), Refusal> {
             _ => return Err(refused),
         }
     }
-    let meta_data = meta_data.ok_or(malformed(entry, 0))?;
-    Ok((meta_data, state))
+    if state.meta_data.is_none() {
+        return Err(malformed(entry, 0));
+    }
+    Ok(state)
 }
 
-/// A checkpoint's state: its own lines applied to an empty set.
+/// A checkpoint's state: its own lines applied to an empty set, and to no metadata.
 pub fn read_checkpoint(log: &Log, version: u64) -> Result<State, Refusal> {
     let mut state = State::empty();
     state.apply_file(log, log.checkpoints[&version])?;

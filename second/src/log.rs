@@ -3,7 +3,7 @@
 
 use std::collections::BTreeMap;
 
-use crate::actions;
+use crate::actions::{self, Action};
 use crate::bundle::{self, Entry};
 use crate::fields::{find, missing_or_null, need};
 use crate::json;
@@ -59,14 +59,15 @@ impl<'a> Log<'a> {
         Ok(log)
     }
 
-    /// A checkpoint is a start when it has an object and every line is well formed.
+    /// A checkpoint is a start when every line is well formed and one of them is a metaData.
     fn is_start(&self, checkpoint: u64) -> bool {
         let entry = match self.checkpoints.get(&checkpoint) {
             Some(&entry) => entry,
             None => return false,
         };
         let lines = lines::of(self.entries[entry].body);
-        !lines.is_empty() && lines.iter().all(|line| actions::read(line.bytes).is_some())
+        let actions: Option<Vec<Action>> = lines.iter().map(|line| actions::read(line.bytes)).collect();
+        actions.map_or(false, |actions| actions.iter().any(|action| matches!(action, Action::MetaData(_))))
     }
 
     /// All starts, the highest first; on equal versions the checkpoint goes first.

@@ -11,7 +11,7 @@ pub fn is_picked(file: &LiveFile, conditions: &[Condition]) -> bool {
     })
 }
 
-/// Every condition is on a partition column.
+/// Every condition is on one of the partition columns in force.
 pub fn conditions_fit(conditions: &[Condition], columns: &[Vec<u8>]) -> bool {
     conditions.iter().all(|condition| columns.contains(&condition.column))
 }

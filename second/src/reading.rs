@@ -51,10 +51,10 @@ fn read_rows(ask: Ask, query: &[u8], bundle: &[u8]) -> Result<(u64, State, Vec<[
         Ask::Latest => log.latest_version(),
     };
     let start = log.starts().into_iter().find(|&start| log.reaches(start, version)).ok_or(NOT_KEPT)?;
-    let (meta_data, version_zero) = history::read_version_zero(&log)?;
+    let version_zero = history::read_version_zero(&log)?;
     let state = history::read_way(&log, &version_zero, start, version)?;
     gate::readable(&state.protocol)?;
-    if !picking::conditions_fit(&conditions, &meta_data.columns) {
+    if !picking::conditions_fit(&conditions, state.columns()) {
         return Err(NO_PARTITION_COLUMN);
     }
     let rows = state

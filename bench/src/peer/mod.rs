@@ -30,6 +30,8 @@ struct Row<'a> {
 struct State<'a> {
     live: BTreeMap<Cow<'a, str>, Row<'a>>,
     protocol: Protocol<'a>,
+    /// The partition columns of the last metaData, once there was one.
+    columns: Option<Vec<Cow<'a, str>>>,
 }
 
 pub type Answer<T> = Result<T, String>;
@@ -66,14 +68,15 @@ impl<'a> State<'a> {
                 self.live.remove(&remove.path);
             }
             Action::Protocol(protocol) => self.protocol = protocol,
-            Action::MetaData(_) | Action::Other => (),
+            Action::MetaData(table) => self.columns = Some(table.partition_columns),
+            Action::Other => (),
         }
         Ok(())
     }
 }
 
 /// Version 0: one metaData and its protocol, if it has one.
-fn read_zero<'a>(body: Body<'a>) -> Answer<(Vec<Cow<'a, str>>, Protocol<'a>)> {
+fn read_zero<'a>(body: Body<'a>) -> Answer<State<'a>> {
     let (mut columns, mut protocol) = (None, None);
     for line in body.text()?.split('\n').filter(|line| !line.is_empty()) {
         match Action::read(line)? {
@@ -83,14 +86,15 @@ fn read_zero<'a>(body: Body<'a>) -> Answer<(Vec<Cow<'a, str>>, Protocol<'a>)> {
             _ => return Err("version 0 holds something else".to_string()),
         }
     }
-    Ok((columns.ok_or("no metaData")?, protocol.unwrap_or_default()))
+    let columns = Some(columns.ok_or("no metaData")?);
+    Ok(State { live: BTreeMap::new(), protocol: protocol.unwrap_or_default(), columns })
 }
 
 /// The state at `version`, from the highest start that reaches it; `judged` is a checkpoint that was read already.
 fn state_at<'a>(
     log: &Log<'a>,
     version: u64,
-    protocol: Protocol<'a>,
+    zero: State<'a>,
     mut judged: Option<(u64, State<'a>)>,
 ) -> Answer<State<'a>> {
     let mut at = version;
@@ -102,7 +106,7 @@ fn state_at<'a>(
             break state;
         }
         if at == 0 {
-            break State { live: BTreeMap::new(), protocol };
+            break zero;
         }
         if !log.versions.contains_key(&at) {
             return Err("not kept".to_string());
@@ -115,11 +119,11 @@ fn state_at<'a>(
     Ok(state)
 }
 
-/// The state of a checkpoint, if every line of it is well formed.
+/// The state of a checkpoint, if every line of it is well formed and one is a metaData.
 fn checkpoint<'a>(body: Body<'a>) -> Option<State<'a>> {
     let mut state = State::default();
     state.apply(body).ok()?;
-    Some(state)
+    state.columns.is_some().then_some(state)
 }
 
 pub fn read_latest(bundle: &[u8], query: &[u8], rows: &mut [u64]) -> Answer<Listing> {
@@ -130,10 +134,10 @@ pub fn read_latest(bundle: &[u8], query: &[u8], rows: &mut [u64]) -> Answer<List
     while log.versions.contains_key(&(version + 1)) {
         version += 1;
     }
-    let (columns, protocol) = read_zero(*log.versions.get(&0).ok_or("no version 0")?)?;
-    let state = state_at(&log, version, protocol, marked)?;
+    let zero = read_zero(*log.versions.get(&0).ok_or("no version 0")?)?;
+    let state = state_at(&log, version, zero, marked)?;
     state.protocol.readable()?;
-    if conditions.iter().any(|c| !columns.contains(&c.column)) {
+    if conditions.iter().any(|c| !state.columns.iter().flatten().any(|column| *column == c.column)) {
         return Err("no such column".to_string());
     }
     let count = write(&state, &conditions, rows);

@@ -174,7 +174,7 @@ fn meaning(_: &Facts) -> String {
     let words = [
         ("Version", "One state of the table. Each change writes a version file, with a number of twenty decimal digits as its name."),
         ("Live file", "A file that belongs to the table at a version. The log adds files and removes them again."),
-        ("Checkpoint", "All live files of one version in one file, so that the older version files are not needed to read later versions."),
+        ("Checkpoint", "The live files and the metaData of one version in one file: older version files are not needed. Without metaData it is not used."),
         ("Marker", "The small file _last_checkpoint, which names a checkpoint. The latest version is looked for from there."),
         ("Gap", "A version file that is missing between two that are there."),
         ("Not kept", "A version that can no longer be read, because its files were cleaned or lost. Later versions are not touched by that."),

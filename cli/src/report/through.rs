@@ -6,7 +6,7 @@ use super::html::{code, folded, prose, table, tag, text, time};
 use super::Facts;
 use crate::clean::{may_go_from, why_nothing, Ask};
 use crate::clock::time_shown;
-use crate::log::VersionSeen;
+use crate::log::{NoStart, VersionSeen};
 use crate::numbers::span_shown;
 use crate::refusals::Told;
 use crate::text::{counted, excerpt, grouped};
@@ -92,8 +92,9 @@ pub fn checkpoints(facts: &Facts) -> String {
             let file = bundle::file(&facts.table.bundle, checkpoint.entry);
             let usable = match checkpoint.fault {
                 None => tag("good", "can be read"),
-                Some(0) => tag("bad", "holds no action"),
-                Some(line) => tag("bad", &format!("malformed at line {line}")),
+                Some(NoStart::Malformed(0)) => tag("bad", "holds no action"),
+                Some(NoStart::Malformed(line)) => tag("bad", &format!("malformed at line {line}")),
+                Some(NoStart::WithoutMetaData) => tag("bad", "has no metaData"),
             };
             let marked = if checkpoint.marked { tag("good", "named") } else { "–".to_string() };
             let (size, changed) =

@@ -135,11 +135,11 @@ module _ (zf f : File) (w : Way) where
   compared-zero e = rw e
 
   module _ (z : rState) (e : readZero zf ≡ accepted z) where
-    compared-mine : {x : Refusal} → readFile mostLive f (nothingLive (z .table)) ≡ refused x → compared zf f w ≡ refused x
+    compared-mine : {x : Refusal} → readFile mostLive f nothingLive ≡ refused x → compared zf f w ≡ refused x
     unfolding compared
     compared-mine g = rw (e, g)
 
-    compared-with : {mine : rState} → readFile mostLive f (nothingLive (z .table)) ≡ accepted mine
+    compared-with : {mine : rState} → readFile mostLive f nothingLive ≡ accepted mine
         → compared zf f w ≡ (follow mostLive z w >>= (λ theirs. weighing mine theirs))
     unfolding compared weighing
     compared-with g = rw (e, g)
@@ -153,8 +153,7 @@ module _ (src : Bytes) (entry₀ k : ℕ) (start : Start) (c : ℕ) where
 
   module _ (z : State) (d : ZeroIs src (readZero (fileIn src entry₀)) (Done z)) (empty : State) (n : Renewed z empty) (one one′ two : List ℕ) (out : Outcome)
       (f : OutcomeIs src mostLive (readFile mostLive (fileIn src k) (stateOf src empty one)) one one′ out) where
-    begun : readFile mostLive (fileIn src k) (nothingLive (stateOf src z two .table)) ≡ readFile mostLive (fileIn src k) (stateOf src empty one)
-    unfolding stateOf
+    begun : readFile mostLive (fileIn src k) nothingLive ≡ readFile mostLive (fileIn src k) (stateOf src empty one)
     begun = ap (readFile mostLive (fileIn src k)) (sym (n .0 src one))
 
     pub compare-refused : (x : CodeRefusal) → out ≡ NotRead x → CompareIs src entry₀ k start c (Refused x) × Left mostLive one one′

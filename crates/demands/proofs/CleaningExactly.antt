@@ -38,12 +38,12 @@ use Rattle.demands.proofs.CleaningWords.{enough-true, true-enough, notW
 comparing-met : (zf f : File) (w : Way) (r : Refusal) → MetComparing zf f w r → compared zf f w ≡ refused r
 unfolding compared
 comparing-met zf f w r (in-zero h) = rw (met-readZero zf r h)
-comparing-met zf f w r (in-checkpoint z e h) = rw (e, met-readFile f (nothingLive (z .table)) r h)
+comparing-met zf f w r (in-checkpoint z e h) = rw (e, met-readFile f nothingLive r h)
 comparing-met zf f w r (on-way z mine e q h) = rw (e, q, met-follow z w r h)
 
 comparing-number : (zf f : File) (w : Way) (r : Refusal) → MetComparing zf f w r → SixOrSeven r
 comparing-number zf f w r (in-zero h) = metInZero-number zf r h
-comparing-number zf f w r (in-checkpoint z e h) = metIn-number f (nothingLive (z .table)) r h
+comparing-number zf f w r (in-checkpoint z e h) = metIn-number f nothingLive r h
 comparing-number zf f w r (on-way z mine e q h) = metOn-number z w r h
 
 -- ---- the conditions of cleaning, each with its answer
@@ -195,19 +195,19 @@ module _ (lent : Lent) (s : Bytes) (now retention : ℕ) where
       refuses : (r : Refusal) → MetComparing (c .begun .zero) (c .checkpoint) (c .way) r → (a : Answer (List ℕ)) × Says a
       refuses r m = met r m (comparing-number (c .begun .zero) (c .checkpoint) (c .way) r m)
 
-      of-way : (z mine : State) → readZero (c .begun .zero) ≡ accepted z → readFile mostLive (c .checkpoint) (nothingLive (z .table)) ≡ accepted mine
+      of-way : (z mine : State) → readZero (c .begun .zero) ≡ accepted z → readFile mostLive (c .checkpoint) nothingLive ≡ accepted mine
           → (a : Answer State) → follow mostLive z (c .way) ≡ a → (x : Answer (List ℕ)) × Says x
       of-way z mine e q (accepted theirs) h =
           said-compared (record { comparing = c; z = z; mine = mine; theirs = theirs; zero-read = e; mine-read = q; theirs-read = h })
       of-way z mine e q (refused r) h = refuses r (on-way z mine e q (follow-met z (c .way) r h))
 
-      of-checkpoint : (z : State) → readZero (c .begun .zero) ≡ accepted z → (a : Answer State)
-          → readFile mostLive (c .checkpoint) (nothingLive (z .table)) ≡ a → (x : Answer (List ℕ)) × Says x
+      of-checkpoint : (z : State) → readZero (c .begun .zero) ≡ accepted z → (a : Answer State) → readFile mostLive (c .checkpoint) nothingLive ≡ a
+          → (x : Answer (List ℕ)) × Says x
       of-checkpoint z e (accepted mine) q = of-way z mine e q (follow mostLive z (c .way)) refl
-      of-checkpoint z e (refused r) q = refuses r (in-checkpoint z e (readFile-met (c .checkpoint) (nothingLive (z .table)) r q))
+      of-checkpoint z e (refused r) q = refuses r (in-checkpoint z e (readFile-met (c .checkpoint) nothingLive r q))
 
       of-zero : (a : Answer State) → readZero (c .begun .zero) ≡ a → (x : Answer (List ℕ)) × Says x
-      of-zero (accepted z) e = of-checkpoint z e (readFile mostLive (c .checkpoint) (nothingLive (z .table))) refl
+      of-zero (accepted z) e = of-checkpoint z e (readFile mostLive (c .checkpoint) nothingLive) refl
       of-zero (refused r) e = refuses r (in-zero (readZero-met (c .begun .zero) r e))
 
   said-begun : (b : Begun lent s) → (a : Answer (List ℕ)) × Says a

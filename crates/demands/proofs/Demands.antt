@@ -3,7 +3,8 @@ use Rattle.demands.specs.Demands.{Demand1, Demand2, Demand3}
 use Rattle.demands.proofs.Starts.{read-from-the-highest, latest-stops}
 use Rattle.demands.proofs.Ordered.{removal-keeps-order}
 use Rattle.demands.proofs.Bundled.{removal-keeps-a-bundle}
-use Rattle.demands.proofs.Readable.{true-is-readable}
+use Rattle.demands.proofs.StartsExactly.{starts-exactly}
+use Rattle.demands.proofs.Readable.{true-is-start}
 use Rattle.demands.proofs.FirstSentence.{first-sentence, full-log-is-history}
 use Rattle.demands.proofs.LastSentence.{last-sentence, stopped-halfway}
 use Rattle.demands.proofs.Example.{answers-hold, example-is-full}
@@ -35,6 +36,7 @@ demand-1 = record {
 
 pub demand-2 : Demand2
 demand-2 = record {
+  start = starts-exactly;
   way = read-from-the-highest;
   other = other-from-the-highest;
   latest = latest-stops;
@@ -55,7 +57,7 @@ pub demand-3 : Demand3
 demand-3 = record {
   premise = example-is-full;
   example = answers-hold;
-  readable = true-is-readable;
+  start = true-is-start;
   removal = removal-keeps-order;
   bundled = removal-keeps-a-bundle;
   whole = full-log-is-history;

@@ -21,7 +21,7 @@ use Rattle.rules.specs.Gate.{knownReader, readerNames, gate, writable}
 use Rattle.rules.specs.Query.{Condition, columnOf, query}
 use Rattle.rules.specs.Manifests.{manifests, mostManifests}
 use Rattle.rules.specs.Rooms.{rowsRoom, keptRoom, counted}
-use Rattle.rules.specs.Reading.{versionAsked, Listing, told, stateBy, listing, listingBy, listingAt, reading}
+use Rattle.rules.specs.Reading.{versionAsked, Listing, told, stateBy, listing, listingAt, reading, stateWithin, listingWithin}
 use Rattle.rules.specs.Keeping.{keeping}
 use Rattle.rules.specs.Agreement.{agree}
 use Rattle.rules.specs.Cleaning.{named, compared, cleanedBy, cleanedAt, enough, cleaning}
@@ -143,7 +143,7 @@ module _ (numbers : List ℕ) where
     follow-ends : (limit : ℕ) (z : State) (w : Way) → Ends numbers (follow limit z w)
     unfolding follow
     follow-ends limit z fromZero = answered z
-    follow-ends limit z (fromCheckpoint f) = readFile-ends limit f (nothingLive (z .table))
+    follow-ends limit z (fromCheckpoint f) = readFile-ends limit f nothingLive
     follow-ends limit z (andThen w g) = ends-bind (λ st. readFile limit g st) (follow-ends limit z w) (λ st. readFile-ends limit g st)
 
   gate-ends : isIn 8 numbers ≡ true → isIn 9 numbers ≡ true → (p : Protocol) → Ends numbers (gate p)
@@ -167,14 +167,14 @@ listing-ends cs v st =
     (ends-require forReading noSuchColumn (allAmong (st .table .partitionColumns) (map columnOf cs)) (plain-listed forReading 11 refl)) (λ _. answered _))
 
 stateBy-ends : (log : Log) (way : Option Way) → Ends forReading (stateBy log way)
-unfolding stateBy isIn forReading
+unfolding stateWithin isIn forReading
 stateBy-ends log way =
     ends-bind forReading _ (ends-orRefuse forReading noVersionZero (log .versionFile 0) (plain-listed forReading 4 refl))
     (λ f. ends-bind forReading _ (ends-orRefuse forReading notKept way (plain-listed forReading 5 refl))
     (λ w. ends-bind forReading _ (readZero-ends forReading refl refl f) (λ z. follow-ends forReading refl refl mostLive z w)))
 
 pub reading-ends : ReadingEnds
-unfolding reading listingAt listingBy isIn forReading
+unfolding reading listingAt listingWithin isIn forReading
 reading-ends room s q asked =
     ends-bind forReading _ (ends-require forReading roomTooShort (leb rowsRoom room) (plain-listed forReading 1 refl))
     (λ _. ends-bind forReading _ (ends-orRefuse forReading queryMalformed (query q) (plain-listed forReading 10 refl))
@@ -206,7 +206,7 @@ compared-ends : (zf f : File) (w : Way) → Ends forCleaning (compared zf f w)
 unfolding compared isIn forCleaning
 compared-ends zf f w =
     ends-bind forCleaning _ (readZero-ends forCleaning refl refl zf)
-    (λ z. ends-bind forCleaning _ (readFile-ends forCleaning refl refl mostLive f (nothingLive (z .table)))
+    (λ z. ends-bind forCleaning _ (readFile-ends forCleaning refl refl mostLive f nothingLive)
     (λ mine. ends-bind forCleaning _ (follow-ends forCleaning refl refl mostLive z w)
     (λ theirs. ends-bind forCleaning _ (gate-ends forCleaning refl refl (mine .inForce))
     (λ _. ends-bind forCleaning _ (ends-require forCleaning notWritable (writable (mine .inForce)) (plain-listed forCleaning 12 refl))

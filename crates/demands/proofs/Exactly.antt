@@ -15,7 +15,7 @@ use Rattle.rules.specs.Starts.{Way, wayTo}
 use Rattle.rules.specs.Gate.{knownReader, readerNames, gate}
 use Rattle.rules.specs.Query.{Condition, query}
 use Rattle.rules.specs.Rooms.{rowsRoom}
-use Rattle.rules.specs.Reading.{Asked, Listing, stateBy, listing, listingBy, listingAt, reading}
+use Rattle.rules.specs.Reading.{Asked, Listing, listing, listingAt, reading, stateWithin, listingWithin}
 use Rattle.rules.specs.Refusals.{Refusal, Answer, accepted, refused, roomTooShort, bundleMalformed, versionTooLarge, noVersionZero}
 use Rattle.rules.specs.Refusals.{notKept, malformed, tooManyLive, readerTooHigh, unknownFeature, queryMalformed, noSuchColumn}
 use Rattle.rules.proofs.Tests.{true-not-false}
@@ -55,7 +55,7 @@ module _ (room : ℕ) (s q : Bytes) (asked : Asked) where
   opened-is o = reading-is room s q asked (o .cs) (o .fs) (o .long) (o .query-read) (o .bundle-read) (none-anyTooLarge (o .fs) (o .none-large))
 
   reached-is : (r : Reached room s q asked) (x : Refusal) → Met (r .zero) (r .way) x → reading room s q asked ≡ refused x
-  unfolding listingAt listingBy
+  unfolding listingAt listingWithin
   reached-is r x m =
       let o = r .opened in
       opened-is o
@@ -65,11 +65,11 @@ module _ (room : ℕ) (s q : Bytes) (asked : Asked) where
       )
 
   read-is : (r : Read room s q asked) → reading room s q asked ≡ listing (r .opened .cs) (versionIn asked (r .opened)) (r .state)
-  unfolding listingAt listingBy
+  unfolding listingAt listingWithin
   read-is r = opened-is (r .opened) ∙ rw (r .state-read)
 
   says-reading : (a : Answer Listing) → Says a → reading room s q asked ≡ a
-  unfolding reading listingAt listingBy stateBy listing gate
+  unfolding reading listingAt listingWithin stateWithin listing gate
   says-reading _ (short l) = rw (lt-leb rowsRoom room l)
   says-reading _ (bad-query l e) = rw (le-leb rowsRoom room l, e)
   says-reading _ (bad-bundle l c e) = rw (le-leb rowsRoom room l, c .1, e)

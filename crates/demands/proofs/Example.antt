@@ -11,7 +11,7 @@ use Rattle.rules.specs.Bundle.{File, bundle}
 use Rattle.rules.specs.Names.{Name, version, checkpoint, nameOf, versionIn, checkpointIn, is, anyTooLarge}
 use Rattle.rules.specs.History.{State, readZero}
 use Rattle.rules.specs.Starts.{find, Log, logOf, wellFormed, fromCheckpoint, byFile, historyTo}
-use Rattle.rules.specs.Reading.{stateBy}
+use Rattle.rules.specs.Reading.{stateBy, stateWithin}
 use Rattle.rules.specs.Agreement.{agree}
 use Rattle.rules.specs.Same.{IsTrue}
 use Rattle.rules.specs.Edges.{Holds}
@@ -150,7 +150,7 @@ small-files = refl
 
 -- above version 2 there is no history
 no-history : (v : ℕ) → 2 < v → stateBy log (historyTo log v) ≡ refused notKept
-unfolding stateBy historyTo byFile
+unfolding stateWithin historyTo byFile
 no-history zero l = absurd (omega arith)
 no-history (suc v) l =
     let z = is-there zeroReadable (log .versionFile 0) (readable-files .0) in

@@ -18,15 +18,15 @@ use Rattle.rules.specs.History.{State, effect, withinLimit, readLine, readLines
 use Rattle.rules.specs.Refusals.{Refusal, Answer, accepted, refused, _>>=_, orRefuse, require, malformed, tooManyLive}
 use Rattle.rules.proofs.Tests.{apart}
 use Rattle.rules.proofs.Answers.{bind-refused, orRefuse-refused, orRefuse-accepted, require-refused}
-use Rattle.rules.proofs.Moving.{effect-same, same-held-refl}
-use Rattle.rules.proofs.Sameness.{length-same-rows}
+use Rattle.rules.proofs.Sameness.{same-state-refl, length-same-rows}
+use Rattle.rules.proofs.Moving.{effect-same}
 use Rattle.demands.specs.Met.{Line, MetIn, malformed-line, too-many, no-object}
 
 -- ---- one line
 
 -- how many are live does not depend on where the line stands
 effect-length : (at size : ℕ) (a : Action) (st : State) → length (effect at size a st .live) ≡ length (effect 0 0 a st .live)
-effect-length at size a st = length-same-rows (effect-same at 0 size 0 a st st (same-held-refl st) .state .live)
+effect-length at size a st = length-same-rows (effect-same at 0 size 0 a st st (same-state-refl st) .live)
 
 -- a line that is not empty is refused as malformed, or for too many live
 data Refuses (e k : ℕ) (l : Bytes) (st : State) : Refusal → Type 0 where

@@ -16,14 +16,14 @@ use Rattle.rules.specs.Starts.{Log, logOf, startAt, Way, fromZero, fromCheckpoi
 use Rattle.rules.specs.Gate.{knownReader, readerNames, gate, writable}
 use Rattle.rules.specs.Query.{Condition, columnOf}
 use Rattle.rules.specs.Picking.{picked}
-use Rattle.rules.specs.Reading.{theVersion, versionAsked, Listing, stateBy, listing, listingBy, listingAt, historyListing, reading}
-use Rattle.rules.specs.Same.{SameListing, SameAnswer, both-accepted, both-refused}
+use Rattle.rules.specs.Reading.{theVersion, versionAsked, Listing, stateBy, listing, listingAt, historyListing, reading, stateWithin, listingWithin}
+use Rattle.rules.specs.Same.{SameState, SameListing, SameAnswer, both-accepted, both-refused}
 use Rattle.rules.specs.Refusals.{_>>=_, Answer, accepted, refused, require, notKept, readerTooHigh, unknownFeature, noSuchColumn}
 use Rattle.rules.proofs.Tests.{apart}
 use Rattle.rules.proofs.Replaying.{bind-accepted}
-use Rattle.rules.proofs.Sameness.{same-state-sym, same-answer-trans}
+use Rattle.rules.proofs.Sameness.{same-state-sym, same-state-trans, same-answer-trans}
 use Rattle.rules.proofs.Answers.{same-bind, refused-number}
-use Rattle.rules.proofs.Moving.{SameHeld, same-held-trans, readFile-same, readZero-same, follow-table, listing-same, nothingLive-same}
+use Rattle.rules.proofs.Moving.{readFile-same, begun-same, readZero-same, listing-same}
 use Rattle.rules.proofs.Readings.{reading-is}
 use Rattle.rules.proofs.Bundles.{bundle-sound}
 use Rattle.demands.specs.Reaching.{SomeStart}
@@ -41,7 +41,7 @@ module _ (z z′ : State) where
   -- not reached; or reached, with the same facts
   data Agree : Option Way → Option Way → Type 0 where
     unreached : {o : Option Way} → Agree o none
-    reached : {h w : Way} → SameAnswer SameHeld (follow mostLive z h) (follow mostLive z′ w) → Agree (some h) (some w)
+    reached : {h w : Way} → SameAnswer SameState (follow mostLive z h) (follow mostLive z′ w) → Agree (some h) (some w)
 
   onwardBy-agree : (f g : File) {u w : Option Way} → SameFile f g → Agree u w → Agree (onwardBy f u) (onwardBy g w)
   unfolding onwardBy follow
@@ -60,7 +60,7 @@ module _ (z z′ : State) where
   byStart-agree none l h a = a
   byStart-agree (some g) l h a = h g refl
 
-  all-agree : (log log′ : Log) (n : ℕ) → ((w : ℕ) → Left (log .versionFile w) (log′ .versionFile w)) → SameHeld z z′
+  all-agree : (log log′ : Log) (n : ℕ) → ((w : ℕ) → Left (log .versionFile w) (log′ .versionFile w)) → SameState z z′
       → ((v : ℕ) → v ≤ n → (g : File) → startAt log′ v ≡ some g → Agree (historyTo log v) (some (fromCheckpoint g)))
       → (v : ℕ) → v ≤ n → Agree (historyTo log v) (wayTo log′ v)
   unfolding historyTo wayTo follow
@@ -69,7 +69,7 @@ module _ (z z′ : State) where
       byStart-agree (startAt log′ (suc v)) (λ _. byFile (log′ .versionFile (suc v)) (λ _. wayTo log′ v)) (t (suc v) l)
       (byFile-agree (λ _. historyTo log v) (λ _. wayTo log′ v) (r (suc v)) (all-agree log log′ n r h t v (omega arith)))
 
-agree-reached : (z z′ : State) {h w : Way} → Agree z z′ (some h) (some w) → SameAnswer SameHeld (follow mostLive z h) (follow mostLive z′ w)
+agree-reached : (z z′ : State) {h w : Way} → Agree z z′ (some h) (some w) → SameAnswer SameState (follow mostLive z h) (follow mostLive z′ w)
 agree-reached z z′ (reached r) = r
 
 -- what is accepted from version 0 on is what the way gives
@@ -85,7 +85,7 @@ module _ (fs gs : List File) (n : ℕ) (full : FullHistory fs n)
     (versions : (w : ℕ) → Left (logOf fs .versionFile w) (logOf gs .versionFile w))
     (checkpoints : (c : ℕ) → Left (logOf fs .checkpointFile c) (logOf gs .checkpointFile c))
     (zf zf′ : File) (z z′ : State) (e : logOf fs .versionFile 0 ≡ some zf) (e′ : logOf gs .versionFile 0 ≡ some zf′)
-    (ez : readZero zf ≡ accepted z) (ez′ : readZero zf′ ≡ accepted z′) (same : SameHeld z z′) where
+    (ez : readZero zf ≡ accepted z) (ez′ : readZero zf′ ≡ accepted z′) (same : SameState z z′) where
   -- what the whole history gives
   told : (v : ℕ) (st : State) → v ≤ n → stateBy (logOf fs) (historyTo (logOf fs) v) ≡ accepted st
       → (h : Way) × (historyTo (logOf fs) v ≡ some h) × (follow mostLive z h ≡ accepted st)
@@ -100,20 +100,14 @@ module _ (fs gs : List File) (n : ℕ) (full : FullHistory fs n)
       let p = left-there g (start-left (logOf fs) (logOf gs) v (checkpoints v)) eg in
       let f = p .0 in
       let t = full .checkpoints-true v f (start-found (logOf fs) v f (p .1)) in
-      let own : readFile mostLive f (nothingLive (z .table)) ≡ accepted (t .own) =
+      let own : readFile mostLive f nothingLive ≡ accepted (t .own) =
       from-zero zf (fromCheckpoint f) z (t .own) ez (sym (stateBy-is (logOf fs) (some (fromCheckpoint f)) zf (fromCheckpoint f) e refl) ∙ t .own-read) in
       let h = told v (t .history) l (t .history-read) in
-      let held : SameHeld (t .history) (t .own) = record {
-        table = follow-table mostLive z (h .0) (t .history) (h .2) ∙ sym (follow-table mostLive z (fromCheckpoint f) (t .own) own);
-        state = same-state-sym (t .same);
-      } in
-      let a : SameAnswer SameHeld (follow mostLive z (h .0)) (readFile mostLive f (nothingLive (z .table))) = rw (h .2, own) (both-accepted held) in
-      let b =
-      readFile-same mostLive f g (nothingLive (z .table)) (nothingLive (z′ .table)) (p .2 .body) (nothingLive-same (z .table) (z′ .table) (same .table)) in
-      rw (h .1) (reached (same-answer-trans (λ x y u. same-held-trans) a b))
+      let a : SameAnswer SameState (follow mostLive z (h .0)) (readFile mostLive f nothingLive) = rw (h .2, own) (both-accepted (same-state-sym (t .same))) in
+      rw (h .1) (reached (same-answer-trans (λ x y u. same-state-trans) a (begun-same mostLive f g (p .2 .body))))
 
   way-same : (v : ℕ) → v ≤ n → (w : Way) → wayTo (logOf gs) v ≡ some w
-      → SameAnswer SameHeld (stateBy (logOf fs) (historyTo (logOf fs) v)) (stateBy (logOf gs) (wayTo (logOf gs) v))
+      → SameAnswer SameState (stateBy (logOf fs) (historyTo (logOf fs) v)) (stateBy (logOf gs) (wayTo (logOf gs) v))
   way-same v l w ew =
       let h = history-way (logOf fs) n (full .all) v l in
       let a : Agree z z′ (historyTo (logOf fs) v) (wayTo (logOf gs) v) = all-agree z z′ (logOf fs) (logOf gs) n versions same left-true v l in
@@ -148,7 +142,7 @@ same-accepted a (both-accepted {b = b} r) e = (b, refl)
 same-accepted a (both-refused r) e = apart (cc)
 
 not-reached : (log : Log) (zf : File) (o : Option Way) → log .versionFile 0 ≡ some zf → o ≡ none → stateBy log o ≡ refused notKept
-unfolding stateBy
+unfolding stateWithin
 not-reached log zf o e q = rw (e, q)
 
 module _ (fs gs : List File) (n : ℕ) (full : FullHistory fs n)
@@ -156,14 +150,14 @@ module _ (fs gs : List File) (n : ℕ) (full : FullHistory fs n)
     (checkpoints : (c : ℕ) → Left (logOf fs .checkpointFile c) (logOf gs .checkpointFile c))
     (first : SameFound (logOf fs .versionFile 0) (logOf gs .versionFile 0)) where
   kept-or-not : (cs : List Condition) (v : ℕ) → v ≤ n → KeptOrNot (logOf gs) v (historyListing cs (logOf fs) v) (listingAt cs (logOf gs) v)
-  unfolding historyListing listingAt listingBy
+  unfolding historyListing listingAt listingWithin
   kept-or-not cs v l =
       let z = full .all 0 (omega arith) in
       let z′ = found-there (z .0) first (z .1) in
       let x = full .zero-readable (z .0) (z .1) in
       let zeros = readZero-same (z .0) (z′ .0) (z′ .2 .body) in
       let x′ = same-accepted (x .0) zeros (x .1) in
-      let held : SameHeld (x .0) (x′ .0) = both-held (x .0) (x′ .0) zeros (x .1) (x′ .1) in
+      let held : SameState (x .0) (x′ .0) = both-held (x .0) (x′ .0) zeros (x .1) (x′ .1) in
       go
       (wayTo (logOf gs) v)
       refl
@@ -171,14 +165,14 @@ module _ (fs gs : List File) (n : ℕ) (full : FullHistory fs n)
       (z′ .1)
       (way-same fs gs n full versions checkpoints (z .0) (z′ .0) (x .0) (x′ .0) (z .1) (z′ .1) (x .1) (x′ .1) held v l)
     where
-      both-held : {a b : Answer State} (x y : State) → SameAnswer SameHeld a b → a ≡ accepted x → b ≡ accepted y → SameHeld x y
+      both-held : {a b : Answer State} (x y : State) → SameAnswer SameState a b → a ≡ accepted x → b ≡ accepted y → SameState x y
       both-held x y (both-accepted {a = x₁} {b = y₁} r) e f =
-          let p : x₁ ≡ x = cc in let q : y₁ ≡ y = cc in subst (λ (u : State). SameHeld u y) p (subst (λ (u : State). SameHeld x₁ u) q r)
+          let p : x₁ ≡ x = cc in let q : y₁ ≡ y = cc in subst (λ (u : State). SameState u y) p (subst (λ (u : State). SameState x₁ u) q r)
       both-held x y (both-refused r) e f = apart (cc)
 
       go : (o : Option Way) → wayTo (logOf gs) v ≡ o → (zf : File) → logOf gs .versionFile 0 ≡ some zf
           → ((w : Way) → wayTo (logOf gs) v ≡ some w
-          → SameAnswer SameHeld (stateBy (logOf fs) (historyTo (logOf fs) v)) (stateBy (logOf gs) (wayTo (logOf gs) v)))
+          → SameAnswer SameState (stateBy (logOf fs) (historyTo (logOf fs) v)) (stateBy (logOf gs) (wayTo (logOf gs) v)))
           → KeptOrNot (logOf gs) v (historyListing cs (logOf fs) v) (listingAt cs (logOf gs) v)
       go none e zf ez same =
           let q : listingAt cs (logOf gs) v ≡ refused notKept = rw (not-reached (logOf gs) zf (wayTo (logOf gs) v) ez e) in

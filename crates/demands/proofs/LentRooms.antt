@@ -22,7 +22,7 @@ use Rattle.rules.specs.Query.{Condition, columnOf, query}
 use Rattle.rules.specs.Picking.{meetsAll, picked}
 use Rattle.rules.specs.Manifests.{Manifest, manifests, mostManifests, dropped, keptFrom}
 use Rattle.rules.specs.Rooms.{Room, rowsRoom, keptRoom, namesRoom, filled, leaves, rowNumbers, rowsNumbers}
-use Rattle.rules.specs.Reading.{Asked, versionAsked, Listing, stateBy, listing, listingBy, listingAt, reading, roomAfterReading}
+use Rattle.rules.specs.Reading.{Asked, versionAsked, Listing, stateBy, listing, listingAt, reading, roomAfterReading, listingWithin}
 use Rattle.rules.specs.Keeping.{keeping, roomAfterKeeping}
 use Rattle.rules.specs.Cleaning.{mayGo, named, compared, cleanedBy, cleanedAt, Lent, enough, cleaning, namesAfterCleaning, tableAfterCleaning}
 use Rattle.rules.specs.Refusals.{Refusal, Answer, accepted, refused, _>>=_, orRefuse, require, roomTooShort, bundleMalformed, versionTooLarge}
@@ -163,7 +163,7 @@ listing-rows cs v st l h =
     listed = record { version = v; table = st .table; inForce = st .inForce; canWrite = writable (st .inForce); rows = picked cs (st .live) }
 
 listingAt-few : (cs : List Condition) (log : Log) (v : ℕ) (l : Listing) → listingAt cs log v ≡ accepted l → length (rowsNumbers (l .rows)) ≤ rowsRoom
-unfolding listingAt listingBy mostLive rowsRoom
+unfolding listingAt listingWithin mostLive rowsRoom
 listingAt-few cs log v l h = go (bind-accepted (stateBy log (wayTo log v)) (λ st. listing cs v st) h)
   where
     go : (st : State) × (stateBy log (wayTo log v) ≡ accepted st) × (listing cs v st ≡ accepted l) → length (rowsNumbers (l .rows)) ≤ rowsRoom

@@ -4,6 +4,7 @@ pub mod Ordered
 pub mod LittleEndian
 pub mod KeptFiles
 pub mod Bundled
+pub mod StartsExactly
 pub mod Readable
 pub mod FirstSentence
 pub mod Upward

@@ -19,7 +19,7 @@ use Rattle.rules.specs.Lines.{onto, lines}
 use Rattle.rules.specs.Actions.{Facts, Action, add, remove, protocol, metaData, mergeskip, other, action, isLine}
 use Rattle.rules.specs.Live.{Row, pathOf}
 use Rattle.rules.specs.History.{State}
-use Rattle.rules.specs.Starts.{find, logOf, wellFormed, ifWellFormed, startAt, Way, wayTo}
+use Rattle.rules.specs.Starts.{find, logOf, isStart, ifStart, startAt, Way, wayTo}
 use Rattle.rules.specs.Query.{Condition}
 use Rattle.rules.specs.Picking.{meetsAll, picked}
 use Rattle.rules.specs.Reading.{Listing, stateBy}
@@ -188,12 +188,12 @@ module _ (P : File → Type 0) (fs : List File) (a : All P fs) where
   checkpoint-all c f e = find-all P (λ n. is c (checkpointIn n)) fs f a e
 
   start-all : (c : ℕ) (f : File) → startAt (logOf fs) c ≡ some f → P f
-  unfolding startAt ifWellFormed
+  unfolding startAt ifStart
   start-all c f e = go (logOf fs .checkpointFile c) refl e
     where
-      go : (o : Option File) → logOf fs .checkpointFile c ≡ o → ifWellFormed o ≡ some f → P f
+      go : (o : Option File) → logOf fs .checkpointFile c ≡ o → ifStart o ≡ some f → P f
       go none q e = apart (cc)
-      go (some g) q e = well (wellFormed (g .body)) e
+      go (some g) q e = well (isStart (g .body)) e
         where
           well : (b : Bool) → _≡_ {A = Option File} (elim b [ true ↦ some g | false ↦ none ]) (some f) → P f
           well true e = subst P (some-same e) (checkpoint-all c g q)

@@ -13,15 +13,19 @@ use Rattle.rules.specs.Lines.{lines, anyObject}
 use Rattle.rules.specs.Actions.{Action, action}
 use Rattle.rules.specs.Live.{mostLive}
 use Rattle.rules.specs.History.{State, effect, withinLimit, readLine, readLines, readFile, readZero}
-use Rattle.rules.specs.Starts.{Log, logOf, everyLine, wellFormed, Way, fromZero, fromCheckpoint, andThen, byFile, onwardBy, historyTo, nothingLive, follow}
-use Rattle.rules.specs.Reading.{stateBy}
+use Rattle.rules.specs.Starts.{Log, logOf, everyLine, wellFormed, isStart, startAt, Way, fromZero}
+use Rattle.rules.specs.Starts.{fromCheckpoint, andThen, byFile, onwardBy, historyTo, nothingLive, follow}
+use Rattle.rules.specs.Reading.{stateBy, stateWithin}
 use Rattle.rules.specs.Refusals.{_>>=_, Answer, accepted, refused, orRefuse, require, noVersionZero, notKept, malformed, tooManyLive}
 use Rattle.rules.proofs.Tests.{apart}
-use Rattle.rules.proofs.Replaying.{bind-accepted}
+use Rattle.rules.proofs.Replaying.{bind-accepted, readFile-keeps}
 use Rattle.rules.proofs.Readable.{readFile-readable}
+use Rattle.rules.proofs.Answers.{orRefuse-accepted}
+use Rattle.rules.proofs.Tabled.{HasId, id-kept, readZero-id, readFile-says, isStart-both}
 use Rattle.demands.specs.Reaching.{There}
-use Rattle.demands.specs.FullHistory.{FullHistory, TrueIsReadable}
+use Rattle.demands.specs.FullHistory.{FullHistory, TrueIsStart}
 use Rattle.demands.proofs.Starts.{byFile-some}
+use Rattle.demands.proofs.StartsExactly.{ifStart-there}
 
 data Fine : Answer State → Type 0 where
   fine : (st : State) → Fine (accepted st)
@@ -105,7 +109,7 @@ history-fine log r (suc v) h z e =
 -- reading from version file `zf` along w
 pub stateBy-is : (log : Log) (o : Option Way) (zf : File) (w : Way) → log .versionFile 0 ≡ some zf → o ≡ some w
     → stateBy log o ≡ (readZero zf >>= (λ z. follow mostLive z w))
-unfolding stateBy
+unfolding stateWithin
 stateBy-is log o zf w e e′ = rw (e, e′)
 
 pub history-told : (fs : List File) (n : ℕ) → FullHistory fs n → (v : ℕ) → v ≤ n → (st : State) × (stateBy (logOf fs) (historyTo (logOf fs) v) ≡ accepted st)
@@ -125,10 +129,45 @@ history-told fs n full v l =
 
 -- ---- and what is accepted is readable
 
-pub true-is-readable : TrueIsReadable
-unfolding stateBy follow
-true-is-readable log c f t =
-    let a = bind-accepted (orRefuse noVersionZero (log .versionFile 0))
-    (λ zf. orRefuse notKept (some (fromCheckpoint f)) >>= (λ w. readZero zf >>= (λ z. follow mostLive z w))) (t .own-read) in
-    let b = bind-accepted (readZero (a .0)) (λ z. follow mostLive z (fromCheckpoint f)) (a .2) in
-    readFile-readable mostLive f (nothingLive (b .0 .table)) (t .own) (b .2)
+-- the history gives an id: version 0 does, and lines keep it
+history-id : (log : Log) (v : ℕ) (h : Way) (z st : State) → historyTo log v ≡ some h → HasId (z .table) → follow mostLive z h ≡ accepted st → HasId (st .table)
+unfolding historyTo follow
+history-id log zero h z st e p f =
+    let q : fromZero ≡ h = cc in
+    let r : follow mostLive z fromZero ≡ accepted st = subst (λ (w : Way). follow mostLive z w ≡ accepted st) (sym q) f in
+    let s : z ≡ st = cc in
+    subst (λ (x : State). HasId (x .table)) s p
+history-id log (suc v) h z st e p f =
+    let b = byFile-some (log .versionFile (suc v)) (λ _. historyTo log v) h e in
+    let r : follow mostLive z (andThen (b .2 .0) (b .0)) ≡ accepted st = subst (λ (w : Way). follow mostLive z w ≡ accepted st) (sym (b .2 .2)) f in
+    let c = bind-accepted (follow mostLive z (b .2 .0)) (λ x. readFile mostLive (b .0) x) r in
+    readFile-keeps mostLive
+    (λ (x : State). HasId (x .table))
+    (id-kept mostLive)
+    (b .0)
+    (c .0)
+    st
+    (c .2)
+    (history-id log v (b .2 .0) z (c .0) (b .2 .1) p (c .1))
+
+stateBy-begun : (log : Log) (w : Option Way) (st : State) → stateBy log w ≡ accepted st
+    → (zf : File) × ((z : State) × ((u : Way) × ((w ≡ some u) × ((readZero zf ≡ accepted z) × (follow mostLive z u ≡ accepted st)))))
+unfolding stateWithin
+stateBy-begun log w st h =
+    let a = bind-accepted (orRefuse noVersionZero (log .versionFile 0)) (λ zf. orRefuse notKept w >>= (λ u. readZero zf >>= (λ z. follow mostLive z u))) h in
+    let b = bind-accepted (orRefuse notKept w) (λ u. readZero (a .0) >>= (λ z. follow mostLive z u)) (a .2) in
+    let c = bind-accepted (readZero (a .0)) (λ z. follow mostLive z (b .0)) (b .2) in
+    (a .0, (c .0, (b .0, (orRefuse-accepted notKept w (b .1), (c .1, c .2)))))
+
+-- a true checkpoint has the history's id, so that a line of it says the metadata
+pub true-is-start : TrueIsStart
+unfolding follow startAt
+true-is-start log c f e t =
+    let (zf, (z, (u, (q, (ez, own))))) = stateBy-begun log (some (fromCheckpoint f)) (t .own) (t .own-read) in
+    let (yf, (y, (h, (p, (ey, his))))) = stateBy-begun log (historyTo log c) (t .history) (t .history-read) in
+    let w : fromCheckpoint f ≡ u = cc in
+    let mine : readFile mostLive f nothingLive ≡ accepted (t .own) = subst (λ (x : Way). follow mostLive z x ≡ accepted (t .own)) (sym w) own in
+    let id : HasId (t .own .table) = subst HasId (sym (t .same .table)) (history-id log c h y (t .history) p (readZero-id yf y ey) his) in
+    let s : isStart (f .body) ≡ true =
+    isStart-both (f .body) (readFile-readable mostLive f nothingLive (t .own) mine) (readFile-says mostLive f (t .own) mine id) in
+    ifStart-there (log .checkpointFile c) f e s

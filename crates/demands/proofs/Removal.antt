@@ -6,7 +6,7 @@ use mathlib.Core.List.{List, _∷_}
 use Prim.Native.Nat.{ℕ}
 use Rattle.rules.specs.Bundle.{File}
 use Rattle.rules.specs.Names.{Name, nameOf, isTooLarge, anyTooLarge}
-use Rattle.rules.specs.Starts.{find, wellFormed, ifWellFormed, Log, startAt}
+use Rattle.rules.specs.Starts.{find, isStart, ifStart, Log, startAt}
 use Rattle.rules.proofs.Tests.{apart}
 use Rattle.rules.proofs.Bundles.{Lone}
 use Rattle.demands.specs.Removed.{SameFile, Without, end, keep, remove}
@@ -123,58 +123,57 @@ module _ (MayGo : File → Type 0) where
 
 -- ---- starts
 
-ifWellFormed-by : (b : Bool) → File → Option File
-ifWellFormed-by true f = some f
-ifWellFormed-by false f = none
+ifStart-by : (b : Bool) → File → Option File
+ifStart-by true f = some f
+ifStart-by false f = none
 
-ifWellFormed-is : (f : File) → ifWellFormed (some f) ≡ ifWellFormed-by (wellFormed (f .body)) f
-unfolding ifWellFormed ifWellFormed-by
-ifWellFormed-is f = go (wellFormed (f .body))
+ifStart-is : (f : File) → ifStart (some f) ≡ ifStart-by (isStart (f .body)) f
+unfolding ifStart ifStart-by
+ifStart-is f = go (isStart (f .body))
   where
-    go : (b : Bool) → _≡_ {A = Option File} (elim b [ true ↦ some f | false ↦ none ]) (ifWellFormed-by b f)
+    go : (b : Bool) → _≡_ {A = Option File} (elim b [ true ↦ some f | false ↦ none ]) (ifStart-by b f)
     go true = refl
     go false = refl
 
-ifWellFormed-by-same : (b : Bool) (f g : File) → SameFile f g → SameFound (ifWellFormed-by b f) (ifWellFormed-by b g)
-unfolding ifWellFormed-by
-ifWellFormed-by-same true f g p = both p
-ifWellFormed-by-same false f g p = neither
+ifStart-by-same : (b : Bool) (f g : File) → SameFile f g → SameFound (ifStart-by b f) (ifStart-by b g)
+unfolding ifStart-by
+ifStart-by-same true f g p = both p
+ifStart-by-same false f g p = neither
 
-ifWellFormed-same : {o o′ : Option File} → SameFound o o′ → SameFound (ifWellFormed o) (ifWellFormed o′)
-unfolding ifWellFormed
-ifWellFormed-same neither = neither
-ifWellFormed-same (both {f = f} {g = g} p) =
-    rw (ifWellFormed-is f, ifWellFormed-is g)
-    (subst (λ (b : Bool). SameFound (ifWellFormed-by (wellFormed (f .body)) f) (ifWellFormed-by b g)) (ap wellFormed (p .body))
-    (ifWellFormed-by-same (wellFormed (f .body)) f g p))
+ifStart-same : {o o′ : Option File} → SameFound o o′ → SameFound (ifStart o) (ifStart o′)
+unfolding ifStart
+ifStart-same neither = neither
+ifStart-same (both {f = f} {g = g} p) =
+    rw (ifStart-is f, ifStart-is g)
+    (subst (λ (b : Bool). SameFound (ifStart-by (isStart (f .body)) f) (ifStart-by b g)) (ap isStart (p .body)) (ifStart-by-same (isStart (f .body)) f g p))
 
 pub start-same : (log log′ : Log) (s : ℕ) → SameFound (log .checkpointFile s) (log′ .checkpointFile s) → SameFound (startAt log s) (startAt log′ s)
 unfolding startAt
-start-same log log′ s h = ifWellFormed-same h
+start-same log log′ s h = ifStart-same h
 
 found-left : {o o′ : Option File} → SameFound o o′ → Left o o′
 found-left neither = gone
 found-left (both p) = kept p
 
-ifWellFormed-left : {o o′ : Option File} → Left o o′ → Left (ifWellFormed o) (ifWellFormed o′)
-unfolding ifWellFormed
-ifWellFormed-left gone = gone
-ifWellFormed-left (kept p) = found-left (ifWellFormed-same (both p))
+ifStart-left : {o o′ : Option File} → Left o o′ → Left (ifStart o) (ifStart o′)
+unfolding ifStart
+ifStart-left gone = gone
+ifStart-left (kept p) = found-left (ifStart-same (both p))
 
 pub start-left : (log log′ : Log) (s : ℕ) → Left (log .checkpointFile s) (log′ .checkpointFile s) → Left (startAt log s) (startAt log′ s)
 unfolding startAt
-start-left log log′ s h = ifWellFormed-left h
+start-left log log′ s h = ifStart-left h
 
-ifWellFormed-found : (o : Option File) (f : File) → ifWellFormed o ≡ some f → o ≡ some f
-unfolding ifWellFormed ifWellFormed-by
-ifWellFormed-found none f e = e
-ifWellFormed-found (some g) f e = go (wellFormed (g .body)) (sym (ifWellFormed-is g) ∙ e)
+ifStart-found : (o : Option File) (f : File) → ifStart o ≡ some f → o ≡ some f
+unfolding ifStart ifStart-by
+ifStart-found none f e = e
+ifStart-found (some g) f e = go (isStart (g .body)) (sym (ifStart-is g) ∙ e)
   where
-    go : (b : Bool) → ifWellFormed-by b g ≡ some f → some g ≡ some f
+    go : (b : Bool) → ifStart-by b g ≡ some f → some g ≡ some f
     go true e = e
     go false e = apart (cc)
 
 -- what is a start is there
 pub start-found : (log : Log) (s : ℕ) (f : File) → startAt log s ≡ some f → log .checkpointFile s ≡ some f
 unfolding startAt
-start-found log s f e = ifWellFormed-found (log .checkpointFile s) f e
+start-found log s f e = ifStart-found (log .checkpointFile s) f e

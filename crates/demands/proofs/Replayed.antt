@@ -14,7 +14,7 @@ use Rattle.rules.specs.Live.{mostLive, Row, pathOf, put, takeOut}
 use Rattle.rules.specs.History.{State, Said, effect, withinLimit, readLine, readLines, readFile}
 use Rattle.rules.specs.History.{saidNothing, sayTable, sayProtocol, say, zeroLines, orUnstated, readZero}
 use Rattle.rules.specs.Starts.{Way, fromZero, fromCheckpoint, andThen, nothingLive, follow}
-use Rattle.rules.specs.Reading.{stateBy}
+use Rattle.rules.specs.Reading.{stateWithin}
 use Rattle.rules.specs.Refusals.{accepted, _>>=_, orRefuse, require, malformed, noVersionZero, notKept}
 use Rattle.rules.proofs.Tests.{apart, by}
 use Rattle.rules.proofs.Order.{same-true, same-false}
@@ -22,10 +22,9 @@ use Rattle.rules.specs.Keyed.{Ascends, lookup}
 use Rattle.rules.proofs.Live.{lookup-put, lookup-put-other, lookup-takeOut, lookup-takeOut-other}
 use Rattle.rules.proofs.Replaying.{bind-accepted, withinLimit-accepted, effect-ascends, Ordered, stateBy-live}
 use Rattle.rules.proofs.Answers.{orRefuse-accepted}
-use Rattle.rules.proofs.Moving.{follow-table}
 use Rattle.rules.proofs.Json.Suffix.{some-same}
-use Rattle.demands.specs.Replayed.{Line, linesFrom, linesIn, linesOn, actions, after, afterAll, liveAt}
-use Rattle.demands.specs.Replayed.{lastProtocol, protocolBefore, tablesIn, ZeroSays, ReplaysExactly}
+use Rattle.demands.specs.Replayed.{Line, linesFrom, linesIn, linesOn, actions, after, afterAll, liveAt, lastProtocol}
+use Rattle.demands.specs.Replayed.{protocolBefore, lastTable, tableBefore, tablesIn, ZeroSays, ReplaysExactly}
 
 -- ---- the live file at a path
 
@@ -91,11 +90,21 @@ effect-protocol at size (metaData m) acts st = refl
 effect-protocol at size mergeskip acts st = refl
 effect-protocol at size other acts st = refl
 
+effect-table : (at size : ℕ) (a : Action) (acts : List Action) (st : State) → lastTable acts (effect at size a st .table) ≡ lastTable (a ∷ acts) (st .table)
+unfolding effect lastTable
+effect-table at size (add f) acts st = refl
+effect-table at size (remove q) acts st = refl
+effect-table at size (protocol x) acts st = refl
+effect-table at size (metaData m) acts st = refl
+effect-table at size mergeskip acts st = refl
+effect-table at size other acts st = refl
+
 -- ---- lines, files and ways
 
 -- from one state to another, as the lines say
 record Goes (ls : List Line) (st to : State) : Type 0 where
   live : (p : Bytes) → liveAt p (to .live) ≡ afterAll p ls (liveAt p (st .live))
+  table : to .table ≡ lastTable (actions ls) (st .table)
   inForce : to .inForce ≡ lastProtocol (actions ls) (st .inForce)
   ordered : Ordered to
 
@@ -104,15 +113,16 @@ goes-more : (at size : ℕ) (a : Action) (ls : List Line) (st to : State) → Or
 unfolding afterAll actions
 goes-more at size a ls st to s g = record {
   live = λ p. g .live p ∙ ap (afterAll p ls) (effect-live p at size a st s);
+  table = g .table ∙ effect-table at size a (actions ls) st;
   inForce = g .inForce ∙ effect-protocol at size a (actions ls) st;
   ordered = g .ordered;
 }
 
 readLines-goes : (e k at : ℕ) (ls : List Bytes) (st to : State) → Ordered st → readLines mostLive e k at ls st ≡ accepted to → Goes (linesFrom at ls) st to
-unfolding readLines readLine linesFrom afterAll actions lastProtocol
+unfolding readLines readLine linesFrom afterAll actions lastProtocol lastTable
 readLines-goes e k at [] st to s h =
     let q : st ≡ to = cc in
-    subst (λ (x : State). Goes [] st x) q (record { live = λ p. refl; inForce = refl; ordered = s })
+    subst (λ (x : State). Goes [] st x) q (record { live = λ p. refl; table = refl; inForce = refl; ordered = s })
 readLines-goes e k at ([] ∷ ls) st to s h =
     let q : at + 0 + 1 ≡ at + 1 = omega arith in
     readLines-goes e (suc k) (at + 1) ls st to s (subst (λ (x : ℕ). readLines mostLive e (suc k) x ls st ≡ accepted to) q h)
@@ -164,29 +174,45 @@ lastProtocol-append (metaData m ∷ acts) bs was = lastProtocol-append acts bs w
 lastProtocol-append (mergeskip ∷ acts) bs was = lastProtocol-append acts bs was
 lastProtocol-append (other ∷ acts) bs was = lastProtocol-append acts bs was
 
+lastTable-append : (acts bs : List Action) (was : MetaData) → lastTable (acts ++ bs) was ≡ lastTable bs (lastTable acts was)
+unfolding lastTable
+lastTable-append [] bs was = refl
+lastTable-append (add f ∷ acts) bs was = lastTable-append acts bs was
+lastTable-append (remove q ∷ acts) bs was = lastTable-append acts bs was
+lastTable-append (protocol p ∷ acts) bs was = lastTable-append acts bs was
+lastTable-append (metaData m ∷ acts) bs was = lastTable-append acts bs m
+lastTable-append (mergeskip ∷ acts) bs was = lastTable-append acts bs was
+lastTable-append (other ∷ acts) bs was = lastTable-append acts bs was
+
 -- along a way, from where nothing is live
-record Comes (w : Way) (p : Protocol) (to : State) : Type 0 where
+record Comes (w : Way) (z to : State) : Type 0 where
   live : (path : Bytes) → liveAt path (to .live) ≡ afterAll path (linesOn w) none
-  inForce : to .inForce ≡ lastProtocol (actions (linesOn w)) (protocolBefore w p)
+  table : to .table ≡ lastTable (actions (linesOn w)) (tableBefore w (z .table))
+  inForce : to .inForce ≡ lastProtocol (actions (linesOn w)) (protocolBefore w (z .inForce))
   ordered : Ordered to
 
-follow-comes : (z : State) (w : Way) (st : State) → z .live ≡ [] → follow mostLive z w ≡ accepted st → Comes w (z .inForce) st
-unfolding follow linesOn protocolBefore afterAll actions lastProtocol nothingLive liveAt
+follow-comes : (z : State) (w : Way) (st : State) → z .live ≡ [] → follow mostLive z w ≡ accepted st → Comes w z st
+unfolding follow linesOn protocolBefore tableBefore afterAll actions lastProtocol lastTable nothingLive liveAt
 follow-comes z fromZero st e h =
     let q : z ≡ st = cc in
-    subst (Comes fromZero (z .inForce)) q (record { live = λ p. ap (liveAt p) e; inForce = refl; ordered = subst (Ascends pathOf) (sym e) tt })
+    subst (Comes fromZero z) q (record { live = λ p. ap (liveAt p) e; table = refl; inForce = refl; ordered = subst (Ascends pathOf) (sym e) tt })
 follow-comes z (fromCheckpoint f) st e h =
-    let g = readFile-goes f (nothingLive (z .table)) st tt h in
-    record { live = g .live; inForce = g .inForce; ordered = g .ordered }
+    let g = readFile-goes f nothingLive st tt h in
+    record { live = g .live; table = g .table; inForce = g .inForce; ordered = g .ordered }
 follow-comes z (andThen w g) st e h = go (bind-accepted (follow mostLive z w) (λ x. readFile mostLive g x) h) (λ x. follow-comes z w x e)
   where
     go : (x : State) × (follow mostLive z w ≡ accepted x) × (readFile mostLive g x ≡ accepted st)
-        → ((x : State) → follow mostLive z w ≡ accepted x → Comes w (z .inForce) x) → Comes (andThen w g) (z .inForce) st
+        → ((x : State) → follow mostLive z w ≡ accepted x → Comes w z x) → Comes (andThen w g) z st
     go (x, a, b) ih =
         let c = ih x a in
         let d = readFile-goes g x st (c .ordered) b in
         record {
           live = λ p. d .live p ∙ ap (afterAll p (linesIn g)) (c .live p) ∙ sym (afterAll-append p (linesOn w) (linesIn g) none);
+          table =
+              d .table ∙ ap (lastTable (actions (linesIn g))) (c .table)
+              ∙ sym
+              (ap (λ (x : List Action). lastTable x (tableBefore w (z .table))) (actions-append (linesOn w) (linesIn g))
+              ∙ lastTable-append (actions (linesOn w)) (actions (linesIn g)) (tableBefore w (z .table)));
           inForce =
               d .inForce ∙ ap (lastProtocol (actions (linesIn g))) (c .inForce)
               ∙ sym (ap (λ (x : List Action). lastProtocol x (protocolBefore w (z .inForce))) (actions-append (linesOn w) (linesIn g))
@@ -291,7 +317,7 @@ readZero-says f z h =
 -- ---- the state
 
 pub replays-exactly : ReplaysExactly
-unfolding stateBy
+unfolding stateWithin
 replays-exactly log way st h =
     let a = bind-accepted (orRefuse noVersionZero (log .versionFile 0)) (λ zf. orRefuse notKept way >>= (λ w. readZero zf >>= (λ z. follow mostLive z w))) h in
     let b = bind-accepted (orRefuse notKept way) (λ w. readZero (a .0) >>= (λ z. follow mostLive z w)) (a .2) in
@@ -305,7 +331,7 @@ replays-exactly log way st h =
       zero-there = orRefuse-accepted noVersionZero (log .versionFile 0) (a .1);
       way-there = orRefuse-accepted notKept way (b .1);
       zero-says = z;
-      table = follow-table mostLive (c .0) (b .0) st (c .2);
+      table = w .table;
       inForce = w .inForce;
       live = w .live;
       in-order = w .ordered;

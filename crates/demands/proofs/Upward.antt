@@ -11,16 +11,16 @@ use Rattle.rules.specs.Numbers.{most}
 use Rattle.rules.specs.Bundle.{File}
 use Rattle.rules.specs.Live.{mostLive}
 use Rattle.rules.specs.History.{State, readFile, readZero}
-use Rattle.rules.specs.Starts.{Log, startAt, Way, fromZero, fromCheckpoint, andThen, onwardBy, byFile, byStart, wayTo, nothingLive, follow}
+use Rattle.rules.specs.Starts.{Log, startAt, Way, fromZero, fromCheckpoint, andThen, onwardBy, byFile, byStart, wayTo, follow}
 use Rattle.rules.specs.Marker.{markerVersion, marked, climbBy, climb, orZero, latest}
 use Rattle.rules.specs.Query.{Condition}
-use Rattle.rules.specs.Reading.{stateBy, listing, listingBy, listingAt}
+use Rattle.rules.specs.Reading.{stateBy, listing, listingAt, stateWithin, listingWithin}
 use Rattle.rules.specs.Refusals.{Answer, _>>=_ as _onward_, orRefuse, noVersionZero, notKept}
-use Rattle.rules.specs.Same.{SameListing, SameAnswer, both-accepted, both-refused}
+use Rattle.rules.specs.Same.{SameState, SameListing, SameAnswer, both-accepted, both-refused}
 use Rattle.rules.proofs.Tests.{apart}
 use Rattle.rules.proofs.Choices.{bind-some}
 use Rattle.rules.proofs.Answers.{same-bind}
-use Rattle.rules.proofs.Moving.{SameHeld, readFile-same, readZero-same, listing-same, nothingLive-same}
+use Rattle.rules.proofs.Moving.{readFile-same, begun-same, readZero-same, listing-same}
 use Rattle.demands.specs.Reaching.{There}
 use Rattle.demands.specs.Removed.{SameFile}
 use Rattle.demands.proofs.Removal.{SameFound, neither, both, start-same}
@@ -36,23 +36,23 @@ data SameWays : Option Way → Option Way → Type 0 where
   no-way : SameWays none none
   a-way : {u w : Way} → SameWay u w → SameWays (some u) (some w)
 
-follow-same : {u w : Way} (s t : State) → SameWay u w → SameHeld s t → SameAnswer SameHeld (follow mostLive s u) (follow mostLive t w)
+follow-same : {u w : Way} (s t : State) → SameWay u w → SameState s t → SameAnswer SameState (follow mostLive s u) (follow mostLive t w)
 unfolding follow
 follow-same s t zero-way h = both-accepted h
 follow-same s t (checkpoint-way {f = f} {g = g} p) h =
-    readFile-same mostLive f g (nothingLive (s .table)) (nothingLive (t .table)) (p .body) (nothingLive-same (s .table) (t .table) (h .table))
+    begun-same mostLive f g (p .body)
 follow-same s t (then-way {f = f} {g = g} r p) h =
     same-bind (λ st. readFile mostLive f st) (λ st. readFile mostLive g st) (follow-same s t r h) (λ a b q. readFile-same mostLive f g a b (p .body) q)
 
 stateBy-same : (log log′ : Log) {u w : Option Way} → SameFound (log .versionFile 0) (log′ .versionFile 0) → SameWays u w
-    → SameAnswer SameHeld (stateBy log u) (stateBy log′ w)
-unfolding stateBy
+    → SameAnswer SameState (stateBy log u) (stateBy log′ w)
+unfolding stateWithin
 stateBy-same log log′ z r = go z r
   where
     state : Option File → Option Way → Answer State
     state o u = (orRefuse noVersionZero o) onward (λ f. (orRefuse notKept u) onward (λ w. (readZero f) onward (λ z. follow mostLive z w)))
 
-    go : {o o′ : Option File} {u w : Option Way} → SameFound o o′ → SameWays u w → SameAnswer SameHeld (state o u) (state o′ w)
+    go : {o o′ : Option File} {u w : Option Way} → SameFound o o′ → SameWays u w → SameAnswer SameState (state o u) (state o′ w)
     go neither r = both-refused refl
     go (both p) no-way = both-refused refl
     go (both {f = f} {g = g} p) (a-way {u = u} {w = w} r) =
@@ -162,7 +162,7 @@ module _ (log log′ : Log) (h : SameFrom (orZero (marked log)) log log′) wher
       ∙ ap (λ (o : Option ℕ). climb most log′ (orZero o)) (marked-same (orZero (marked log)) log log′ h)
 
   pub listing-same-upward : (cs : List Condition) (v : ℕ) → orZero (marked log) ≤ v → SameAnswer SameListing (listingAt cs log v) (listingAt cs log′ v)
-  unfolding listingAt listingBy
+  unfolding listingAt listingWithin
   listing-same-upward cs v l =
       same-bind (λ st. listing cs v st) (λ st. listing cs v st)
       (stateBy-same log log′ (h .first) (way-same (orZero (marked log)) log log′ h (marked-anchored log) v l))

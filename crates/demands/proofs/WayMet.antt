@@ -192,7 +192,7 @@ met-readZero f r h = go h
 pub follow-met : (z : State) (w : Way) (r : Refusal) → follow mostLive z w ≡ refused r → MetOn z w r
 unfolding follow
 follow-met z fromZero r h = apart (cc)
-follow-met z (fromCheckpoint f) r h = in-checkpoint (readFile-met f (nothingLive (z .table)) r h)
+follow-met z (fromCheckpoint f) r h = in-checkpoint (readFile-met f nothingLive r h)
 follow-met z (andThen w g) r h = go (bind-refused (follow mostLive z w) (λ st. readFile mostLive g st) h) (follow-met z w r)
   where
     go : (follow mostLive z w ≡ refused r) ⊎ ((st : State) × (follow mostLive z w ≡ accepted st) × (readFile mostLive g st ≡ refused r))
@@ -202,7 +202,7 @@ follow-met z (andThen w g) r h = go (bind-refused (follow mostLive z w) (λ st. 
 
 pub met-follow : (z : State) (w : Way) (r : Refusal) → MetOn z w r → follow mostLive z w ≡ refused r
 unfolding follow
-met-follow z _ r (in-checkpoint {f = f} h) = met-readFile f (nothingLive (z .table)) r h
+met-follow z _ r (in-checkpoint {f = f} h) = met-readFile f nothingLive r h
 met-follow z _ r (earlier {w = w} h) = rw (met-follow z w r h)
 met-follow z _ r (in-version {g = g} st e h) = rw (e, met-readFile g st r h)
 

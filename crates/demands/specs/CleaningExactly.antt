@@ -63,9 +63,8 @@ pub record Comparing (lent : Lent) (s : Bytes) : Type 0 where
 -- the first line met that is refused: version 0, then the checkpoint, then the other way is read
 pub data MetComparing (zero-file checkpoint : File) (w : Way) : Refusal → Type 0 where
   in-zero : {r : Refusal} → MetInZero zero-file r → MetComparing zero-file checkpoint w r
-  in-checkpoint : {r : Refusal} (z : State) → readZero zero-file ≡ accepted z → MetIn checkpoint (nothingLive (z .table)) r
-      → MetComparing zero-file checkpoint w r
-  on-way : {r : Refusal} (z mine : State) → readZero zero-file ≡ accepted z → readFile mostLive checkpoint (nothingLive (z .table)) ≡ accepted mine
+  in-checkpoint : {r : Refusal} (z : State) → readZero zero-file ≡ accepted z → MetIn checkpoint nothingLive r → MetComparing zero-file checkpoint w r
+  on-way : {r : Refusal} (z mine : State) → readZero zero-file ≡ accepted z → readFile mostLive checkpoint nothingLive ≡ accepted mine
       → MetOn z w r → MetComparing zero-file checkpoint w r
 
 -- no line met is refused: there are two states, the checkpoint's and the other's
@@ -75,7 +74,7 @@ pub record Compared (lent : Lent) (s : Bytes) : Type 0 where
   pub mine : State
   pub theirs : State
   pub zero-read : readZero (comparing .begun .zero) ≡ accepted z
-  pub mine-read : readFile mostLive (comparing .checkpoint) (nothingLive (z .table)) ≡ accepted mine
+  pub mine-read : readFile mostLive (comparing .checkpoint) nothingLive ≡ accepted mine
   pub theirs-read : follow mostLive z (comparing .way) ≡ accepted theirs
 
 -- ---- cleaning

@@ -1,9 +1,9 @@
 -- The customer's three demands, as far as they speak of the rules. The promises of the code are equations with the rules' definitions,
 -- so that what is said here of `reading`, `keeping`, `cleaning` and of what is shown is said of the code.
 use Rattle.rules.specs.Edges.{Holds}
-use Rattle.demands.specs.Reaching.{ReadFromTheHighest, OtherFromTheHighest, LatestStopsAtAGap}
+use Rattle.demands.specs.Reaching.{StartsExactly, ReadFromTheHighest, OtherFromTheHighest, LatestStopsAtAGap}
 use Rattle.demands.specs.Removed.{RemovalKeepsOrder, RemovalKeepsABundle}
-use Rattle.demands.specs.FullHistory.{TrueIsReadable}
+use Rattle.demands.specs.FullHistory.{TrueIsStart}
 use Rattle.demands.specs.FirstSentence.{FirstSentence, FullLogIsHistory}
 use Rattle.demands.specs.LastSentence.{LastSentence, StoppedHalfway}
 use Rattle.demands.specs.Example.{ExampleIsFull, answers}
@@ -32,6 +32,7 @@ pub record Demand1 : Type 0 where
 -- the live files, the verdict, the files picked, the manifests kept and the files named are exactly those of the rules;
 -- each refusal is given when its rule says so, and only then
 pub record Demand2 : Type 0 where
+  pub start : StartsExactly
   pub way : ReadFromTheHighest
   pub other : OtherFromTheHighest
   pub latest : LatestStopsAtAGap
@@ -51,7 +52,7 @@ pub record Demand2 : Type 0 where
 pub record Demand3 : Type 1 where
   pub premise : ExampleIsFull
   pub example : Holds answers
-  pub readable : TrueIsReadable
+  pub start : TrueIsStart
   pub removal : RemovalKeepsOrder
   pub bundled : RemovalKeepsABundle
   pub whole : FullLogIsHistory

@@ -16,15 +16,22 @@ zero = file "00000000000000000000.json" 0 ("{'metaData':{'id':'t','partitionColu
 unfoldable pub one : Sample
 one = file "00000000000000000001.json" 0 ("{'add':{'path':'a','size':1,'modificationTime':1,'dataChange':true,'partitionValues':{'x':'1','y':null}}}" ∷ [])
 
--- an empty line, an escape in the path, the pairs in another order, numRecords null
+-- an empty line, the metaData behind the add, with a name, an escape in the path, the pairs in another order, numRecords null
 unfoldable pub checkpointAtOne : Sample
 checkpointAtOne =
     file "00000000000000000001.checkpoint.json" 0
-    ("" ∷ "{'add':{'path':'\\u0061','size':1,'dataChange':false,'modificationTime':1,'partitionValues':{'y':null,'x':'1'},'numRecords':null}}" ∷ [])
+    (""
+    ∷ "{'add':{'path':'\\u0061','size':1,'dataChange':false,'modificationTime':1,'partitionValues':{'y':null,'x':'1'},'numRecords':null}}"
+    ∷ "{'metaData':{'name':'n','partitionColumns':['x','y'],'id':'t'}}"
+    ∷ [])
 
 -- well formed, and not true
 unfoldable pub untrueAtOne : Sample
-untrueAtOne = file "00000000000000000001.checkpoint.json" 0 ("{'add':{'path':'c','size':1,'modificationTime':1,'dataChange':true,'partitionValues':{}}}" ∷ [])
+untrueAtOne =
+    file "00000000000000000001.checkpoint.json" 0
+    ("{'metaData':{'id':'t','partitionColumns':['x','y']}}"
+    ∷ "{'add':{'path':'c','size':1,'modificationTime':1,'dataChange':true,'partitionValues':{}}}"
+    ∷ [])
 
 unfoldable pub two : Sample
 two = file "00000000000000000002.json" 0 ("{'add':{'path':'b','size':1,'modificationTime':1,'dataChange':true,'partitionValues':{}}}" ∷ [])

@@ -8,13 +8,13 @@ use Prim.Native.Nat.{ℕ, suc, _≤_, _<_}
 use Rattle.rules.specs.Bundle.{File}
 use Rattle.rules.specs.Names.{anyTooLarge}
 use Rattle.rules.specs.History.{State, readZero}
-use Rattle.rules.specs.Starts.{Log, logOf, wellFormed, historyTo}
+use Rattle.rules.specs.Starts.{Log, logOf, wellFormed, startAt, historyTo}
 use Rattle.rules.specs.Reading.{stateBy}
 use Rattle.rules.specs.Same.{IsTrue}
 use Rattle.rules.specs.Refusals.{accepted, refused, tooManyLive}
 use Rattle.demands.specs.Reaching.{There}
 
--- a true checkpoint has a state of its own: it is readable, as is said below, and never has more than 1,024 live
+-- a true checkpoint has a state of its own: it is a start, as is said below, and never has more than 1,024 live
 pub record FullHistory (fs : List File) (n : ℕ) : Type 0 where
   pub all : (w : ℕ) → w ≤ n → There (logOf fs .versionFile w)
   pub nothing-above : (w : ℕ) → n < w → (logOf fs .versionFile w ≡ none) × (logOf fs .checkpointFile w ≡ none)
@@ -25,5 +25,5 @@ pub record FullHistory (fs : List File) (n : ℕ) : Type 0 where
   pub checkpoints-true : (c : ℕ) (f : File) → logOf fs .checkpointFile c ≡ some f → IsTrue (logOf fs) c f
   pub never-over : (v e l : ℕ) → stateBy (logOf fs) (historyTo (logOf fs) v) ≡ refused (tooManyLive e l) → ⊥
 
-abbrev pub TrueIsReadable : Type 0
-TrueIsReadable = (log : Log) (c : ℕ) (f : File) → IsTrue log c f → wellFormed (f .body) ≡ true
+abbrev pub TrueIsStart : Type 0
+TrueIsStart = (log : Log) (c : ℕ) (f : File) → log .checkpointFile c ≡ some f → IsTrue log c f → startAt log c ≡ some f

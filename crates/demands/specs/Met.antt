@@ -55,7 +55,7 @@ pub data MetInZero (f : File) : Refusal → Type 0 where
 
 -- `z` is the state that version 0 gives
 pub data MetOn (z : State) : Way → Refusal → Type 0 where
-  in-checkpoint : {f : File} {r : Refusal} → MetIn f (nothingLive (z .table)) r → MetOn z (fromCheckpoint f) r
+  in-checkpoint : {f : File} {r : Refusal} → MetIn f nothingLive r → MetOn z (fromCheckpoint f) r
   earlier : {w : Way} {g : File} {r : Refusal} → MetOn z w r → MetOn z (andThen w g) r
   in-version : {w : Way} {g : File} {r : Refusal} (st : State) → follow mostLive z w ≡ accepted st → MetIn g st r → MetOn z (andThen w g) r
 

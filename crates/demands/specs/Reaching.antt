@@ -1,17 +1,35 @@
 -- Starts, and what they reach, as the paper says it; beside them the way that the rules take.
 use mathlib.Core.Path.{_≡_}
 use mathlib.Core.Logic.{_⊎_, _↔_}
+use mathlib.Core.Bool.{true}
 use mathlib.Core.Option.{Option, none, some}
-use mathlib.Core.List.{List}
+use mathlib.Core.List.{List, _∷_, _++_}
 use Prim.Native.Nat.{ℕ, suc, _≤_, _<_}
+use Rattle.rules.specs.Bytes.{Bytes}
 use Rattle.rules.specs.Bundle.{File}
-use Rattle.rules.specs.Starts.{Log, logOf, startAt, Way, fromZero, fromCheckpoint, andThen, wayTo, otherWayTo}
+use Rattle.rules.specs.Lines.{lines}
+use Rattle.rules.specs.Actions.{MetaData, metaData, action}
+use Rattle.rules.specs.Starts.{Log, logOf, wellFormed, startAt, Way, fromZero, fromCheckpoint, andThen, wayTo, otherWayTo}
 use Rattle.rules.specs.Marker.{marked, orZero, latest}
 
 abbrev pub There : {A : Type 0} → Option A → Type 0
 There {A} o = (x : A) × (o ≡ some x)
 
--- a start is version file 0, or a checkpoint with an object and every line well formed
+-- a line of the body that says the metadata
+pub record TableLine (body : Bytes) : Type 0 where
+  pub before : List Bytes
+  pub line : Bytes
+  pub behind : List Bytes
+  pub split : lines body ≡ before ++ line ∷ behind
+  pub table : MetaData
+  pub said : action line ≡ some (metaData table)
+
+-- a checkpoint is a start exactly when it has an object, every line is well formed, and a metaData is among them
+abbrev pub StartsExactly : Type 0
+StartsExactly = (log : Log) (s : ℕ) (f : File)
+    → (startAt log s ≡ some f) ↔ ((log .checkpointFile s ≡ some f) × ((wellFormed (f .body) ≡ true) × TableLine (f .body)))
+
+-- a start is version file 0, or a checkpoint that is one
 abbrev pub IsStart : Log → ℕ → Type 0
 IsStart log s = ((s ≡ 0) × There (log .versionFile 0)) ⊎ There (startAt log s)
 

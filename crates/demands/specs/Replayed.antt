@@ -1,4 +1,5 @@
--- Demand 2: the live files, their places and the protocol in force are exactly those that the lines on the way say, one after the other.
+-- Demand 2: the live files, their places, the metadata and the protocol in force are exactly those that the lines on the way say, one after the
+-- other.
 use mathlib.Core.Path.{_≡_}
 use mathlib.Core.Bool.{true, false}
 use mathlib.Core.Option.{Option, none, some}
@@ -11,7 +12,7 @@ use Rattle.rules.specs.Bundle.{File}
 use Rattle.rules.specs.Lines.{lines}
 use Rattle.rules.specs.Actions.{MetaData, Protocol, unstated, Action, add, remove, protocol, metaData, mergeskip, other, action}
 use Rattle.rules.specs.Live.{mostLive, Row, pathOf}
-use Rattle.rules.specs.History.{State}
+use Rattle.rules.specs.History.{State, noTable}
 use Rattle.rules.specs.Starts.{Log, Way, fromZero, fromCheckpoint, andThen}
 use Rattle.rules.specs.Reading.{stateBy}
 use Rattle.rules.specs.Refusals.{accepted}
@@ -90,6 +91,23 @@ protocolBefore fromZero p = p
 protocolBefore (fromCheckpoint f) p = unstated
 protocolBefore (andThen w g) p = protocolBefore w p
 
+-- ---- the last metaData line is in force
+
+unfoldable pub lastTable : List Action → MetaData → MetaData
+lastTable [] was = was
+lastTable (add f ∷ acts) was = lastTable acts was
+lastTable (remove q ∷ acts) was = lastTable acts was
+lastTable (protocol p ∷ acts) was = lastTable acts was
+lastTable (metaData m ∷ acts) was = lastTable acts m
+lastTable (mergeskip ∷ acts) was = lastTable acts was
+lastTable (other ∷ acts) was = lastTable acts was
+
+-- a checkpoint brings its own
+unfoldable pub tableBefore : Way → MetaData → MetaData
+tableBefore fromZero m = m
+tableBefore (fromCheckpoint f) m = noTable
+tableBefore (andThen w g) m = tableBefore w m
+
 -- ---- version 0
 
 unfoldable pub tablesIn : List Action → List MetaData
@@ -107,7 +125,7 @@ pub record ZeroSays (f : File) (z : State) : Type 0 where
   pub inForce : z .inForce ≡ lastProtocol (actions (linesIn f)) unstated
   pub live : z .live ≡ []
 
--- ---- the state at the end of the way; only version 0's metaData counts
+-- ---- the state at the end of the way
 
 pub record StateSays (log : Log) (way : Option Way) (st : State) : Type 0 where
   pub zero : File
@@ -116,7 +134,7 @@ pub record StateSays (log : Log) (way : Option Way) (st : State) : Type 0 where
   pub zero-there : log .versionFile 0 ≡ some zero
   pub way-there : way ≡ some w
   pub zero-says : ZeroSays zero z
-  pub table : st .table ≡ z .table
+  pub table : st .table ≡ lastTable (actions (linesOn w)) (tableBefore w (z .table))
   pub inForce : st .inForce ≡ lastProtocol (actions (linesOn w)) (protocolBefore w (z .inForce))
   pub live : (p : Bytes) → liveAt p (st .live) ≡ afterAll p (linesOn w) none
   pub in-order : InPathOrder (st .live)

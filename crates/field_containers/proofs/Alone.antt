@@ -5,7 +5,7 @@ use mathlib.Core.Option.{Option, some}
 use mathlib.Core.List.{List}
 use Prim.Native.Nat.{ℕ}
 use lib.ListN.{length}
-use Rattle.rules.specs.Bytes.{Bytes, _>>=_}
+use Rattle.rules.specs.Bytes.{Bytes, _>>=_, sameEach}
 use Rattle.rules.specs.Json.Text.{Text}
 use Rattle.rules.specs.Json.Fields.{strings}
 use Rattle.rules.proofs.Json.Suffix.{some-same, left-same, answered-none}
@@ -31,3 +31,10 @@ module _ (o : Option (List Text × Text)) (s : Text) (at : ℕ) where
 pub listed-alone : (f : List Bytes → Bool) (s : Text) (at : ℕ) → IsList s at → (r q : Bool)
     → ((ss : List Bytes) → Listed s at ss → r ≡ f ss) → ((ss : List Bytes) → Listed s at ss → q ≡ f ss) → r ≡ q
 listed-alone f s at o = asked-alone (Listed s at) f (o .ss) (o .listed)
+
+-- and what is asked of two arrays
+pub lists-alone : (s : Text) (at : ℕ) (t : Text) (from : ℕ) → IsList s at → IsList t from → (r q : Bool)
+    → ((xs ys : List Bytes) → Listed s at xs → Listed t from ys → r ≡ sameEach xs ys)
+    → ((xs ys : List Bytes) → Listed s at xs → Listed t from ys → q ≡ sameEach xs ys) → r ≡ q
+lists-alone s at t from o p r q f g =
+    f (o .ss) (p .ss) (o .listed) (p .listed) ∙ sym (g (o .ss) (p .ss) (o .listed) (p .listed))

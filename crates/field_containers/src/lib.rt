@@ -9,6 +9,7 @@ pub use features::features_in;
 pub use lists::Strings;
 pub use lists::distinct_strings;
 pub use lists::holds_string;
+pub use lists::same_lists;
 pub use lists::strings_in;
 pub use nested::Array;
 pub use nested::Columns;

@@ -1,4 +1,4 @@
-// Arrays of strings: how many, whether one is held, and whether no two are the same.
+// Arrays of strings: how many, whether one is held, whether no two are the same, and whether two arrays are.
 use field_names::Name;
 use json_tokens::CLOSE_BRACKET;
 use json_values::Tail;
@@ -6,7 +6,7 @@ ghost use mathlib.Core.Path.{_≡_};
 ghost use mathlib.Core.List.{List};
 ghost use Prim.Native.Nat.{ℕ, _≤_};
 ghost use lib.ListN.{length, drop};
-ghost use Rattle.rules.specs.Bytes.{Bytes, holds, distinct};
+ghost use Rattle.rules.specs.Bytes.{Bytes, holds, distinct, sameEach};
 ghost use Rattle.rules.specs.Json.Values.{elements, value as rValue};
 ghost use Rattle.json_strings.specs.Decoded.{decoded, WellSpelled};
 ghost use Rattle.field_containers.specs.Strung.{StringsIs, Listed, IsList, Onward};
@@ -107,5 +107,64 @@ pub fn distinct_strings(s: &[u8], at: usize) -> bool
                 }
             }
         }
+    }
+}
+
+// `at` is at an element of an array of s, `from` at one of t. Whether the strings from there on are the same, one after the other.
+fn same_from(s: &[u8], at: usize, t: &[u8], from: usize) -> bool
+    requires { ⌜ (at ≤ length (now s)) × (from ≤ length (now t)) ⌝ }
+    ensures { λ r. ⌜ ((xs ys : List Bytes) → Onward (now (s .entry)) at xs → Onward (now (t .entry)) from ys → r ≡ sameEach xs ys) ⌝ }
+{
+    let mut i = at;
+    let mut j = from;
+    loop {
+        let Name::Of(n) = field_names::read_name(s, i) else {
+            return false;
+        };
+        let Name::Of(m) = field_names::read_name(t, j) else {
+            return false;
+        };
+        if json_strings::same_strings(s, n.at, t, m.at) {
+            let end = n.end;
+            let close = m.end;
+            match json_values::closing(s, end, CLOSE_BRACKET) {
+                Tail::Neither => return false,
+                Tail::Closed(_) => return match json_values::closing(t, close, CLOSE_BRACKET) {
+                    Tail::Neither => false,
+                    Tail::Closed(_) => true,
+                    Tail::More(_) => false,
+                },
+                Tail::More(k) => match json_values::closing(t, close, CLOSE_BRACKET) {
+                    Tail::Neither => return false,
+                    Tail::Closed(_) => return false,
+                    Tail::More(l) => {
+                        i = k;
+                        j = l;
+                    }
+                },
+            }
+        } else {
+            return false;
+        }
+    }
+}
+
+// `at` and `from` are just after the brackets of arrays of strings. Whether these are the same, one after the other.
+pub fn same_lists(s: &[u8], at: usize, t: &[u8], from: usize) -> bool
+    requires { ⌜ (at ≤ length (now s)) × IsList (now s) at × (from ≤ length (now t)) × IsList (now t) from ⌝ }
+    ensures { λ r. ⌜ ((xs ys : List Bytes) → Listed (now (s .entry)) at xs → Listed (now (t .entry)) from ys → r ≡ sameEach xs ys) ⌝ }
+{
+    match json_values::opening(s, at, CLOSE_BRACKET) {
+        Tail::Neither => false,
+        Tail::Closed(_) => match json_values::opening(t, from, CLOSE_BRACKET) {
+            Tail::Neither => false,
+            Tail::Closed(_) => true,
+            Tail::More(_) => false,
+        },
+        Tail::More(first) => match json_values::opening(t, from, CLOSE_BRACKET) {
+            Tail::Neither => false,
+            Tail::Closed(_) => false,
+            Tail::More(other) => same_from(s, first, t, other),
+        },
     }
 }

@@ -1,6 +1,6 @@
 -- A path is a string of 1 to 512 decoded bytes, and an id one that is not empty.
 use mathlib.Core.Path.{_≡_, refl, sym, ap, _∙_, subst}
-use mathlib.Core.Bool.{Bool, true}
+use mathlib.Core.Bool.{Bool}
 use mathlib.Core.Option.{Option, none, some}
 use Prim.Native.Nat.{ℕ, _+_, _-_, _≤_, _<_}
 use native.Mathlib.Omega.{arith}
@@ -17,7 +17,7 @@ use Rattle.rules.proofs.Ranges.{among-within, among-below, among-above}
 use Rattle.json_strings.specs.Decoded.{decoded}
 use Rattle.field_objects.specs.declared.notes.Slot.{Slot}
 use Rattle.field_scalars.specs.Inside.{Proper, stringIn}
-use Rattle.field_scalars.specs.Texts.{Read, pathOf, idOf, Told}
+use Rattle.field_scalars.specs.Texts.{Read, pathOf, idOf}
 use Rattle.field_scalars.proofs.Single.{proper-single, text-single}
 use Rattle.field_scalars.proofs.Strings.{stringOf-none}
 use Rattle.field_scalars.proofs.Begins.{byte-next}
@@ -44,8 +44,8 @@ module _ {o : Option Bytes} {s : Text} {p n : ℕ} (r : Read o s p) (size : n �
   pub id-empty : n ≡ 0 → idOf o ≡ none
   id-empty z = id-by (lt-leb 1 n (omega arith))
 
-  pub id-good : (n ≡ 0 → ⊥) → Told (idOf o) true
-  id-good z = (decoded (drop p s), id-by (le-leb 1 n (omega arith)))
+  pub id-good : (n ≡ 0 → ⊥) → Read (idOf o) s p
+  id-good z = record { spelled = r .spelled; says = id-by (le-leb 1 n (omega arith)) }
 
 -- ---- the path of a field that stands once, by the first byte of its text
 

@@ -12,7 +12,7 @@ ghost use Rattle.rules.specs.Json.Fields.{stringOf};
 ghost use Rattle.bytes_values.specs.Answers.{wholeIs, truthIs};
 ghost use Rattle.field_scalars.specs.Versions.{versionOf};
 ghost use Rattle.field_scalars.specs.Inside.{Inside, Proper, onceIn, orNothing, wholeIn, boolIn, stringIn, optionalWholeIn};
-ghost use Rattle.field_scalars.specs.Texts.{StringIs, PathIs, pathOf, idOf, Told};
+ghost use Rattle.field_scalars.specs.Texts.{StringIs, PathIs, pathOf, idOf};
 ghost use Rattle.field_scalars.specs.Optionals.{optionalOf, OptionalIs};
 ghost use Rattle.field_scalars.specs.Counts.{recordsIs};
 
@@ -105,18 +105,18 @@ pub fn string_in(s: &[u8], slot: Slot) -> Wording
     string_at(s, start, end)
 }
 
-// Whether a field that stands once is a string that is not empty.
-pub fn some_string_in(s: &[u8], slot: Slot) -> bool
+// The string of a field that stands once, if it is not empty.
+pub fn some_string_in(s: &[u8], slot: Slot) -> Wording
     requires { ⌜ Inside (now s) slot ⌝ }
-    ensures { λ r. ⌜ Told (idOf (stringIn (now (s .entry)) slot)) r ⌝ }
+    ensures { λ r. ⌜ StringIs (idOf (stringIn (now (s .entry)) slot)) (now (s .entry)) (slot .start) r ⌝ }
 {
-    let Wording::Sized(_, n) = string_in(s, slot) else {
-        return false;
+    let Wording::Sized(p, n) = string_in(s, slot) else {
+        return Wording::NoString;
     };
     if n == 0 {
-        return false;
+        return Wording::NoString;
     }
-    true
+    Wording::Sized(p, n)
 }
 
 // The text of a field that stands once; an empty part where it does not.

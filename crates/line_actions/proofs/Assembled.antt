@@ -26,6 +26,7 @@ use Rattle.rules.proofs.Json.StringReads.{string-reads}
 use Rattle.rules.proofs.Json.Places.{unquoted-place}
 use Rattle.rules.proofs.PathPlaces.{pathLeft-by}
 use Rattle.bytes_values.specs.Answers.{truthIs}
+use Rattle.json_strings.specs.Decoded.{decoded}
 use Rattle.json_strings.proofs.Decoding.{decoded-some}
 use Rattle.field_names.specs.Kinds.{namesOf}
 use Rattle.field_objects.specs.Slots.{textIn}
@@ -37,7 +38,7 @@ use Rattle.field_scalars.specs.Inside.{Inside, wholeIn, boolIn, stringIn, optio
 use Rattle.field_containers.specs.Nested.{Pairing, valuesIn, columnsOf, columnsIn, ColumnsIs}
 use Rattle.field_containers.specs.Featured.{featuresIn, Known}
 use Rattle.line_actions.specs.Line.{ActionIs}
-use Rattle.field_scalars.specs.Texts.{pathOf, idOf, Told, PathIs}
+use Rattle.field_scalars.specs.Texts.{Read, pathOf, idOf, Told, PathIs}
 use Rattle.field_scalars.specs.declared.Path.the-variants.{Spelled}
 use Rattle.field_scalars.specs.Versions.{versionOf}
 use Rattle.line_actions.specs.declared.line.Action.the-variants.{Add, Remove, Protocol, MetaData}
@@ -439,10 +440,10 @@ module _ (s : Text) {id columns : Slot} (l : Lined s 3 (id ∷ columns ∷ [])) 
       go none = refl
       go (some i) = refl
 
-  pub meta-there : (at : ℕ) → Told (idOf (stringIn s id)) true → ColumnsIs (columnsIn s columns) s (Within at) → ActionIs (action s) s (MetaData at)
-  meta-there at t c = (
-    record { id = t .0; partitionColumns = c .0 },
-    lined-meta ∙ ap (λ o. described o (columnsIn s columns)) (t .1) ∙ ap (described (some (t .0))) (c .1),
-    c .2,
-    c .3,
+  pub meta-there : (place at : ℕ) → Read (idOf (stringIn s id)) s place → ColumnsIs (columnsIn s columns) s (Within at)
+      → ActionIs (action s) s (MetaData (record { id = place; columns = at }))
+  meta-there place at t c = (
+    record { id = decoded (drop place s); partitionColumns = c .0 },
+    lined-meta ∙ ap (λ o. described o (columnsIn s columns)) (t .says) ∙ ap (described (some (decoded (drop place s)))) (c .1),
+    record { spelled = t .spelled; id = refl; within = c .2; columns = c .3 },
   )

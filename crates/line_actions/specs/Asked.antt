@@ -1,18 +1,17 @@
 -- A line asked for one action alone, in the rules' terms.
 use mathlib.Core.Path.{_≡_}
 use mathlib.Core.Option.{Option, none, some}
-use Prim.Native.Nat.{_≤_}
-use lib.ListN.{length}
 use Rattle.rules.specs.Actions.{Facts, MetaData, Protocol, Action, add, remove, protocol, metaData, mergeskip, other}
 use Rattle.rules.specs.Json.Text.{Text}
-use Rattle.field_containers.specs.Strung.{Listed}
-use Rattle.line_actions.specs.Line.{AddIs, ProtocolIs}
+use Rattle.line_actions.specs.Line.{AddIs, ProtocolIs, TableIs}
 use Rattle.line_actions.specs.declared.asked.SaidAdd.{SaidAdd}
 use Rattle.line_actions.specs.declared.asked.SaidAdd.the-variants.{Add, NoAdd}
 use Rattle.line_actions.specs.declared.asked.SaidProtocol.{SaidProtocol}
 use Rattle.line_actions.specs.declared.asked.SaidProtocol.the-variants.{Protocol as Stating, NoProtocol}
-use Rattle.line_actions.specs.declared.asked.SaidColumns.{SaidColumns}
-use Rattle.line_actions.specs.declared.asked.SaidColumns.the-variants.{From, NoTable}
+use Rattle.line_actions.specs.declared.asked.SaidTable.{SaidTable}
+use Rattle.line_actions.specs.declared.asked.SaidTable.the-variants.{Table as Tabling, NoTable}
+use Rattle.line_actions.specs.declared.asked.Spoken.{Spoken}
+use Rattle.line_actions.specs.declared.asked.Spoken.the-variants.{Table, Else, Nothing}
 
 -- ---- the add, the protocol, the metaData among all that a line may say
 
@@ -53,6 +52,16 @@ abbrev pub ProtocolOf : Option Action → Text → SaidProtocol → Type 0
 ProtocolOf o s (Stating r) = (p : Protocol) × (o ≡ some (protocol p)) × ProtocolIs s p r
 ProtocolOf o s NoProtocol = protocolIn o ≡ none
 
-abbrev pub ColumnsOf : Option Action → Text → SaidColumns → Type 0
-ColumnsOf o s (From at) = (m : MetaData) × (o ≡ some (metaData m)) × (at ≤ length s) × Listed s at (m .partitionColumns)
-ColumnsOf o s NoTable = metaDataIn o ≡ none
+abbrev pub TableOf : Option Action → Text → SaidTable → Type 0
+TableOf o s (Tabling r) = (m : MetaData) × (o ≡ some (metaData m)) × TableIs s m r
+TableOf o s NoTable = metaDataIn o ≡ none
+
+-- whether it says anything, and whether that is the metadata
+unfoldable pub spokenIs : Option Action → Spoken
+spokenIs none = Nothing
+spokenIs (some (add f)) = Else
+spokenIs (some (remove p)) = Else
+spokenIs (some (protocol p)) = Else
+spokenIs (some (metaData m)) = Table
+spokenIs (some mergeskip) = Else
+spokenIs (some other) = Else

@@ -16,6 +16,7 @@ use Rattle.field_containers.specs.Featured.{FeaturesAt}
 use Rattle.field_scalars.specs.Counts.{recordsIs}
 use Rattle.line_actions.specs.declared.line.Added.{Added}
 use Rattle.line_actions.specs.declared.line.Stated.{Stated}
+use Rattle.line_actions.specs.declared.line.Tabled.{Tabled}
 use Rattle.line_actions.specs.declared.line.Action.{Action}
 use Rattle.line_actions.specs.declared.line.Action.the-variants.{Add, Remove, Protocol, MetaData, Mergeskip, Other, Malformed}
 
@@ -39,11 +40,18 @@ pub record ProtocolIs (s : Text) (p : rProtocol) (r : Stated) : Type 0 where
   pub reader-features : FeaturesAt s (r .«reader_features») (p .readerFeatures)
   pub writer-features : FeaturesAt s (r .«writer_features») (p .writerFeatures)
 
+-- the place of the id, and where the strings of the partition columns begin
+pub record TableIs (s : Text) (m : rMetaData) (r : Tabled) : Type 0 where
+  pub spelled : WellSpelled s (r .id)
+  pub id : decoded (drop (r .id) s) ≡ m .id
+  pub within : r .columns ≤ length s
+  pub columns : Listed s (r .columns) (m .partitionColumns)
+
 abbrev pub ActionIs : Option rAction → Text → Action → Type 0
 ActionIs o s (Add a) = (f : Facts) × (o ≡ some (add f)) × AddIs s f a
 ActionIs o s (Remove p) = (o ≡ some (remove (decoded (drop p s)))) × WellSpelled s p × (p ≤ length s) × (pathLeft s ≡ some (drop p s))
 ActionIs o s (Protocol r) = (p : rProtocol) × (o ≡ some (protocol p)) × ProtocolIs s p r
-ActionIs o s (MetaData at) = (m : rMetaData) × (o ≡ some (metaData m)) × (at ≤ length s) × Listed s at (m .partitionColumns)
+ActionIs o s (MetaData r) = (m : rMetaData) × (o ≡ some (metaData m)) × TableIs s m r
 ActionIs o s Mergeskip = o ≡ some mergeskip
 ActionIs o s Other = o ≡ some other
 ActionIs o s Malformed = o ≡ none

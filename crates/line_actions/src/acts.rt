@@ -2,6 +2,7 @@
 use crate::line::Action;
 use crate::line::Added;
 use crate::line::Stated;
+use crate::line::Tabled;
 use bytes_values::Truth;
 use bytes_values::Whole;
 use field_containers::Columns;
@@ -10,6 +11,7 @@ use field_containers::Values;
 use field_objects::Slot;
 use field_scalars::Path;
 use field_scalars::Records;
+use field_scalars::Wording;
 ghost use mathlib.Core.Path.{_≡_};
 ghost use mathlib.Core.List.{[], _∷_};
 ghost use Rattle.rules.specs.Actions.{action};
@@ -121,16 +123,19 @@ pub fn protocol_in(s: &[u8], reader: Slot, writer: Slot, readers: Slot, writers:
     })
 }
 
-// The partition columns of a table.
+// The id and the partition columns of a table.
 pub fn meta_data_in(s: &[u8], id: Slot, columns: Slot) -> Action
     requires { ⌜ Lined (now s) 3 (id ∷ columns ∷ []) ⌝ }
     ensures { λ r. ⌜ ActionIs (action (now (s .entry))) (now (s .entry)) r ⌝ }
 {
-    if field_scalars::some_string_in(s, id) {
-        let Columns::Within(at) = field_containers::columns_in(s, columns) else {
-            return Action::Malformed;
-        };
-        return Action::MetaData(at);
-    }
-    Action::Malformed
+    let Wording::Sized(place, _) = field_scalars::some_string_in(s, id) else {
+        return Action::Malformed;
+    };
+    let Columns::Within(at) = field_containers::columns_in(s, columns) else {
+        return Action::Malformed;
+    };
+    Action::MetaData(Tabled {
+        id: place,
+        columns: at,
+    })
 }

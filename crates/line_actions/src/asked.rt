@@ -1,10 +1,13 @@
-// A line asked for one action alone: its add, its protocol, or its metaData. What it says else is told apart here, once for all callers.
+// A line asked for one thing alone: its add, its protocol, its metaData, or whether it says anything. What it says else is told apart here,
+// once for all callers.
 use crate::line::Action;
 use crate::line::Added;
 use crate::line::Stated;
+use crate::line::Tabled;
 use crate::line::classify;
+ghost use mathlib.Core.Path.{_≡_};
 ghost use Rattle.rules.specs.Actions.{action};
-ghost use Rattle.line_actions.specs.Asked.{AddOf, ProtocolOf, ColumnsOf};
+ghost use Rattle.line_actions.specs.Asked.{AddOf, ProtocolOf, TableOf, spokenIs};
 
 // The add that a line says; or that it says none.
 pub enum SaidAdd {
@@ -18,10 +21,17 @@ pub enum SaidProtocol {
     NoProtocol,
 }
 
-// Where the partition columns of the metaData that a line says begin, behind the bracket; or that it says none.
-pub enum SaidColumns {
-    From(usize),
+// The metaData that a line says; or that it says none.
+pub enum SaidTable {
+    Table(Tabled),
     NoTable,
+}
+
+// Whether a line says the metadata, or something else, or nothing: it is not well formed.
+pub enum Spoken {
+    Table,
+    Else,
+    Nothing,
 }
 
 // The add of the line.
@@ -54,17 +64,32 @@ pub fn protocol_of(line: &[u8]) -> SaidProtocol
     }
 }
 
-// The partition columns of the line's metaData.
-pub fn columns_of(line: &[u8]) -> SaidColumns
-    ensures { λ r. ⌜ ColumnsOf (action (now (line .entry))) (now (line .entry)) r ⌝ }
+// The metaData of the line.
+pub fn table_of(line: &[u8]) -> SaidTable
+    ensures { λ r. ⌜ TableOf (action (now (line .entry))) (now (line .entry)) r ⌝ }
 {
     match classify(line) {
-        Action::MetaData(columns) => SaidColumns::From(columns),
-        Action::Add(_) => SaidColumns::NoTable,
-        Action::Remove(_) => SaidColumns::NoTable,
-        Action::Protocol(_) => SaidColumns::NoTable,
-        Action::Mergeskip => SaidColumns::NoTable,
-        Action::Other => SaidColumns::NoTable,
-        Action::Malformed => SaidColumns::NoTable,
+        Action::MetaData(m) => SaidTable::Table(m),
+        Action::Add(_) => SaidTable::NoTable,
+        Action::Remove(_) => SaidTable::NoTable,
+        Action::Protocol(_) => SaidTable::NoTable,
+        Action::Mergeskip => SaidTable::NoTable,
+        Action::Other => SaidTable::NoTable,
+        Action::Malformed => SaidTable::NoTable,
+    }
+}
+
+// What is said by the line, where no more is asked than whether it is well formed and says the metadata.
+pub fn speaks(line: &[u8]) -> Spoken
+    ensures { λ r. ⌜ r ≡ spokenIs (action (now (line .entry))) ⌝ }
+{
+    match classify(line) {
+        Action::MetaData(_) => Spoken::Table,
+        Action::Add(_) => Spoken::Else,
+        Action::Remove(_) => Spoken::Else,
+        Action::Protocol(_) => Spoken::Else,
+        Action::Mergeskip => Spoken::Else,
+        Action::Other => Spoken::Else,
+        Action::Malformed => Spoken::Nothing,
     }
 }

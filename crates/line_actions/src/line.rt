@@ -17,7 +17,6 @@ ghost use lib.ListN.{length, drop};
 ghost use Rattle.rules.specs.Actions.{action};
 ghost use Rattle.line_actions.specs.Begun.{ends, kindAt, Braced, Begun, KeyedIs, FoundIs, Lined};
 ghost use Rattle.line_actions.specs.Line.{ActionIs};
-ghost use Rattle.rules.specs.Bytes.{isSome};
 
 // How deep values may nest inside of a line's object, or of the marker's.
 pub const IN_LINE: usize = 31;
@@ -56,13 +55,18 @@ pub struct Stated {
     pub writer_features: usize,
 }
 
-// What a line says. A remove by the position behind the opening quote of its path, a metaData by where the strings of its
-// partition columns begin (behind the bracket).
+// A metaData: where its id is spelled (behind the opening quote), and where the strings of its partition columns begin (behind the bracket).
+pub struct Tabled {
+    pub id: usize,
+    pub columns: usize,
+}
+
+// What a line says. A remove by the position behind the opening quote of its path.
 pub enum Action {
     Add(Added),
     Remove(usize),
     Protocol(Stated),
-    MetaData(usize),
+    MetaData(Tabled),
     Mergeskip,
     Other,
     Malformed,
@@ -242,19 +246,4 @@ pub fn classify(line: &[u8]) -> Action
         return object_at(line, k, v);
     }
     other_at(line, k, v)
-}
-
-// Whether the line is well formed.
-pub fn is_action(line: &[u8]) -> bool
-    ensures { λ r. ⌜ r ≡ isSome (action (now (line .entry))) ⌝ }
-{
-    match classify(line) {
-        Action::Add(_) => true,
-        Action::Remove(_) => true,
-        Action::Protocol(_) => true,
-        Action::MetaData(_) => true,
-        Action::Mergeskip => true,
-        Action::Other => true,
-        Action::Malformed => false,
-    }
 }

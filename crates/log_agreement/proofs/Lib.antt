@@ -6,3 +6,4 @@ pub mod Listing
 pub mod Stated
 pub mod Added
 pub mod Views
+pub mod Tabled

@@ -1,6 +1,6 @@
 -- The rows of two tables, one after the other: what is asked of all is asked of those that are left.
 use mathlib.Core.Path.{_≡_, sym, ap, ap₂, _∙_}
-use mathlib.Core.Bool.{Bool, true, false}
+use mathlib.Core.Bool.{Bool, true, false, _&&_}
 use mathlib.Core.List.{List, [], _∷_, map}
 use Prim.Native.Nat.{ℕ, _+_, _≤_, _<_}
 use native.Mathlib.Omega.{arith}
@@ -10,12 +10,12 @@ use Rattle.facts.proofs.Rows.{length-rowsOf}
 use Rattle.rules.specs.Json.Text.{Text}
 use Rattle.rules.specs.Live.{Row}
 use Rattle.rules.specs.History.{orUnstated}
-use Rattle.rules.specs.Agreement.{agreeFacts, agreeRows, agreeProtocols, agree}
+use Rattle.rules.specs.Agreement.{agreeFacts, agreeRows, agreeProtocols, agreeTables, agree}
 use Rattle.rules.proofs.Sameness.{length-same-rows}
 use Rattle.rules.proofs.Tests.{false-of, and-fails-left, and-fails-right}
 use Rattle.rules.proofs.Agreement.{agreeRows-true}
 use Rattle.row_table.specs.Table.{wide, row, rows, rowAt, behind}
-use Rattle.log_replay.specs.Views.{protocolAt, factsAt, rowOf, stateOf, Stands}
+use Rattle.log_replay.specs.Views.{tableAt, orNoTable, protocolAt, factsAt, rowOf, stateOf, Stands}
 use Rattle.log_replay.specs.declared.State.{State}
 use Rattle.log_agreement.specs.Held.{HeldRows}
 use Rattle.log_agreement.proofs.Stated.{and-past}
@@ -84,20 +84,33 @@ module _ (src : Text) (n : ℕ) (t u : List ℕ) where
 -- ---- two states
 
 module _ (src : Text) (a b : State) (ta tb : List ℕ) where
+  abbrev tables : Bool
+  tables = agreeTables (orNoTable (tableAt src (a .table))) (orNoTable (tableAt src (b .table)))
+
   abbrev protocols : Bool
   protocols = agreeProtocols (orUnstated (protocolAt src (a .protocol))) (orUnstated (protocolAt src (b .protocol)))
 
+  abbrev files : Bool
+  files = agreeRows (viewed src (a .live) (behind (a .base) ta)) (viewed src (b .live) (behind (b .base) tb))
+
   pub counts-decide : (a .live ≡ b .live → ⊥) → agree (stateOf src a ta) (stateOf src b tb) ≡ false
   unfolding agree stateOf
-  counts-decide h = and-fails-right protocols (counts-differ src (a .live) (b .live) (behind (a .base) ta) (behind (b .base) tb) h)
+  counts-decide h =
+      and-fails-right tables
+      (and-fails-right protocols (counts-differ src (a .live) (b .live) (behind (a .base) ta) (behind (b .base) tb) h))
+
+  pub tables-decide : tables ≡ false → agree (stateOf src a ta) (stateOf src b tb) ≡ false
+  unfolding agree stateOf
+  tables-decide h = and-fails-left (protocols && files) h
 
   pub protocols-decide : protocols ≡ false → agree (stateOf src a ta) (stateOf src b tb) ≡ false
   unfolding agree stateOf
-  protocols-decide h = and-fails-left (agreeRows (viewed src (a .live) (behind (a .base) ta)) (viewed src (b .live) (behind (b .base) tb))) h
+  protocols-decide h = and-fails-right tables (and-fails-left files h)
 
-  pub rows-decide : a .live ≡ b .live → protocols ≡ true
+  pub rows-decide : a .live ≡ b .live → tables ≡ true → protocols ≡ true
       → agree (stateOf src a ta) (stateOf src b tb) ≡ agreeRows (viewed src (a .live) (behind (a .base) ta)) (viewed src (a .live) (behind (b .base) tb))
   unfolding agree stateOf
-  rows-decide e h =
-      and-past (agreeRows (viewed src (a .live) (behind (a .base) ta)) (viewed src (b .live) (behind (b .base) tb))) h
+  rows-decide e m h =
+      and-past (protocols && files) m
+      ∙ and-past files h
       ∙ ap (λ (n : ℕ). agreeRows (viewed src (a .live) (behind (a .base) ta)) (viewed src n (behind (b .base) tb))) (sym e)

@@ -16,8 +16,14 @@ pub record HeldRows (src : Text) (n : ℕ) (t : List ℕ) : Type 0 where
 pub record Held (src : Text) (st : State) (t : List ℕ) : Type 0 where
   pub before : Room (st .base) t
   pub rows : HeldRows src (st .live) (behind (st .base) t)
+  pub metaData : Inside src (st .table)
   pub protocol : Inside src (st .protocol)
 
 -- what is carried while a log is read is so held
 pub carries-held : {src : Text} {limit : ℕ} {st : State} {t : List ℕ} → Carries src limit st t → Held src st t
-carries-held c = record { before = omega (arith, c .few, c .room); rows = record { room = c .table .room; stands = c .stands }; protocol = c .protocol }
+carries-held c = record {
+  before = omega (arith, c .few, c .room);
+  rows = record { room = c .table .room; stands = c .stands };
+  metaData = c .metaData;
+  protocol = c .protocol;
+}

@@ -1,14 +1,15 @@
--- What the lines of two states state: an add, a protocol, features.
+-- What the lines of two states state: an add, a protocol, features, the metadata.
 use mathlib.Core.Option.{Option, none, some}
 use mathlib.Core.List.{List}
 use Prim.Native.Nat.{ℕ}
 use Rattle.rules.specs.Bytes.{Bytes}
 use Rattle.rules.specs.Json.Text.{Text}
-use Rattle.rules.specs.Actions.{Facts, Protocol}
-use Rattle.line_actions.specs.Line.{AddIs, ProtocolIs}
+use Rattle.rules.specs.Actions.{Facts, Protocol, MetaData}
+use Rattle.line_actions.specs.Line.{AddIs, ProtocolIs, TableIs}
 use Rattle.field_containers.specs.Featured.{FeaturesAt}
 use Rattle.line_actions.specs.declared.line.Added.{Added}
 use Rattle.line_actions.specs.declared.line.Stated.{Stated}
+use Rattle.line_actions.specs.declared.line.Tabled.{Tabled}
 use Rattle.field_scalars.specs.declared.Records.{Records}
 use Rattle.field_scalars.specs.declared.Records.the-variants.{Number, Missing, Bad}
 
@@ -32,3 +33,8 @@ pub record Featured (s : Text) (at : ℕ) : Type 0 where
 pub record Protocolled (s : Text) (r : Stated) : Type 0 where
   pub protocol : Protocol
   pub says : ProtocolIs s protocol r
+
+-- s is a metaData, as r says
+pub record Tabling (s : Text) (r : Tabled) : Type 0 where
+  pub table : MetaData
+  pub says : TableIs s table r

@@ -1,7 +1,8 @@
-// Whether two states agree, as the cleaner tests it: the protocols in force, and the live files row by row, each by the
+// Whether two states agree, as the cleaner tests it: the metadata and the protocols in force, and the live files row by row, each by the
 // facts in the line of its add.
 mod features;
 mod partitions;
+mod tables;
 
 use features::same_protocols;
 use field_scalars::Records;
@@ -10,6 +11,7 @@ use line_actions::SaidAdd;
 use log_replay::State;
 use partitions::same_pairs;
 use row_table::Cells;
+use tables::same_tables;
 ghost use mathlib.Core.Path.{_≡_};
 ghost use mathlib.Core.List.{map};
 ghost use Prim.Native.Nat.{_+_};
@@ -136,12 +138,13 @@ pub fn agree(src: &[u8], a: State, ta: &[u64], b: State, tb: &[u64]) -> bool
     if n != b.live {
         return false;
     }
-    let p = a.protocol;
-    let q = b.protocol;
-    if same_protocols(src, p, q) {
-        let here = a.base * row_table::ROW;
-        let there = b.base * row_table::ROW;
-        return same_rows(src, &ta[here..], &tb[there..], n);
+    if same_tables(src, a.table, b.table) {
+        if same_protocols(src, a.protocol, b.protocol) {
+            let here = a.base * row_table::ROW;
+            let there = b.base * row_table::ROW;
+            return same_rows(src, &ta[here..], &tb[there..], n);
+        }
+        return false;
     }
     false
 }

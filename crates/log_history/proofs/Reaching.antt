@@ -14,7 +14,7 @@ use Rattle.rules.specs.Refusals.{Refusal, Answer, refused, _>>=_}
 use Rattle.rules.specs.History.{readFile, readZero}
 use Rattle.rules.specs.History.{State as rState}
 use Rattle.rules.specs.Starts.{Log, logOf, Way, fromZero, fromCheckpoint, wayTo, follow}
-use Rattle.rules.specs.Reading.{stateBy}
+use Rattle.rules.specs.Reading.{stateWithin, stateBy}
 use Rattle.rules.proofs.Tests.{apart, by, true-not-false}
 use Rattle.file_names.specs.declared.Version.{Version}
 use Rattle.file_bundle.specs.Files.{filesIn, fileIn}
@@ -134,21 +134,21 @@ module _ (src : Bytes) (v : ℕ) (t : List ℕ) where
   log = logOf (filesIn src)
 
   pub state-unbegun : log .versionFile 0 ≡ none → OutcomeIs src mostLive (stateBy log (wayTo log v)) t t (Refused NoVersionZero)
-  unfolding stateBy numbered
-  state-unbegun e = (rw (stateBy, e), left-same)
+  unfolding stateWithin numbered
+  state-unbegun e = (rw (stateWithin, e), left-same)
 
   module _ {f : File} (e : log .versionFile 0 ≡ some f) where
     pub state-unreached : (start : Start) → start ≡ NoStart → StartIs src v (wayTo log v) start
         → OutcomeIs src mostLive (stateBy log (wayTo log v)) t t (Refused NotKept)
-    unfolding stateBy numbered
+    unfolding stateWithin numbered
     state-unreached start q h =
         let p : wayTo log v ≡ none = subst (StartIs src v (wayTo log v)) q h in
-        (rw (stateBy, e, p), left-same)
+        (rw (stateWithin, e, p), left-same)
 
     pub state-read : (start : Start) (t′ : List ℕ) (r : Outcome) → ((w : Way) × (wayTo log v ≡ some w) × StartIs src v (some w) start)
         → ReadIs src f v start t t′ r
         → OutcomeIs src mostLive (stateBy log (wayTo log v)) t t′ r
-    unfolding stateBy
+    unfolding stateWithin
     state-read start t′ r p d =
-        let q : stateBy log (wayTo log v) ≡ (readZero f >>= (λ z. follow mostLive z (p .0))) = rw (stateBy, e, p .1) in
+        let q : stateBy log (wayTo log v) ≡ (readZero f >>= (λ z. follow mostLive z (p .0))) = rw (stateWithin, e, p .1) in
         subst (λ (o : Answer rState). OutcomeIs src mostLive o t t′ r) (sym q) (d (p .0) (p .2))

@@ -2,7 +2,7 @@
 use mathlib.Core.Path.{_≡_}
 use mathlib.Core.Option.{some}
 use mathlib.Core.List.{List}
-use Prim.Native.Nat.{ℕ}
+use Prim.Native.Nat.{ℕ, _<_}
 use Rattle.rules.specs.Bytes.{Bytes}
 use Rattle.rules.specs.Bundle.{File}
 use Rattle.rules.specs.Live.{mostLive}
@@ -22,7 +22,7 @@ use Rattle.log_history.specs.declared.latest.Marked.{Marked}
 use Rattle.log_history.specs.declared.latest.Marked.the-variants.{Read, NotRead}
 
 -- the marker names version n, the checkpoint there is that of entry k, and its lines were read to the end: they give st, carried with
--- the table t
+-- the table t, and say the metadata
 pub record Begun (src : Bytes) (k n : ℕ) (st : State) (t : List ℕ) : Type 0 where
   pub zero : File
   pub z : rState
@@ -30,8 +30,9 @@ pub record Begun (src : Bytes) (k n : ℕ) (st : State) (t : List ℕ) : Type 0 
   pub says : readZero zero ≡ accepted z
   pub marker : namedBy (logOf (filesIn src)) ≡ some n
   pub checkpoint : logOf (filesIn src) .checkpointFile n ≡ some (fileIn src k)
-  pub gives : readFile mostLive (fileIn src k) (nothingLive (z .table)) ≡ accepted (stateOf src st t)
+  pub gives : readFile mostLive (fileIn src k) nothingLive ≡ accepted (stateOf src st t)
   pub carries : Carries src mostLive st t
+  pub told : 0 < st .table .size
 
 -- of the checkpoint that the marker names: where it is not read, nothing is said but that the table changed in its first rows alone
 abbrev pub MarkedIs : Bytes → List ℕ → List ℕ → Marked → Type 0

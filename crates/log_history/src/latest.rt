@@ -1,5 +1,5 @@
-// The state of a log at its latest version. The checkpoint that the marker names is read once: that its lines are read to the end shows
-// that it is a start, and what they give is where the version files behind it go on from.
+// The state of a log at its latest version. The checkpoint that the marker names is read once: that its lines are read to the end and say
+// the metadata shows that it is a start, and what they give is where the version files behind it go on from.
 use crate::history;
 use bytes_values::Whole;
 use file_names::Version;
@@ -46,10 +46,10 @@ fn from_checkpoint(src: &[u8], k: usize, n: Version, st: State, t: &mut [u64]) -
 // What the checkpoint that the marker names gives.
 enum Marked {
     Read(usize, Version, State), // its entry, its version, and the state that its lines give
-    NotRead, // none is named or found, or its lines or those of version 0 are refused
+    NotRead, // none is named or found, its lines or those of version 0 are refused, or it says no metadata
 }
 
-// Reads version 0, and over it the checkpoint that the marker names.
+// Reads version 0, and then the checkpoint that the marker names.
 fn read_marked(src: &[u8], t: &mut [u64]) -> Marked
     requires { ⌜ IsBundle (now src) × Room mostLive (now t) ⌝ }
     ensures { λ r. ⌜ MarkedIs (now (src .entry)) (now (t .entry)) (now (t .exit)) r ⌝ }
@@ -70,6 +70,9 @@ fn read_marked(src: &[u8], t: &mut [u64]) -> Marked
     let Outcome::Done(st) = log_replay::read_file(src, k, empty, t, MOST_LIVE) else {
         return Marked::NotRead;
     };
+    if st.table.size == 0 {
+        return Marked::NotRead; // it is no start
+    }
     Marked::Read(k, Version(n), st)
 }
 

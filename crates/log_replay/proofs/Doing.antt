@@ -1,6 +1,6 @@
 -- What a line does, by what it says: to the rules' state, and to what is carried.
 use mathlib.Core.Path.{_≡_, refl, sym, ap, _∙_, subst}
-use mathlib.Core.Option.{some}
+use mathlib.Core.Option.{Option, some}
 use mathlib.Core.List.{List, map}
 use Prim.Native.Nat.{ℕ, _+_, _≤_, _<_}
 use native.Mathlib.Omega.{arith}
@@ -10,7 +10,7 @@ use Rattle.facts.specs.Parts.{part}
 use Rattle.rules.specs.Bytes.{Bytes}
 use Rattle.rules.specs.Json.Text.{Text}
 use Rattle.rules.specs.Actions.{Facts, add, remove, protocol, metaData, mergeskip, other, action}
-use Rattle.rules.specs.Actions.{Action as rAction, Protocol as rProtocol}
+use Rattle.rules.specs.Actions.{Action as rAction, Protocol as rProtocol, MetaData as rMetaData}
 use Rattle.rules.specs.Live.{Row, put, takeOut, pathOf}
 use Rattle.rules.specs.Refusals.{accepted}
 use Rattle.rules.specs.History.{effect, withinLimit, readLine, orUnstated}
@@ -26,6 +26,7 @@ use Rattle.line_actions.specs.Line.{ActionIs}
 use Rattle.line_actions.specs.Asked.{protocolIn}
 use Rattle.line_actions.specs.declared.line.Added.{Added}
 use Rattle.line_actions.specs.declared.line.Stated.{Stated}
+use Rattle.line_actions.specs.declared.line.Tabled.{Tabled}
 use Rattle.line_actions.specs.declared.line.Action.the-variants.{Add, Remove, Protocol, MetaData, Mergeskip, Other, Malformed}
 use Rattle.log_replay.specs.declared.State.{State}
 use Rattle.log_replay.specs.declared.Put.the-variants.{Rows, Full}
@@ -34,6 +35,7 @@ use Rattle.log_replay.specs.Views.{Lies, lineAt, protocolAt, factsAt, ro
 use Rattle.log_replay.specs.Answers.{Carried, PutIs, LineIs}
 use Rattle.rules.proofs.Applying.{withinLimit-few, withinLimit-many, readLine-none, readLine-some}
 use Rattle.json_strings.proofs.Placing.{Placed, spelled-part}
+use Rattle.log_replay.proofs.Nothing.{table-here}
 use Rattle.log_replay.proofs.Standing.{stands-facts, rows-put, rows-takeOut, length-live}
 
 -- the row of an add
@@ -53,6 +55,7 @@ became-carried {src} {limit} {st} {t} {t′} {rs} r w all b = record {
     table = b .table;
     stands = subst (All (Stands src)) (sym (b .holds)) all;
     metaData = w .metaData;
+    told = w .told;
     protocol = w .protocol;
   };
 }
@@ -76,10 +79,6 @@ module _ (src line : Text) (limit from : ℕ) (st : State) (t : List ℕ) (w : C
   carried-same : Carried src limit t st t
   carried-same = record { left = record { rest = refl; length = refl }; carries = w }
 
-  pub did-metaData : (e k : ℕ) {at : ℕ} → ActionIs (action line) line (MetaData at) → LineIs src limit from line e k st t t (Done st)
-  unfolding effect
-  did-metaData e k q = (leads (metaData (q .0)) (q .1) st t refl (w .few) e k, carried-same)
-
   pub did-mergeskip : (e k : ℕ) → ActionIs (action line) line Mergeskip → LineIs src limit from line e k st t t (Done st)
   unfolding effect
   did-mergeskip e k q = (leads mergeskip q st t refl (w .few) e k, carried-same)
@@ -95,6 +94,35 @@ module _ (src line : Text) (limit from : ℕ) (st : State) (t : List ℕ) (w : C
   stated : (p : rProtocol) → action line ≡ some (protocol p) → p ≡ orUnstated (protocolAt src (record { at = from; size = length line }))
   unfolding protocolAt protocolIn lineAt orUnstated
   stated p q = sym (ap (λ o. orUnstated (protocolIn o)) (ap action (z .same) ∙ q))
+
+  pub did-metaData : (e k : ℕ) {r : Tabled} → ActionIs (action line) line (MetaData r)
+      → LineIs src limit from line e k st t t
+      (Done (record { table = record { at = from; size = length line }; protocol = st .protocol; base = st .base; live = st .live }))
+  unfolding effect stateOf orNoTable
+  did-metaData e k q =
+      let m : State = record { table = record { at = from; size = length line }; protocol = st .protocol; base = st .base; live = st .live } in (
+        leads (metaData (q .0)) (q .1) m t
+            (ap
+            (λ (o : Option rMetaData). record {
+              table = orNoTable o;
+              inForce = orUnstated (protocolAt src (st .protocol));
+              live = map (rowOf src) (rows (st .live) (behind (st .base) t));
+            }) (sym (table-here z (q .1))))
+            (w .few) e k,
+        record {
+          left = record { rest = refl; length = refl };
+          carries = record {
+            short = w .short;
+            room = w .room;
+            few = w .few;
+            table = w .table;
+            stands = w .stands;
+            metaData = z .within;
+            told = λ n. (q .0, table-here z (q .1));
+            protocol = w .protocol;
+          };
+        },
+      )
 
   pub did-protocol : (e k : ℕ) {r : Stated} → ActionIs (action line) line (Protocol r)
       → LineIs src limit from line e k st t t
@@ -112,8 +140,16 @@ module _ (src line : Text) (limit from : ℕ) (st : State) (t : List ℕ) (w : C
             (w .few) e k,
         record {
           left = record { rest = refl; length = refl };
-          carries =
-              record { short = w .short; room = w .room; few = w .few; table = w .table; stands = w .stands; metaData = w .metaData; protocol = z .within };
+          carries = record {
+            short = w .short;
+            room = w .room;
+            few = w .few;
+            table = w .table;
+            stands = w .stands;
+            metaData = w .metaData;
+            told = w .told;
+            protocol = z .within;
+          };
         },
       )
 

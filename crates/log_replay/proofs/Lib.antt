@@ -5,6 +5,7 @@ pub mod Standing
 pub mod Doing
 pub mod Going
 pub mod Nothing
+pub mod Tabled
 pub mod Zeroing
 pub mod Filing
 pub mod Within

@@ -1,16 +1,17 @@
 -- A state with nothing live: no row to be carried, and a line that is nowhere, which says nothing.
 use mathlib.Core.Path.{_≡_, refl, ap, _∙_}
-use mathlib.Core.Option.{Option, none}
+use mathlib.Core.Option.{Option, none, some}
 use mathlib.Core.List.{List, []}
 use Prim.Native.Nat.{ℕ, _+_, _≤_, _<_}
+use native.Mathlib.Nat.{not-suc-le-zero}
 use native.Mathlib.Omega.{arith}
 use lib.ListN.{length}
 use Rattle.facts.specs.Lists.{All}
 use Rattle.facts.specs.Rows.{rowsOf}
 use Rattle.facts.proofs.Parts.{part-none}
 use Rattle.rules.specs.Json.Text.{Text}
-use Rattle.rules.specs.Actions.{Protocol, action}
-use Rattle.rules.specs.History.{orUnstated}
+use Rattle.rules.specs.Actions.{Protocol, MetaData, metaData, action}
+use Rattle.rules.specs.History.{noTable, orUnstated}
 use Rattle.rules.specs.Starts.{nothingLive}
 use Rattle.rules.proofs.Applying.{action-empty}
 use Rattle.row_table.specs.Table.{Room}
@@ -18,7 +19,7 @@ use Rattle.row_live.specs.Live.{places}
 use Rattle.log_replay.specs.declared.Span.{Span}
 use Rattle.log_replay.specs.declared.State.{State}
 use Rattle.line_actions.specs.Asked.{protocolIn, metaDataIn}
-use Rattle.log_replay.specs.Views.{Lies, lineAt, tableAt, protocolAt, orNoTable, stateOf, Inside, Carries}
+use Rattle.log_replay.specs.Views.{Lies, lineAt, tableAt, protocolAt, orNoTable, stateOf, Inside, Tells, Carries}
 use Rattle.log_replay.specs.Answers.{Renewed}
 
 -- ---- a line by its place, and no line
@@ -35,6 +36,11 @@ pub table-nowhere : (src : Text) (sp : Span) → sp .size ≡ 0 → tableAt src 
 unfolding tableAt metaDataIn
 table-nowhere src sp e = ap metaDataIn (action-nowhere src sp e)
 
+pub table-here : {src line : Text} {from : ℕ} {m : MetaData} → Lies src from line → action line ≡ some (metaData m)
+    → tableAt src (record { at = from; size = length line }) ≡ some m
+unfolding tableAt metaDataIn
+table-here z q = ap metaDataIn (action-here z ∙ q)
+
 pub protocol-nowhere : (src : Text) (sp : Span) → sp .size ≡ 0 → protocolAt src sp ≡ none
 unfolding protocolAt protocolIn
 protocol-nowhere src sp e = ap protocolIn (action-nowhere src sp e)
@@ -45,31 +51,33 @@ abbrev pub nowhere : Span
 nowhere = record { at = 0; size = 0 }
 
 pub carries-none : {src : Text} {limit : ℕ} {t : List ℕ} (st : State) → st .live ≡ 0 → length src < places → st .base ≤ limit → Room limit t
-    → Inside src (st .table) → Inside src (st .protocol)
+    → Inside src (st .table) → Tells src (st .table) → Inside src (st .protocol)
     → Carries src limit st t
 unfolding rowsOf All
-carries-none {src} {limit} {t} st e short fits room m p = record {
+carries-none {src} {limit} {t} st e short fits room m told p = record {
   short = short;
   room = room;
   few = omega arith;
   table = rw e (record { room = omega arith; spelled = tt; ascends = tt });
   stands = rw e tt;
   metaData = m;
+  told = told;
   protocol = p;
 }
 
-pub nothing-renewed : (z : State) → Renewed z (record { table = z .table; protocol = nowhere; base = z .base; live = 0 })
-unfolding stateOf nothingLive rowsOf orUnstated
+pub nothing-renewed : (z : State) → Renewed z (record { table = nowhere; protocol = nowhere; base = z .base; live = 0 })
+unfolding stateOf nothingLive rowsOf orNoTable orUnstated
 nothing-renewed z = (
-  λ src t. ap
-      (λ (o : Option Protocol). record { table = orNoTable (tableAt src (z .table)); inForce = orUnstated o; live = [] })
-      (protocol-nowhere src nowhere refl),
+  λ src t.
+      ap (λ (o : Option MetaData). record { table = orNoTable o; inForce = orUnstated (protocolAt src nowhere); live = [] }) (table-nowhere src nowhere refl)
+      ∙ ap (λ (o : Option Protocol). record { table = noTable; inForce = orUnstated o; live = [] }) (protocol-nowhere src nowhere refl),
   λ src limit t w. carries-none
-      (record { table = z .table; protocol = nowhere; base = z .base; live = 0 })
+      (record { table = nowhere; protocol = nowhere; base = z .base; live = 0 })
       refl
       (w .short)
       (omega (arith, w .few))
       (w .room)
-      (w .metaData)
+      (omega arith)
+      (λ n. absurd (not-suc-le-zero n))
       (omega arith),
 )

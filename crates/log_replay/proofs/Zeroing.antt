@@ -22,9 +22,10 @@ use Rattle.rules.proofs.Lines.{lines-part-none}
 use Rattle.file_lines.specs.Ends.{EndsLine}
 use Rattle.file_lines.proofs.Laws.{ends-lines}
 use Rattle.line_actions.specs.Line.{ActionIs}
-use Rattle.line_actions.specs.Asked.{protocolIn, metaDataIn}
+use Rattle.line_actions.specs.Asked.{protocolIn}
 use Rattle.line_actions.specs.declared.line.Added.{Added}
 use Rattle.line_actions.specs.declared.line.Stated.{Stated as Stating}
+use Rattle.line_actions.specs.declared.line.Tabled.{Tabled}
 use Rattle.line_actions.specs.declared.line.Action.the-variants.{Add, Remove, Protocol, MetaData, Mergeskip, Other, Malformed}
 use Rattle.log_replay.specs.declared.begin.Said.{Said}
 use Rattle.refusals.specs.Numbered.{numbered}
@@ -35,7 +36,7 @@ use Rattle.log_replay.specs.declared.begin.Saying.the-variants.{Next, Re
 use Rattle.log_replay.specs.Views.{Lies, tableAt, protocolAt, orNoTable, stateOf, saidOf, Stated}
 use Rattle.log_replay.specs.Answers.{bodyAs, says, SayingIs, ZeroIs, middle}
 use Rattle.rules.proofs.Applying.{zeroLines-empty}
-use Rattle.log_replay.proofs.Nothing.{nowhere, action-here, table-nowhere, protocol-nowhere, carries-none}
+use Rattle.log_replay.proofs.Nothing.{nowhere, action-here, table-here, table-nowhere, protocol-nowhere, carries-none}
 
 -- ---- one line
 
@@ -66,19 +67,15 @@ module _ (src line : Text) (from e k : ℕ) (x : Said) (w : Stated src x) (z : L
 
   -- a metaData where there is none yet, and another
 
-  module _ {at : ℕ} (q : ActionIs (action line) line (MetaData at)) where
-    table-here : tableAt src (record { at = from; size = length line }) ≡ some (q .0)
-    unfolding tableAt metaDataIn
-    table-here = ap metaDataIn (action-here z ∙ q .1)
-
+  module _ {r : Tabled} (q : ActionIs (action line) line (MetaData r)) where
     pub said-table : x .table .size ≡ 0
         → SayingIs src (says e k line (saidOf src x)) (Next (record { table = record { at = from; size = length line }; protocol = x .protocol }))
     unfolding rSay sayTable saidOf
     said-table n = (
       told (metaData (q .0)) (q .1)
           ∙ ap (λ (o : Option rMetaData). orRefuse (malformed e k) (sayTable o (q .0) (saidOf src x))) (table-nowhere src (x .table) n)
-          ∙ ap (λ (o : Option rMetaData). accepted (record { ofTable = o; ofProtocol = protocolAt src (x .protocol) })) (sym table-here),
-      record { metaData = z .within; protocol = w .protocol; ofTable = λ n. (q .0, table-here); ofProtocol = w .ofProtocol },
+          ∙ ap (λ (o : Option rMetaData). accepted (record { ofTable = o; ofProtocol = protocolAt src (x .protocol) })) (sym (table-here z (q .1))),
+      record { metaData = z .within; protocol = w .protocol; ofTable = λ n. (q .0, table-here z (q .1)); ofProtocol = w .ofProtocol },
     )
 
     pub said-table-twice : (x .table .size ≡ 0 → ⊥) → SayingIs src (says e k line (saidOf src x)) (NotSaid (MalformedLine e k))
@@ -170,6 +167,7 @@ module _ (src : Text) (entry from to : ℕ) where
               (record { table = x .table; protocol = x .protocol; base = middle; live = 0 })
               refl short fits room
               (g .stated .metaData)
+              (g .stated .ofTable)
               (g .stated .protocol),
         )
 

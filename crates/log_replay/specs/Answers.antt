@@ -81,8 +81,8 @@ ZeroIs src o (Done st) =
     × ((limit : ℕ) (t : List ℕ) → length src < places → middle ≤ limit → Room limit t → Carries src limit st t)
 ZeroIs src o (Refused x) = o ≡ refused (numbered x)
 
--- of z, which version 0 gave: what a checkpoint's lines are applied to
+-- what a checkpoint's lines are applied to, in the place of z
 abbrev pub Renewed : State → State → Type 0
 Renewed z r =
-    ((src : Text) (t : List ℕ) → stateOf src r t ≡ nothingLive (stateOf src z t .table))
+    ((src : Text) (t : List ℕ) → stateOf src r t ≡ nothingLive)
     × ((src : Text) (limit : ℕ) (t : List ℕ) → Carries src limit z t → Carries src limit r t)

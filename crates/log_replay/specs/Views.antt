@@ -10,7 +10,7 @@ use Rattle.facts.specs.Parts.{part}
 use Rattle.rules.specs.Json.Text.{Text}
 use Rattle.rules.specs.Actions.{Facts, MetaData, Protocol, Action, add, action}
 use Rattle.rules.specs.Live.{Row}
-use Rattle.rules.specs.History.{orUnstated}
+use Rattle.rules.specs.History.{noTable, orUnstated}
 use Rattle.rules.specs.History.{State as rState, Said as rSaid}
 use Rattle.row_table.specs.Table.{rows, Room, behind}
 use Rattle.row_table.specs.declared.Cells.{Cells}
@@ -41,12 +41,9 @@ protocolAt src sp = protocolIn (action (lineAt src sp))
 
 -- ---- a row of the table
 
--- what stands where there are no facts, and no metaData
+-- what stands where there are no facts
 unfoldable pub noFacts : Facts
 noFacts = record { path = []; size = 0; modificationTime = 0; numRecords = none; partitionValues = [] }
-
-unfoldable pub noTable : MetaData
-noTable = record { id = []; partitionColumns = [] }
 
 unfoldable pub orNoTable : Option MetaData → MetaData
 orNoTable none = noTable
@@ -82,6 +79,10 @@ saidOf src x = record { ofTable = tableAt src (x .table); ofProtocol = protocolA
 abbrev pub Inside : Text → Span → Type 0
 Inside src sp = sp .at + sp .size ≤ length src
 
+-- where there is a line, it says a metaData
+abbrev pub Tells : Text → Span → Type 0
+Tells src sp = 0 < sp .size → (m : MetaData) × (tableAt src sp ≡ some m)
+
 -- the row is of a line of src, an add with the row's path and numbers
 pub record Stands (src : Text) (c : Cells) : Type 0 where
   pub facts : Facts
@@ -99,11 +100,12 @@ pub record Carries (src : Text) (limit : ℕ) (st : State) (t : List ℕ) : Type
   pub table : Table src (st .live) (behind (st .base) t)
   pub stands : All (Stands src) (rows (st .live) (behind (st .base) t))
   pub metaData : Inside src (st .table)
+  pub told : Tells src (st .table)
   pub protocol : Inside src (st .protocol)
 
 -- what version 0 said: where there is a line, it says a metaData, or a protocol
 pub record Stated (src : Text) (x : Said) : Type 0 where
   pub metaData : Inside src (x .table)
   pub protocol : Inside src (x .protocol)
-  pub ofTable : 0 < x .table .size → (m : MetaData) × (tableAt src (x .table) ≡ some m)
+  pub ofTable : Tells src (x .table)
   pub ofProtocol : 0 < x .protocol .size → (p : Protocol) × (protocolAt src (x .protocol) ≡ some p)

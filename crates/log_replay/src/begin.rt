@@ -118,15 +118,14 @@ pub fn read_zero(src: &[u8], k: usize) -> Outcome
     zero_lines(src, &src[from..to], from, k)
 }
 
-// What a checkpoint's lines are applied to where version 0 gave z: its metaData, no protocol and nothing live.
+// What a checkpoint's lines are applied to: no metaData, no protocol and nothing live, behind as many free rows as z has.
 pub fn nothing_live(z: State) -> State
     ensures { λ r. ⌜ Renewed z r ⌝ }
 {
-    let table = z.table;
     let base = z.base;
     let none = Span { at: 0, size: 0 };
     State {
-        table,
+        table: none,
         protocol: none,
         base,
         live: 0,

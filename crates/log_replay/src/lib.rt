@@ -131,6 +131,10 @@ pub fn apply(
     let n = st.live;
     let table = st.table;
     let protocol = st.protocol;
+    let here = Span {
+        at: from,
+        size: line.len(),
+    };
     match line_actions::classify(line) {
         Action::Add(a) => apply_add(src, line, from, entry, number, a, st, t, limit),
         Action::Remove(p) => {
@@ -142,19 +146,18 @@ pub fn apply(
                 live: r.live,
             })
         }
-        Action::Protocol(_) => {
-            let here = Span {
-                at: from,
-                size: line.len(),
-            };
-            Outcome::Done(State {
-                table,
-                protocol: here,
-                base,
-                live: n,
-            })
-        }
-        Action::MetaData(_) => Outcome::Done(st),
+        Action::Protocol(_) => Outcome::Done(State {
+            table,
+            protocol: here,
+            base,
+            live: n,
+        }),
+        Action::MetaData(_) => Outcome::Done(State {
+            table: here,
+            protocol,
+            base,
+            live: n,
+        }),
         Action::Mergeskip => Outcome::Done(st),
         Action::Other => Outcome::Done(st),
         Action::Malformed => Outcome::Refused(Refusal::Malformed(entry, number)),

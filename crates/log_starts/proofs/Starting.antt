@@ -7,7 +7,7 @@ use native.Mathlib.Omega.{arith}
 use Rattle.rules.specs.Bytes.{Bytes, _>>=_}
 use Rattle.rules.specs.Numbers.{most}
 use Rattle.rules.specs.Bundle.{File}
-use Rattle.rules.specs.Starts.{Log, logOf, wellFormed, ifWellFormed, startAt, Way, fromZero}
+use Rattle.rules.specs.Starts.{Log, logOf, isStart, ifStart, startAt, Way, fromZero}
 use Rattle.rules.specs.Starts.{fromCheckpoint, andThen, onwardBy, byFile, byStart, wayTo, otherWayTo}
 use Rattle.rules.specs.Marker.{markerVersion, marked, climb, orZero, latest}
 use Rattle.rules.proofs.Tests.{apart}
@@ -21,27 +21,27 @@ use Rattle.log_starts.specs.declared.Start.the-variants.{Zero, Checkpoin
 
 -- ---- a checkpoint that is a start
 
-if-good : (f : File) → wellFormed (f .body) ≡ true → ifWellFormed (some f) ≡ some f
-unfolding ifWellFormed
-if-good f w = rw (ifWellFormed, w)
+if-good : (f : File) → isStart (f .body) ≡ true → ifStart (some f) ≡ some f
+unfolding ifStart
+if-good f w = rw (ifStart, w)
 
-if-bad : (f : File) → wellFormed (f .body) ≡ false → ifWellFormed (some f) ≡ none
-unfolding ifWellFormed
-if-bad f w = rw (ifWellFormed, w)
+if-bad : (f : File) → isStart (f .body) ≡ false → ifStart (some f) ≡ none
+unfolding ifStart
+if-bad f w = rw (ifStart, w)
 
 module _ (log : Log) (v : ℕ) where
   pub start-none : log .checkpointFile v ≡ none → startAt log v ≡ none
-  unfolding startAt ifWellFormed
-  start-none e = ap ifWellFormed e
+  unfolding startAt ifStart
+  start-none e = ap ifStart e
 
   module _ (f : File) (e : log .checkpointFile v ≡ some f) where
-    pub start-good : wellFormed (f .body) ≡ true → startAt log v ≡ some f
+    pub start-good : isStart (f .body) ≡ true → startAt log v ≡ some f
     unfolding startAt
-    start-good w = ap ifWellFormed e ∙ if-good f w
+    start-good w = ap ifStart e ∙ if-good f w
 
-    pub start-bad : wellFormed (f .body) ≡ false → startAt log v ≡ none
+    pub start-bad : isStart (f .body) ≡ false → startAt log v ≡ none
     unfolding startAt
-    start-bad w = ap ifWellFormed e ∙ if-bad f w
+    start-bad w = ap ifStart e ∙ if-bad f w
 
 -- ---- the marker
 

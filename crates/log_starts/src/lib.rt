@@ -7,13 +7,14 @@ use field_scalars::Optional;
 use field_scalars::Wording;
 use file_names::Version;
 use line_actions::IN_LINE;
+use line_actions::Spoken;
 use log_files::Place;
 ghost use mathlib.Core.Path.{_≡_};
 ghost use mathlib.Core.Bool.{true};
 ghost use Prim.Native.Nat.{_-_, _≤_};
 ghost use Rattle.rules.specs.Numbers.{most};
 ghost use Rattle.rules.specs.Bundle.{IsBundle};
-ghost use Rattle.rules.specs.Starts.{logOf, startAt, wayTo, otherWayTo, wellFormed};
+ghost use Rattle.rules.specs.Starts.{logOf, startAt, wayTo, otherWayTo, isStart};
 ghost use Rattle.rules.specs.Marker.{markerVersion, marked as rMarked, climb as rClimb, latest as rLatest};
 ghost use Rattle.bytes_values.specs.Answers.{wholeIs};
 ghost use Rattle.file_bundle.specs.Files.{filesIn};
@@ -60,26 +61,28 @@ pub fn marker_version(t: &[u8]) -> Whole
 
 // ---- starts
 
-// Whether a body has an object and every line of it is well formed.
-pub fn well_formed(body: &[u8]) -> bool
-    ensures { λ r. ⌜ r ≡ wellFormed (now (body .entry)) ⌝ }
+// Whether a checkpoint with this body is a start: every line of it is well formed, and one of them says the metadata.
+pub fn is_start(body: &[u8]) -> bool
+    ensures { λ r. ⌜ r ≡ isStart (now (body .entry)) ⌝ }
 {
     let mut from = 0;
-    let mut any = false;
+    let mut told = false;
     while from < body.len() {
         let end = file_lines::line_end(body, from, body.len());
         if from < end {
-            if line_actions::is_action(&body[from..end]) {
-                any = true;
-                from = end + 1;
-            } else {
-                return false;
+            match line_actions::speaks(&body[from..end]) {
+                Spoken::Table => {
+                    told = true;
+                    from = end + 1;
+                }
+                Spoken::Else => from = end + 1,
+                Spoken::Nothing => return false,
             }
         } else {
             from = end + 1;
         }
     }
-    any
+    told
 }
 
 // Where the checkpoint at v stands, if it is a start.
@@ -90,7 +93,7 @@ pub fn start_at(s: &[u8], v: Version, near: usize) -> Place
     let Place::At(k) = log_files::checkpoint_file(s, v, near) else {
         return Place::Nowhere;
     };
-    if well_formed(file_bundle::body_in(s, k)) {
+    if is_start(file_bundle::body_in(s, k)) {
         return Place::At(k);
     }
     Place::Nowhere

@@ -3,6 +3,7 @@ use crate::columns::columns_of;
 use field_names::Kind;
 use field_objects::Slot;
 use field_scalars::Optional;
+use field_scalars::Wording;
 use json_tokens::Next;
 ghost use Rattle.rules.specs.Manifests.{manifestOf, manifests};
 ghost use Rattle.field_scalars.specs.Inside.{Inside};
@@ -48,10 +49,10 @@ pub fn manifest_of(t: &[u8]) -> Stated
     }
     let path = f.slots[0];
     let bounds = f.slots[1];
-    if field_scalars::some_string_in(t, path) {
-        return columns_stated(t, bounds);
-    }
-    Stated::Malformed
+    let Wording::Sized(_, _) = field_scalars::some_string_in(t, path) else {
+        return Stated::Malformed;
+    };
+    columns_stated(t, bounds)
 }
 
 // ---- the state manifest

@@ -12,6 +12,7 @@ use Rattle.facts.proofs.Lists.{map-drop}
 use Rattle.rules.specs.Bytes.{Bytes, holds, allAmong}
 use Rattle.rules.specs.Json.Text.{Text}
 use Rattle.rules.specs.Actions.{MetaData, Action, metaData, action}
+use Rattle.rules.specs.History.{noTable}
 use Rattle.rules.specs.Query.{columnOf}
 use Rattle.rules.proofs.Holding.{allAmong-cons, allAmong-cons-not}
 use Rattle.json_strings.specs.Decoded.{decoded}
@@ -19,7 +20,7 @@ use Rattle.query_conditions.specs.Reading.{noCondition, conditionsOf, columnsOf
 use Rattle.query_conditions.specs.declared.conditions.Condition.{Condition}
 use Rattle.query_conditions.proofs.Columns.{conditions-here, conditions-end}
 use Rattle.line_actions.specs.Asked.{metaDataIn}
-use Rattle.log_replay.specs.Views.{lineAt, tableAt, noTable, orNoTable}
+use Rattle.log_replay.specs.Views.{lineAt, tableAt, orNoTable}
 use Rattle.log_replay.specs.declared.Span.{Span}
 
 -- ---- the columns from one on

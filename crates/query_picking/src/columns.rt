@@ -1,5 +1,5 @@
 // Whether the conditions of a query are on partition columns of the table.
-use line_actions::SaidColumns;
+use line_actions::SaidTable;
 use log_replay::Span;
 use query_conditions::Condition;
 use query_conditions::Query;
@@ -38,9 +38,9 @@ fn columns_at(src: &[u8], at: Span, q: &[u8], conditions: [Condition; 8], n: usi
 {
     let from = at.at;
     let to = from + at.size;
-    match line_actions::columns_of(&src[from..to]) {
-        SaidColumns::From(columns) => all_held(&src[from..to], columns, q, conditions, n),
-        SaidColumns::NoTable => n == 0,
+    match line_actions::table_of(&src[from..to]) {
+        SaidTable::Table(x) => all_held(&src[from..to], x.columns, q, conditions, n),
+        SaidTable::NoTable => n == 0,
     }
 }
 

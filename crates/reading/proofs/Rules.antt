@@ -17,7 +17,7 @@ use Rattle.rules.specs.Refusals.{queryMalformed, bundleMalformed, versionTooLar
 use Rattle.rules.specs.History.{State}
 use Rattle.rules.specs.Starts.{Log, logOf, wayTo}
 use Rattle.rules.specs.Marker.{latest}
-use Rattle.rules.specs.Reading.{Asked, Listing, versionAsked, stateBy, listing, listingBy, listingAt, reading}
+use Rattle.rules.specs.Reading.{Asked, Listing, versionAsked, stateBy, listing, listingWithin, listingAt, reading}
 use Rattle.file_bundle.specs.Files.{filesOr, filesIn}
 use Rattle.file_names.specs.declared.Version.{Version}
 use Rattle.query_conditions.specs.Reading.{Accepted, QueryBy, QueryIs}
@@ -82,11 +82,11 @@ module _ (cs : List Condition) (fs : List File) (asked : Asked) where
 
 module _ (cs : List Condition) (log : Log) (v : ℕ) where
   pub listingAt-state : (st : State) → stateBy log (wayTo log v) ≡ accepted st → listingAt cs log v ≡ listing cs v st
-  unfolding listingAt listingBy
+  unfolding listingAt listingWithin
   listingAt-state st e = ap (λ (a : Answer State). a >>= (λ st. listing cs v st)) e
 
   pub listingAt-refused : (r : Refusal) → stateBy log (wayTo log v) ≡ refused r → listingAt cs log v ≡ refused r
-  unfolding listingAt listingBy
+  unfolding listingAt listingWithin
   listingAt-refused r e = ap (λ (a : Answer State). a >>= (λ st. listing cs v st)) e
 
 -- the latest, where v is that version

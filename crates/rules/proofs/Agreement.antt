@@ -1,5 +1,5 @@
 -- The cleaner's test is the relation: two states agree exactly where they are the same in the sense of demand 3.
-use mathlib.Core.Path.{_≡_, refl, sym, ap, _∙_, subst}
+use mathlib.Core.Path.{_≡_, refl, sym, ap, ap₂, _∙_, subst}
 use mathlib.Core.Logic.{_⊎_, inl, inr}
 use mathlib.Core.Bool.{Bool, true, false, _&&_}
 use mathlib.Core.Option.{Option, none, some}
@@ -7,12 +7,13 @@ use mathlib.Core.List.{List, [], _∷_}
 use Prim.Native.Nat.{ℕ}
 use lib.Dec.{eqb}
 use borrow.Author.Tests.{eqb-true, eq-eqb}
-use Rattle.rules.specs.Bytes.{Bytes, same, holds, allAmong}
-use Rattle.rules.specs.Actions.{Facts, Pairs, Protocol}
+use Rattle.rules.specs.Bytes.{Bytes, same, sameEach, holds, allAmong}
+use Rattle.rules.specs.Actions.{Facts, Pairs, Protocol, MetaData}
 use Rattle.rules.specs.Live.{Row}
 use Rattle.rules.specs.History.{State}
 use Rattle.rules.specs.Picking.{valueAt}
-use Rattle.rules.specs.Agreement.{agreeValue, agreeFound, agreeOn, agreePairs, agreeRecords, agreeFacts, agreeRows, agreeSets, agreeProtocols, agree}
+use Rattle.rules.specs.Agreement.{agreeValue, agreeFound, agreeOn, agreePairs, agreeRecords}
+use Rattle.rules.specs.Agreement.{agreeFacts, agreeRows, agreeSets, agreeProtocols, agreeTables, agree}
 use Rattle.rules.specs.Same.{SameFacts, SameRows, no-rows, row, SameProtocol, SameState}
 use Rattle.rules.proofs.Tests.{apart, tests-equal, and-left, and-right, and-both}
 use Rattle.rules.proofs.Order.{same-true, eq-same, ne-same, same-or-not}
@@ -190,15 +191,52 @@ same-agreeProtocols {p} {q} s =
     (and-both (same-agreeSets (p .readerFeatures) (q .readerFeatures) (s .readerFeatures))
     (same-agreeSets (p .writerFeatures) (q .writerFeatures) (s .writerFeatures))))
 
+-- ---- tables
+
+pub sameEach-true : (xs ys : List Bytes) → sameEach xs ys ≡ true → xs ≡ ys
+unfolding sameEach
+sameEach-true [] [] e = refl
+sameEach-true [] (y ∷ ys) e = apart (cc)
+sameEach-true (x ∷ xs) [] e = apart (cc)
+sameEach-true (x ∷ xs) (y ∷ ys) e = go (same x y) refl e (λ h. sameEach-true xs ys h)
+  where
+    go : (b : Bool) → same x y ≡ b → elim b [ true ↦ sameEach xs ys | false ↦ false ] ≡ true → (sameEach xs ys ≡ true → xs ≡ ys) → x ∷ xs ≡ y ∷ ys
+    go true q h ih = ap₂ _∷_ (same-true x y q) (ih h)
+    go false q h ih = apart (cc)
+
+pub sameEach-refl : (xs : List Bytes) → sameEach xs xs ≡ true
+unfolding sameEach
+sameEach-refl [] = refl
+sameEach-refl (x ∷ xs) = rw (eq-same {x = x} refl, sameEach) (sameEach-refl xs)
+
+pub agreeTables-true : (m n : MetaData) → agreeTables m n ≡ true → m ≡ n
+unfolding agreeTables
+agreeTables-true m n h =
+    let i = same-true (m .id) (n .id) (and-left (same (m .id) (n .id)) (sameEach (m .partitionColumns) (n .partitionColumns)) h) in
+    let c = sameEach-true (m .partitionColumns) (n .partitionColumns)
+    (and-right (same (m .id) (n .id)) (sameEach (m .partitionColumns) (n .partitionColumns)) h) in
+    ap₂ (λ (x : Bytes) (cs : List Bytes). record { id = x; partitionColumns = cs }) i c
+
+pub same-agreeTables : {m n : MetaData} → m ≡ n → agreeTables m n ≡ true
+unfolding agreeTables
+same-agreeTables {m} {n} e =
+    subst (λ (x : MetaData). agreeTables m x ≡ true) e (and-both (eq-same refl) (sameEach-refl (m .partitionColumns)))
+
 -- ---- states
 
 pub agree-true : (s t : State) → agree s t ≡ true → SameState s t
 unfolding agree
-agree-true s t h = record {
-  inForce = agreeProtocols-true (s .inForce) (t .inForce) (and-left (agreeProtocols (s .inForce) (t .inForce)) (agreeRows (s .live) (t .live)) h);
-  live = agreeRows-true (s .live) (t .live) (and-right (agreeProtocols (s .inForce) (t .inForce)) (agreeRows (s .live) (t .live)) h);
-}
+agree-true s t h =
+    let tables = agreeTables (s .table) (t .table) in
+    let protocols = agreeProtocols (s .inForce) (t .inForce) in
+    let rows = agreeRows (s .live) (t .live) in
+    let behind = and-right tables (protocols && rows) h in
+    record {
+      table = agreeTables-true (s .table) (t .table) (and-left tables (protocols && rows) h);
+      inForce = agreeProtocols-true (s .inForce) (t .inForce) (and-left protocols rows behind);
+      live = agreeRows-true (s .live) (t .live) (and-right protocols rows behind);
+    }
 
 pub same-agree : {s t : State} → SameState s t → agree s t ≡ true
 unfolding agree
-same-agree h = and-both (same-agreeProtocols (h .inForce)) (same-agreeRows (h .live))
+same-agree {s} {t} h = and-both (same-agreeTables (h .table)) (and-both (same-agreeProtocols (h .inForce)) (same-agreeRows (h .live)))

@@ -10,4 +10,4 @@ edges-hold = (refl, (refl, (refl, (refl, (refl, (refl, (refl, (refl, (refl, (ref
   where
     -- from P7 on
     later : Holds (drop 16 edges)
-    later = (refl, (refl, (refl, (refl, (refl, (refl, (refl, (refl, (refl, (refl, tt))))))))))
+    later = (refl, (refl, (refl, (refl, (refl, (refl, (refl, (refl, (refl, (refl, (refl, (refl, tt))))))))))))

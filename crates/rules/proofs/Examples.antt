@@ -1,7 +1,7 @@
 -- The examples beside P1 to P12 hold of the rules, by computation.
 use mathlib.Core.Path.{refl}
 use Rattle.rules.specs.Edges.{Holds}
-use Rattle.rules.specs.Examples.{listings, places, sides, tempting, refusals}
+use Rattle.rules.specs.Examples.{listings, places, sides, metaDataLater, tempting, refusals}
 use Rattle.rules.proofs.Opened.{rules}
 
 pub listings-hold : Holds listings
@@ -15,6 +15,70 @@ places-hold = (refl, (refl, (refl, (refl, (refl, (refl, (refl, tt)))))))
 pub sides-hold : Holds sides
 unfolding rules
 sides-hold = (refl, (refl, (refl, (refl, (refl, (refl, (refl, (refl, (refl, (refl, (refl, tt)))))))))))
+
+pub metaDataLater-hold : Holds metaDataLater
+unfolding rules
+metaDataLater-hold = (
+  refl,
+  (
+    refl,
+    (
+      refl,
+      (
+        refl,
+        (
+          refl,
+          (
+            refl,
+            (
+              refl,
+              (
+                refl,
+                (
+                  refl,
+                  (
+                    refl,
+                    (
+                      refl,
+                      (
+                        refl,
+                        (
+                          refl,
+                          (
+                            refl,
+                            (
+                              refl,
+                              (
+                                refl,
+                                (
+                                  refl,
+                                  (
+                                    refl,
+                                    (
+                                      refl,
+                                      (
+                                        refl,
+                                        (refl, (refl, (refl, (refl, (refl, (refl, (refl, (refl, tt)))))))),
+                                      ),
+                                    ),
+                                  ),
+                                ),
+                              ),
+                            ),
+                          ),
+                        ),
+                      ),
+                    ),
+                  ),
+                ),
+              ),
+            ),
+          ),
+        ),
+      ),
+    ),
+  ),
+)
 
 pub tempting-hold : Holds tempting
 unfolding rules

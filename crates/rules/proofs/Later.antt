@@ -19,7 +19,7 @@ use Rattle.rules.specs.Refusals.{Refusal, Answer, accepted, refused, _>>
 use Rattle.rules.specs.Refusals.{malformed, tooManyLive, readerTooHigh, unknownFeature, noSuchColumn, noVersionZero, notKept}
 use Rattle.rules.specs.History.{State, Said, effect, withinLimit, readLine, readLines, readFile, saidNothing, say, zeroLines, orUnstated, readZero}
 use Rattle.rules.specs.Starts.{Log, Way, fromZero, fromCheckpoint, andThen, nothingLive, follow}
-use Rattle.rules.specs.Reading.{Listing, stateBy, listing}
+use Rattle.rules.specs.Reading.{Listing, stateWithin, stateBy, listing}
 
 -- an answer of any kind that is not refusal 1, after which alone the room is untouched
 unfoldable pub Later : {A : Type 0} → Answer A → Type 0
@@ -86,7 +86,7 @@ module _ (limit : ℕ) where
   pub later-follow : (z : State) (w : Way) → Later (follow limit z w)
   unfolding follow
   later-follow z fromZero = later-accepted z
-  later-follow z (fromCheckpoint f) = later-readFile f (nothingLive (z .table))
+  later-follow z (fromCheckpoint f) = later-readFile f nothingLive
   later-follow z (andThen w g) = later-bind (follow limit z w) (λ st. readFile limit g st) (later-follow z w) (λ st. later-readFile g st)
 
 later-zeroLines : (e k : ℕ) (ls : List Bytes) (s : Said) → Later (zeroLines e k ls s)
@@ -113,7 +113,7 @@ later-readZero f =
 -- ---- a version
 
 later-state : (log : Log) (way : Option Way) → Later (stateBy log way)
-unfolding stateBy
+unfolding stateWithin
 later-state log way =
     later-bind (orRefuse noVersionZero (log .versionFile 0)) (λ f. orRefuse notKept way >>= (λ w. readZero f >>= (λ z. follow mostLive z w)))
     (later-orRefuse noVersionZero (log .versionFile 0) (λ n. omega arith))

@@ -13,6 +13,7 @@ pub mod Json
 pub mod Lines
 pub mod Replaying
 pub mod Applying
+pub mod Tabled
 pub mod Sameness
 pub mod Agreement
 pub mod TotalOrders

@@ -1,6 +1,5 @@
 -- Where a file lies, and which number its entry has, does not matter: the same bodies read on the same facts give the same facts.
-use mathlib.Core.Path.{_≡_, refl, _∙_, ap, ap₂, subst}
-use mathlib.Core.Logic.{_⊎_, inl, inr}
+use mathlib.Core.Path.{_≡_, refl, ap, ap₂, subst}
 use mathlib.Core.Bool.{Bool, true, false, _&&_}
 use mathlib.Core.Option.{Option}
 use mathlib.Core.List.{List, [], _∷_, map}
@@ -14,7 +13,7 @@ use Rattle.rules.specs.Actions.{Facts, Protocol, MetaData, Action, add, 
 use Rattle.rules.specs.Live.{Row, pathOf, putBeside, takeIf, put, takeOut}
 use Rattle.rules.specs.Refusals.{_>>=_, Answer, accepted, orRefuse, require, malformed, tooManyLive, noSuchColumn, readerTooHigh, unknownFeature}
 use Rattle.rules.specs.History.{State, Said, effect, withinLimit, readLine, readLines, readFile, say, saidNothing, zeroLines, orUnstated, readZero}
-use Rattle.rules.specs.Starts.{Way, nothingLive, follow}
+use Rattle.rules.specs.Starts.{nothingLive}
 use Rattle.rules.specs.Gate.{knownReader, knownWriter, readerNames, writerNames, gate, writable}
 use Rattle.rules.specs.Query.{Condition, columnOf}
 use Rattle.rules.specs.Picking.{meetsValue, meetsAll, picked}
@@ -22,8 +21,7 @@ use Rattle.rules.specs.Reading.{Listing, listing}
 use Rattle.rules.specs.Same.{SameFacts, SameRows, no-rows, row, SameProtocol, SameState, SameListing, SameAnswer, both-accepted}
 use Rattle.rules.proofs.Tests.{tests-equal}
 use Rattle.rules.proofs.Holding.{allAmong-holds, holds-allAmong}
-use Rattle.rules.proofs.Sameness.{length-same-rows, same-facts-refl, same-protocol-refl, same-state-refl, same-state-trans, same-answer-refl}
-use Rattle.rules.proofs.Replaying.{Applied, readLine-accepted, Kept, follow-keeps}
+use Rattle.rules.proofs.Sameness.{length-same-rows, same-facts-refl, same-protocol-refl, same-state-refl, same-answer-refl}
 use Rattle.rules.proofs.Answers.{same-bind, same-orRefuse, same-require}
 
 -- ---- rows
@@ -55,46 +53,31 @@ takeOut-same p (row {r = x} {s = y} {rs = xs} {ss = ys} b c) =
     subst (λ (o : Bool). SameRows (takeOut pathOf p (x ∷ xs)) (takeIf o y ys (λ _. takeOut pathOf p ys))) (ap (same p) (b .path))
     (takeIf-same (same p (x .facts .path)) x y (λ _. takeOut pathOf p xs) (λ _. takeOut pathOf p ys) b c (takeOut-same p c))
 
--- ---- states, with the table that they are states of
+-- ---- states
 
-pub record SameHeld (s t : State) : Type 0 where
-  pub table : s .table ≡ t .table
-  pub state : SameState s t
-
-pub same-held-refl : (s : State) → SameHeld s s
-same-held-refl s = record { table = refl; state = same-state-refl s }
-
-pub same-held-trans : {s t u : State} → SameHeld s t → SameHeld t u → SameHeld s u
-same-held-trans h k = record { table = h .table ∙ k .table; state = same-state-trans (h .state) (k .state) }
-
-pub nothingLive-same : (m m′ : MetaData) → m ≡ m′ → SameHeld (nothingLive m) (nothingLive m′)
-nothingLive-same m m′ e = subst (λ x. SameHeld (nothingLive m) (nothingLive x)) e (same-held-refl (nothingLive m))
-
-pub effect-same : (at at′ n n′ : ℕ) (a : Action) (s t : State) → SameHeld s t → SameHeld (effect at n a s) (effect at′ n′ a t)
+pub effect-same : (at at′ n n′ : ℕ) (a : Action) (s t : State) → SameState s t → SameState (effect at n a s) (effect at′ n′ a t)
 unfolding effect
 effect-same at at′ n n′ (add f) s t h = record {
   table = h .table;
-  state = record {
-    inForce = h .state .inForce;
-    live = put-same (record { at = at; size = n; facts = f }) (record { at = at′; size = n′; facts = f }) (same-facts-refl f) (h .state .live);
-  };
+  inForce = h .inForce;
+  live = put-same (record { at = at; size = n; facts = f }) (record { at = at′; size = n′; facts = f }) (same-facts-refl f) (h .live);
 }
-effect-same at at′ n n′ (remove p) s t h = record { table = h .table; state = record { inForce = h .state .inForce; live = takeOut-same p (h .state .live) } }
-effect-same at at′ n n′ (protocol p) s t h = record { table = h .table; state = record { inForce = same-protocol-refl p; live = h .state .live } }
-effect-same at at′ n n′ (metaData m) s t h = h
+effect-same at at′ n n′ (remove p) s t h = record { table = h .table; inForce = h .inForce; live = takeOut-same p (h .live) }
+effect-same at at′ n n′ (protocol p) s t h = record { table = h .table; inForce = same-protocol-refl p; live = h .live }
+effect-same at at′ n n′ (metaData m) s t h = record { table = refl; inForce = h .inForce; live = h .live }
 effect-same at at′ n n′ mergeskip s t h = h
 effect-same at at′ n n′ other s t h = h
 
 module _ (limit : ℕ) where
-  withinLimit-same : (e e′ k : ℕ) (s t : State) → SameHeld s t → SameAnswer SameHeld (withinLimit limit e k s) (withinLimit limit e′ k t)
+  withinLimit-same : (e e′ k : ℕ) (s t : State) → SameState s t → SameAnswer SameState (withinLimit limit e k s) (withinLimit limit e′ k t)
   unfolding withinLimit
   withinLimit-same e e′ k s t h =
       subst
-      (λ (n : ℕ). SameAnswer SameHeld (withinLimit limit e k s) (require (tooManyLive e′ k) (leb n limit) >>= (λ _. accepted t)))
-      (length-same-rows (h .state .live))
+      (λ (n : ℕ). SameAnswer SameState (withinLimit limit e k s) (require (tooManyLive e′ k) (leb n limit) >>= (λ _. accepted t)))
+      (length-same-rows (h .live))
       (same-require (tooManyLive e k) (tooManyLive e′ k) refl (leb (length (s .live)) limit) (accepted s) (accepted t) (both-accepted h))
 
-  readLine-same : (e e′ k at at′ : ℕ) (l : Bytes) (s t : State) → SameHeld s t → SameAnswer SameHeld (readLine limit e k at l s) (readLine limit e′ k at′ l t)
+  readLine-same : (e e′ k at at′ : ℕ) (l : Bytes) (s t : State) → SameState s t → SameAnswer SameState (readLine limit e k at l s) (readLine limit e′ k at′ l t)
   unfolding readLine
   readLine-same e e′ k at at′ [] s t h = both-accepted h
   readLine-same e e′ k at at′ (b ∷ bs) s t h =
@@ -108,8 +91,8 @@ module _ (limit : ℕ) where
       (λ a. withinLimit-same e e′ k (effect at (length (b ∷ bs)) a s) (effect at′ (length (b ∷ bs)) a t)
       (effect-same at at′ (length (b ∷ bs)) (length (b ∷ bs)) a s t h))
 
-  readLines-same : (e e′ k at at′ : ℕ) (ls : List Bytes) (s t : State) → SameHeld s t
-      → SameAnswer SameHeld (readLines limit e k at ls s) (readLines limit e′ k at′ ls t)
+  readLines-same : (e e′ k at at′ : ℕ) (ls : List Bytes) (s t : State) → SameState s t
+      → SameAnswer SameState (readLines limit e k at ls s) (readLines limit e′ k at′ ls t)
   unfolding readLines
   readLines-same e e′ k at at′ [] s t h = both-accepted h
   readLines-same e e′ k at at′ (l ∷ ls) s t h =
@@ -120,7 +103,7 @@ module _ (limit : ℕ) where
   readBody : (entry start : ℕ) → Bytes → State → Answer State
   readBody e at body st = readLines limit e 1 at (lines body) st >>= (λ next. require (malformed e 0) (anyObject (lines body)) >>= (λ _. accepted next))
 
-  readBody-same : (e e′ at at′ : ℕ) (body : Bytes) (s t : State) → SameHeld s t → SameAnswer SameHeld (readBody e at body s) (readBody e′ at′ body t)
+  readBody-same : (e e′ at at′ : ℕ) (body : Bytes) (s t : State) → SameState s t → SameAnswer SameState (readBody e at body s) (readBody e′ at′ body t)
   unfolding readBody
   readBody-same e e′ at at′ body s t h =
       same-bind
@@ -129,11 +112,16 @@ module _ (limit : ℕ) where
       (readLines-same e e′ 1 at at′ (lines body) s t h)
       (λ a b r. same-require (malformed e 0) (malformed e′ 0) refl (anyObject (lines body)) (accepted a) (accepted b) (both-accepted r))
 
-  pub readFile-same : (f g : File) (s t : State) → f .body ≡ g .body → SameHeld s t → SameAnswer SameHeld (readFile limit f s) (readFile limit g t)
+  pub readFile-same : (f g : File) (s t : State) → f .body ≡ g .body → SameState s t → SameAnswer SameState (readFile limit f s) (readFile limit g t)
   unfolding readBody readFile
   readFile-same f g s t e h =
-      subst (λ (body : Bytes). SameAnswer SameHeld (readFile limit f s) (readBody (g .entry) (g .start) body t)) e
+      subst (λ (body : Bytes). SameAnswer SameState (readFile limit f s) (readBody (g .entry) (g .start) body t)) e
       (readBody-same (f .entry) (g .entry) (f .start) (g .start) (f .body) s t h)
+
+-- ---- starts: the same body, wherever it lies
+
+pub begun-same : (limit : ℕ) (f g : File) → f .body ≡ g .body → SameAnswer SameState (readFile limit f nothingLive) (readFile limit g nothingLive)
+begun-same limit f g e = readFile-same limit f g nothingLive nothingLive e (same-state-refl nothingLive)
 
 -- ---- version 0
 
@@ -159,21 +147,21 @@ zeroBody : (entry : ℕ) → Bytes → Answer State
 unfolding stateOf
 zeroBody e body = zeroLines e 1 (lines body) saidNothing >>= (λ s. orRefuse (malformed e 0) (s .ofTable) >>= (λ m. accepted (stateOf s m)))
 
-zeroBody-same : (e e′ : ℕ) (body : Bytes) → SameAnswer SameHeld (zeroBody e body) (zeroBody e′ body)
+zeroBody-same : (e e′ : ℕ) (body : Bytes) → SameAnswer SameState (zeroBody e body) (zeroBody e′ body)
 unfolding zeroBody
 zeroBody-same e e′ body =
     same-bind
     (λ s. orRefuse (malformed e 0) (s .ofTable) >>= (λ m. accepted (stateOf s m)))
     (λ s. orRefuse (malformed e′ 0) (s .ofTable) >>= (λ m. accepted (stateOf s m)))
     (zeroLines-same e e′ 1 (lines body) saidNothing)
-    (λ s t q. subst (λ (x : Said). SameAnswer SameHeld (orRefuse (malformed e 0) (s .ofTable) >>= (λ m. accepted (stateOf s m)))
+    (λ s t q. subst (λ (x : Said). SameAnswer SameState (orRefuse (malformed e 0) (s .ofTable) >>= (λ m. accepted (stateOf s m)))
     (orRefuse (malformed e′ 0) (x .ofTable) >>= (λ m. accepted (stateOf x m)))) q
     (same-orRefuse (malformed e 0) (malformed e′ 0) refl (s .ofTable) (λ m. accepted (stateOf s m)) (λ m. accepted (stateOf s m))
-    (λ m. both-accepted (same-held-refl (stateOf s m)))))
+    (λ m. both-accepted (same-state-refl (stateOf s m)))))
 
-pub readZero-same : (f g : File) → f .body ≡ g .body → SameAnswer SameHeld (readZero f) (readZero g)
+pub readZero-same : (f g : File) → f .body ≡ g .body → SameAnswer SameState (readZero f) (readZero g)
 unfolding zeroBody stateOf readZero
-readZero-same f g e = subst (λ (body : Bytes). SameAnswer SameHeld (readZero f) (zeroBody (g .entry) body)) e (zeroBody-same (f .entry) (g .entry) (f .body))
+readZero-same f g e = subst (λ (body : Bytes). SameAnswer SameState (readZero f) (zeroBody (g .entry) body)) e (zeroBody-same (f .entry) (g .entry) (f .body))
 
 -- ---- what a state answers
 
@@ -215,11 +203,11 @@ picked-same cs (row {r} {s} {rs} {ss} a h) =
     subst (λ (b : Bool). SameRows (picked cs (r ∷ rs)) (keepIf b s (picked cs ss))) (meetsAll-same cs (r .facts) (s .facts) a)
     (keepIf-same (meetsAll cs (r .facts)) r s a (picked-same cs h))
 
-pub listing-same : (cs : List Condition) (v : ℕ) (s t : State) → SameHeld s t → SameAnswer SameListing (listing cs v s) (listing cs v t)
+pub listing-same : (cs : List Condition) (v : ℕ) (s t : State) → SameState s t → SameAnswer SameListing (listing cs v s) (listing cs v t)
 unfolding listing
 listing-same cs v s t h =
     same-bind (λ _. require noSuchColumn (known s) >>= (λ _. accepted (listed s))) (λ _. require noSuchColumn (known t) >>= (λ _. accepted (listed t)))
-    (subst (λ (a : Answer (Unit {0})). SameAnswer (_≡_ {A = Unit {0}}) (gate (s .inForce)) a) (gate-same (h .state .inForce))
+    (subst (λ (a : Answer (Unit {0})). SameAnswer (_≡_ {A = Unit {0}}) (gate (s .inForce)) a) (gate-same (h .inForce))
     (same-answer-refl (λ a. refl) (gate (s .inForce))))
     (λ _ _ _.
     subst
@@ -238,29 +226,7 @@ listing-same cs v s t h =
     same-listed = record {
       version = refl;
       table = h .table;
-      inForce = h .state .inForce;
-      canWrite = writable-same (h .state .inForce);
-      rows = picked-same cs (h .state .live);
+      inForce = h .inForce;
+      canWrite = writable-same (h .inForce);
+      rows = picked-same cs (h .live);
     }
-
--- ---- the table is version 0's, wherever the way leads
-
-pub table-kept : (limit : ℕ) (m : MetaData) → Kept limit (λ (st : State). st .table ≡ m)
-unfolding effect
-table-kept limit m e k at l st to h q = go (readLine-accepted limit e k at l st to h)
-  where
-    of-effect : (at size : ℕ) (a : Action) → effect at size a st .table ≡ st .table
-    of-effect at size (add f) = refl
-    of-effect at size (remove p) = refl
-    of-effect at size (protocol p) = refl
-    of-effect at size (metaData n) = refl
-    of-effect at size mergeskip = refl
-    of-effect at size other = refl
-
-    go : (st ≡ to) ⊎ Applied limit at l st to → to .table ≡ m
-    go (inl r) = subst (λ (x : State). x .table ≡ m) r q
-    go (inr r) = subst (λ (x : State). x .table ≡ m) (r .reached) (of-effect at (length l) (r .does) ∙ q)
-
-pub follow-table : (limit : ℕ) (z : State) (w : Way) (to : State) → follow limit z w ≡ accepted to → to .table ≡ z .table
-unfolding nothingLive
-follow-table limit z w to h = follow-keeps limit (λ (st : State). st .table ≡ z .table) (table-kept limit (z .table)) z w to h refl refl

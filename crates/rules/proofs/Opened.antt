@@ -30,7 +30,7 @@ use Rattle.rules.specs.Examples
 
 unfoldable pub inBytes : Unit {0}
 unfolding Bytes.ascii Bytes.isSome Bytes.first Bytes.among Bytes.isEmpty Bytes.keepIf Bytes.same Bytes.begins Bytes.order Bytes.isLess Bytes.isEqual
-    Bytes.isMore Bytes.holds Bytes.distinct Bytes.allAmong Bytes.firsts
+    Bytes.isMore Bytes.holds Bytes.distinct Bytes.allAmong Bytes.sameEach Bytes.firsts
 inBytes = tt
 
 unfoldable pub inNumbers : Unit {0}
@@ -93,12 +93,14 @@ unfolding Live.mostLive Live.pathOf Live.putBeside Live.takeIf Live.put Live.tak
 inLive = tt
 
 unfoldable pub inHistory : Unit {0}
-unfolding History.effect History.withinLimit History.readLine History.readLines History.readFile History.saidNothing History.sayTable History.sayProtocol
+unfolding History.noTable History.effect History.withinLimit History.readLine History.readLines History.readFile History.saidNothing History.sayTable
+    History.sayProtocol
     History.say History.zeroLines History.orUnstated History.readZero
 inHistory = tt
 
 unfoldable pub inStarts : Unit {0}
-unfolding Starts.find Starts.logOf Starts.everyLine Starts.wellFormed Starts.ifWellFormed Starts.startAt Starts.onwardBy Starts.byFile Starts.byStart
+unfolding Starts.find Starts.logOf Starts.everyLine Starts.wellFormed Starts.isTable Starts.saysTable Starts.isStart Starts.ifStart Starts.startAt
+    Starts.onwardBy Starts.byFile Starts.byStart
     Starts.wayTo Starts.otherWayTo Starts.historyTo Starts.nothingLive Starts.follow
 inStarts = tt
 
@@ -130,7 +132,7 @@ unfolding Rooms.rowsRoom Rooms.keptRoom Rooms.namesRoom Rooms.filled Rooms.leave
 inRooms = tt
 
 unfoldable pub inReading : Unit {0}
-unfolding Reading.versionAsked Reading.stateBy Reading.listing Reading.listingBy Reading.listingAt Reading.historyListing Reading.reading
+unfolding Reading.versionAsked Reading.stateWithin Reading.listing Reading.listingWithin Reading.listingAt Reading.historyListing Reading.reading
     Reading.roomAfterReading
 inReading = tt
 
@@ -140,7 +142,7 @@ inKeeping = tt
 
 unfoldable pub inAgreement : Unit {0}
 unfolding Agreement.agreeValue Agreement.agreeFound Agreement.agreeOn Agreement.agreePairs Agreement.agreeRecords Agreement.agreeFacts Agreement.agreeRows
-    Agreement.agreeSets Agreement.agreeProtocols Agreement.agree
+    Agreement.agreeSets Agreement.agreeProtocols Agreement.agreeTables Agreement.agree
 inAgreement = tt
 
 unfoldable pub inCleaning : Unit {0}
@@ -158,7 +160,8 @@ unfolding Samples.quotes Samples.json Samples.bodyOf Samples.file Samples.little
 inSamples = tt
 
 unfoldable pub inEdges : Unit {0}
-unfolding Edges.saysState Edges.saysListing Edges.saysNumbers Edges.noTable Edges.rule Edges.addOf Edges.removeOf Edges.v0 Edges.v1 Edges.v3 Edges.c2
+unfolding Edges.saysState Edges.saysListing Edges.saysNumbers Edges.rule Edges.addOf Edges.removeOf Edges.v0 Edges.v1 Edges.v3 Edges.tableOf
+    Edges.checkpointAtTwo Edges.c2 Edges.bare2
     Edges.m2 Edges.edges
 inEdges = tt
 
@@ -168,7 +171,8 @@ inNamesAndNumbers = tt
 
 unfoldable pub inExamples : Unit {0}
 unfolding Examples.sized Examples.school Examples.listings Examples.protocolled Examples.reader Examples.cleanable Examples.agreeing Examples.sides
-    Examples.pupil Examples.pupils Examples.tempting Examples.manifestList Examples.countFrom Examples.stateOf Examples.refusals
+    Examples.having Examples.addIn Examples.tabled Examples.versionOne Examples.renamed Examples.withOne Examples.fromTwo Examples.cleanedWith
+    Examples.metaDataLater Examples.pupil Examples.pupils Examples.tempting Examples.manifestList Examples.countFrom Examples.stateOf Examples.refusals
 inExamples = tt
 
 unfoldable pub inTexts : Unit {0}

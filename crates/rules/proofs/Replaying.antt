@@ -19,7 +19,7 @@ use Rattle.rules.specs.Live.{mostLive, pathOf}
 use Rattle.rules.specs.Refusals.{Refusal, Answer, accepted, refused, _>>=_, orRefuse, require, malformed, tooManyLive, noVersionZero, notKept}
 use Rattle.rules.specs.History.{State, Said, effect, withinLimit, readLine, readLines, readFile, saidNothing, zeroLines, orUnstated, readZero}
 use Rattle.rules.specs.Starts.{Log, Way, fromZero, fromCheckpoint, andThen, nothingLive, follow}
-use Rattle.rules.specs.Reading.{stateBy}
+use Rattle.rules.specs.Reading.{stateWithin, stateBy}
 use Rattle.rules.specs.Keyed.{Ascends}
 use Rattle.rules.proofs.Tests.{apart}
 use Rattle.rules.proofs.Lines.{lines-part, lines-part-none}
@@ -122,10 +122,10 @@ module _ (limit : ℕ) (P : State → Type 0) (kept : Kept limit P) where
           subst P (cc) (readLines-keeps (f .entry) 1 (f .start) (lines (f .body)) st (r .0) (r .1) p)
 
   -- where it holds of no live files, and of what version 0 gives
-  pub follow-keeps : (z : State) (w : Way) (to : State) → follow limit z w ≡ accepted to → P z → P (nothingLive (z .table)) → P to
+  pub follow-keeps : (z : State) (w : Way) (to : State) → follow limit z w ≡ accepted to → P z → P nothingLive → P to
   unfolding follow
   follow-keeps z fromZero to h p q = subst P (cc) p
-  follow-keeps z (fromCheckpoint f) to h p q = readFile-keeps f (nothingLive (z .table)) to h q
+  follow-keeps z (fromCheckpoint f) to h p q = readFile-keeps f nothingLive to h q
   follow-keeps z (andThen w g) to h p q =
       let r = bind-accepted (follow limit z w) (λ st. readFile limit g st) h in
       readFile-keeps g (r .0) to (r .2) (follow-keeps z w (r .0) (r .1) p q)
@@ -173,7 +173,7 @@ readZero-live f st h = go (bind-accepted (zeroLines (f .entry) 1 (lines (f .body
 
 -- every state that a log gives has its files in path order, within the limit
 pub stateBy-live : (log : Log) (way : Option Way) (st : State) → stateBy log way ≡ accepted st → Ordered st × Fits mostLive st
-unfolding stateBy nothingLive
+unfolding stateWithin nothingLive
 stateBy-live log way st h = go (bind-accepted (orRefuse noVersionZero (log .versionFile 0)) withZero h)
   where
     withWay : File → Way → Answer State

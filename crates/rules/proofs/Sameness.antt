@@ -75,13 +75,17 @@ same-protocol-trans s t = record {
 -- ---- states
 
 pub same-state-refl : (s : State) → SameState s s
-same-state-refl s = record { inForce = same-protocol-refl (s .inForce); live = same-rows-refl (s .live) }
+same-state-refl s = record { table = refl; inForce = same-protocol-refl (s .inForce); live = same-rows-refl (s .live) }
 
 pub same-state-sym : {s t : State} → SameState s t → SameState t s
-same-state-sym h = record { inForce = same-protocol-sym (h .inForce); live = same-rows-sym (h .live) }
+same-state-sym h = record { table = sym (h .table); inForce = same-protocol-sym (h .inForce); live = same-rows-sym (h .live) }
 
 pub same-state-trans : {s t u : State} → SameState s t → SameState t u → SameState s u
-same-state-trans h k = record { inForce = same-protocol-trans (h .inForce) (k .inForce); live = same-rows-trans (h .live) (k .live) }
+same-state-trans h k = record {
+  table = h .table ∙ k .table;
+  inForce = same-protocol-trans (h .inForce) (k .inForce);
+  live = same-rows-trans (h .live) (k .live);
+}
 
 -- ---- listings
 

@@ -1,11 +1,12 @@
--- Whether two states agree, as the cleaner tests it: protocol numbers, feature sets, paths, size, modificationTime, numRecords, partition pairs.
+-- Whether two states agree, as the cleaner tests it: id and partition columns, protocol numbers, feature sets, paths, size, modificationTime,
+-- numRecords, partition pairs.
 use mathlib.Core.Bool.{Bool, true, false, _&&_}
 use mathlib.Core.Option.{Option, none, some}
 use mathlib.Core.List.{List, [], _∷_}
 use Prim.Native.Nat.{ℕ}
 use lib.Dec.{eqb}
-use Rattle.rules.specs.Bytes.{Bytes, same, allAmong}
-use Rattle.rules.specs.Actions.{Facts, Pairs, Protocol}
+use Rattle.rules.specs.Bytes.{Bytes, same, sameEach, allAmong}
+use Rattle.rules.specs.Actions.{Facts, Pairs, Protocol, MetaData}
 use Rattle.rules.specs.Live.{Row}
 use Rattle.rules.specs.Picking.{valueAt}
 use Rattle.rules.specs.History.{State}
@@ -64,5 +65,12 @@ agreeProtocols p q =
     && (agreeSets (p .readerFeatures) (q .readerFeatures)
     && agreeSets (p .writerFeatures) (q .writerFeatures)))
 
+-- partition columns in order
+unfoldable pub agreeTables : MetaData → MetaData → Bool
+agreeTables m n = same (m .id) (n .id) && sameEach (m .partitionColumns) (n .partitionColumns)
+
 unfoldable pub agree : State → State → Bool
-agree s t = agreeProtocols (s .inForce) (t .inForce) && agreeRows (s .live) (t .live)
+agree s t =
+    agreeTables (s .table) (t .table)
+    && (agreeProtocols (s .inForce) (t .inForce)
+    && agreeRows (s .live) (t .live))

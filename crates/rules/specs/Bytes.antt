@@ -110,6 +110,13 @@ unfoldable pub allAmong : List Bytes → List Bytes → Bool
 allAmong names [] = true
 allAmong names (x ∷ xs) = elim (holds x names) [ true ↦ allAmong names xs | false ↦ false ]
 
+-- the same strings, one after the other
+unfoldable pub sameEach : List Bytes → List Bytes → Bool
+sameEach [] [] = true
+sameEach [] (y ∷ ys) = false
+sameEach (x ∷ xs) [] = false
+sameEach (x ∷ xs) (y ∷ ys) = elim (same x y) [ true ↦ sameEach xs ys | false ↦ false ]
+
 -- the first of each pair
 unfoldable pub firsts : {A : Type 0} → List (Bytes × A) → List Bytes
 firsts [] = []

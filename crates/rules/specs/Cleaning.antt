@@ -42,7 +42,7 @@ named c now retention (f ∷ fs) = keepIf (mayGo c now retention f) (f .entry) (
 unfoldable pub compared : (zero-file checkpoint : File) → Way → Answer (Unit {0})
 compared zf f w = do
   z ← readZero zf
-  mine ← readFile mostLive f (nothingLive (z .table))
+  mine ← readFile mostLive f nothingLive
   theirs ← follow mostLive z w
   _ ← gate (mine .inForce)
   _ ← require notWritable (writable (mine .inForce))

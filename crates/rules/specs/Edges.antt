@@ -8,7 +8,7 @@ use lib.IntN.{pos}
 use Rattle.rules.specs.Bytes.{Bytes, ascii}
 use Rattle.rules.specs.Names.{Name, version, checkpoint, tooLarge, nameOf}
 use Rattle.rules.specs.Lines.{lines}
-use Rattle.rules.specs.Actions.{MetaData, pathPlace}
+use Rattle.rules.specs.Actions.{pathPlace}
 use Rattle.rules.specs.Live.{mostLive, pathOf}
 use Rattle.rules.specs.History.{State, readLines}
 use Rattle.rules.specs.Starts.{nothingLive}
@@ -60,14 +60,11 @@ unfoldable pub saysNumbers : Answer (List ℕ) → Says
 saysNumbers (accepted ns) = numbers ns
 saysNumbers (refused r) = refusal (r .number) (r .entry) (r .line)
 
-unfoldable pub noTable : MetaData
-noTable = record { id = []; partitionColumns = [] }
-
 unfoldable pub rule : Question → Says
 rule (name s) = named (nameOf (ascii s))
 rule (numeral s) = value (numberOf (ascii s))
 rule (meet op x b) = test (meetsAs asNumber op (ascii x) (ascii b))
-rule (apply ls) = saysState (readLines mostLive 0 1 0 (lines (bodyOf ls)) (nothingLive noTable))
+rule (apply ls) = saysState (readLines mostLive 0 1 0 (lines (bodyOf ls)) nothingLive)
 rule (drops op b lo hi) = test (outsideAs asText op (ascii b) (ascii lo) (ascii hi))
 rule (read asked q s) = saysListing (reading rowsRoom s (json q) asked)
 rule (keep state q) = saysNumbers (keeping keptRoom state q)
@@ -107,8 +104,19 @@ v1 = file "00000000000000000001.json" 1 (addOf "a.split" ∷ [])
 unfoldable pub v3 : Sample
 v3 = file "00000000000000000003.json" 3 (addOf "b.split" ∷ [])
 
+-- a metaData line with these columns, quoted
+unfoldable pub tableOf : (columns : String) → String
+tableOf cs = "{'metaData':{'id':'t','partitionColumns':[" +++ cs +++ "]}}"
+
+unfoldable pub checkpointAtTwo : List String → Sample
+checkpointAtTwo ls = file "00000000000000000002.checkpoint.json" 2 ls
+
 unfoldable pub c2 : Sample
-c2 = file "00000000000000000002.checkpoint.json" 2 (addOf "a.split" ∷ [])
+c2 = checkpointAtTwo (tableOf "" ∷ addOf "a.split" ∷ [])
+
+-- one without a metaData, which is no start
+unfoldable pub bare2 : Sample
+bare2 = checkpointAtTwo (addOf "a.split" ∷ [])
 
 unfoldable pub m2 : Sample
 m2 = file "_last_checkpoint" 2 ("{'version':2}" ∷ [])
@@ -141,6 +149,8 @@ edges =
     ∷ (read (theVersion 3) "[]" (bundleOf (v0 ∷ v1 ∷ c2 ∷ v3 ∷ [])), listed 3 (ascii "a.split" ∷ ascii "b.split" ∷ []))  -- P11
     ∷ (read theLatest "[]" (bundleOf (v0 ∷ v1 ∷ c2 ∷ v3 ∷ m2 ∷ [])), listed 3 (ascii "a.split" ∷ ascii "b.split" ∷ []))
     ∷ (read theLatest "[]" (bundleOf (v0 ∷ v1 ∷ c2 ∷ v3 ∷ [])), listed 1 (ascii "a.split" ∷ []))
+    ∷ (read (theVersion 3) "[]" (bundleOf (v0 ∷ v1 ∷ bare2 ∷ v3 ∷ [])), refusal 5 0 0)  -- P11 amended by C-11: no metaData, no start
+    ∷ (read theLatest "[]" (bundleOf (v0 ∷ v1 ∷ bare2 ∷ v3 ∷ m2 ∷ [])), listed 1 (ascii "a.split" ∷ []))
     ∷ (drops gt "2024-01-31" "2024-01-01" "2024-01-31", test true)  -- P12
     ∷ (drops ge "2024-01-31" "2024-01-01" "2024-01-31", test false)
     ∷ []

@@ -1,5 +1,5 @@
--- Examples beside P1 to P12, in tables of the same form: the program's listing, places of paths, both sides of edges, the tempting and
--- wrong readings, and a small case for each refusal number.
+-- Examples beside P1 to P12, in tables of the same form: the program's listing, places of paths, both sides of edges, the metaData line that
+-- came later, the tempting and wrong readings, and a small case for each refusal number.
 use mathlib.Core.List.{List, [], _∷_, _++_}
 use Prim.Native.Nat.{ℕ, zero, suc}
 use Prim.Native.String.{String, _++_ as _+++_}
@@ -10,7 +10,7 @@ use Rattle.rules.specs.Query.{number}
 use Rattle.rules.specs.Reading.{theLatest, theVersion}
 use Rattle.rules.specs.Samples.{Sample, json, file, bundleOf}
 use Rattle.rules.specs.Edges.{Question, name, numeral, apply, read, keep, clean, print, show, Says, named, value, live, listed, numbers, text, place}
-use Rattle.rules.specs.Edges.{refusal, addOf, removeOf, v0, beside, v1, v3, c2, m2}
+use Rattle.rules.specs.Edges.{refusal, addOf, removeOf, v0, beside, v1, v3, tableOf, checkpointAtTwo, c2, bare2, m2}
 
 -- ---- the Program section's example, down to the printed text
 
@@ -58,14 +58,14 @@ protocolled p = file "00000000000000000000.json" 0 (("{'protocol':{" +++ p +++ "
 unfoldable pub reader : String → Bytes
 reader n = bundleOf (protocolled ("'minReaderVersion':" +++ n +++ ",'minWriterVersion':1") ∷ [])
 
--- versions 0 to 3, the third a checkpoint too, which the marker names; version file 1 was modified at `time`
+-- versions 0 to 3, the third a checkpoint too, with version 0's metaData, which the marker names; version file 1 was modified at `time`
 unfoldable pub cleanable : (time : ℕ) → (checkpoint : List String) → Bytes
 cleanable time checkpoint =
     bundleOf
     (v0
     ∷ file "00000000000000000001.json" time (addOf "a" ∷ [])
     ∷ file "00000000000000000002.json" 99 (addOf "b" ∷ [])
-    ∷ file "00000000000000000003.checkpoint.json" 0 checkpoint
+    ∷ file "00000000000000000003.checkpoint.json" 0 (tableOf "" ∷ checkpoint)
     ∷ file "00000000000000000003.json" 0 (removeOf "a" ∷ [])
     ∷ file "_last_checkpoint" 0 ("{'version':3}" ∷ [])
     ∷ [])
@@ -91,6 +91,85 @@ sides =
     ∷ (name "99999999999999999999.jsonl", named other)
     ∷ []
 
+-- ---- the metaData line that came later
+
+-- whether a file has a value in this column that is not before the empty text: any that it has
+unfoldable pub having : (column : String) → String
+having c = "[{'column':'" +++ c +++ "','as':'text','op':'ge','value':''}]"
+
+unfoldable pub addIn : (column path : String) → String
+addIn c p = "{'add':{'path':'" +++ p +++ "','size':1,'modificationTime':1,'dataChange':true,'partitionValues':{'" +++ c +++ "':'1'}}}"
+
+-- version 0 with these columns
+unfoldable pub tabled : (columns : String) → Sample
+tabled cs = file "00000000000000000000.json" 0 (tableOf cs ∷ [])
+
+unfoldable pub versionOne : List String → Sample
+versionOne ls = file "00000000000000000001.json" 1 ls
+
+-- column a, a file under it, then the column is called b
+unfoldable pub renamed : Bytes
+renamed = bundleOf (tabled "'a'" ∷ versionOne (addIn "a" "x" ∷ []) ∷ file "00000000000000000002.json" 2 (tableOf "'b'" ∷ []) ∷ [])
+
+-- version 0 and a version file with these lines
+unfoldable pub withOne : List String → Bytes
+withOne ls = bundleOf (tabled "'a'" ∷ versionOne ls ∷ [])
+
+-- version 0, a checkpoint at 2 and a version file 3, each with these lines
+unfoldable pub fromTwo : (at-two at-three : List String) → Bytes
+fromTwo ls ms = bundleOf (tabled "'x'" ∷ checkpointAtTwo ls ∷ file "00000000000000000003.json" 3 ms ∷ [])
+
+-- versions 0 to 2 of columns a and b, with a checkpoint at 2, which the marker names
+unfoldable pub cleanedWith : (checkpoint : List String) → Bytes
+cleanedWith ls =
+    bundleOf
+    (tabled "'a','b'"
+    ∷ versionOne ("{'txn':1}" ∷ [])
+    ∷ checkpointAtTwo ls
+    ∷ file "00000000000000000002.json" 2 ("{'txn':2}" ∷ [])
+    ∷ m2
+    ∷ [])
+
+unfoldable pub metaDataLater : List (Question × Says)
+metaDataLater =
+    (read (theVersion 0) (having "a") renamed, listed 0 [])
+    ∷ (read (theVersion 1) (having "a") renamed, listed 1 (ascii "x" ∷ []))
+    ∷ (read (theVersion 2) (having "a") renamed, refusal 11 0 0)
+    ∷ (read (theVersion 0) (having "b") renamed, refusal 11 0 0)
+    ∷ (read (theVersion 1) (having "b") renamed, refusal 11 0 0)
+    ∷ (read theLatest (having "b") renamed, listed 2 [])
+    ∷ (read theLatest "[]" renamed, listed 2 (ascii "x" ∷ []))
+    -- the last in a file counts
+    ∷ (read theLatest (having "b") (withOne (tableOf "'b'" ∷ addIn "b" "x" ∷ tableOf "'c','b'" ∷ [])), listed 1 (ascii "x" ∷ []))
+    ∷ (read theLatest (having "c") (withOne (tableOf "'b'" ∷ addIn "b" "x" ∷ tableOf "'c','b'" ∷ [])), listed 1 [])
+    ∷ (read theLatest (having "a") (withOne (tableOf "'b'" ∷ addIn "b" "x" ∷ tableOf "'c','b'" ∷ [])), refusal 11 0 0)
+    -- a malformed one; version 0 must have its own
+    ∷ (read theLatest "[]" (withOne ("" ∷ "{'metaData':{'id':'','partitionColumns':[]}}" ∷ [])), refusal 6 1 2)
+    ∷ (read theLatest "[]" (bundleOf (file "00000000000000000000.json" 0 ("{'x':1}" ∷ []) ∷ versionOne (tableOf "" ∷ []) ∷ [])), refusal 6 0 0)
+    -- a checkpoint brings its own, the last of several; a version file behind it may bring another
+    ∷ (read (theVersion 3) (having "c") (fromTwo (tableOf "'a'" ∷ addIn "c" "y" ∷ tableOf "'c','b'" ∷ []) ("{'txn':1}" ∷ [])), listed 3 (ascii "y" ∷ []))
+    ∷ (read (theVersion 3) (having "a") (fromTwo (tableOf "'a'" ∷ addIn "c" "y" ∷ tableOf "'c','b'" ∷ []) ("{'txn':1}" ∷ [])), refusal 11 0 0)
+    ∷ (read (theVersion 3) (having "x") (fromTwo (tableOf "'a'" ∷ []) ("{'txn':1}" ∷ [])), refusal 11 0 0)
+    ∷ (read (theVersion 3) (having "a") (fromTwo (tableOf "'b'" ∷ []) (tableOf "'a'" ∷ [])), listed 3 [])
+    -- one without is no start: nothing reaches 3; also at version 0; the marker that names it is unusable, and 3 is reached from version 0
+    ∷ (read (theVersion 3) "[]" (fromTwo (addOf "y" ∷ []) ("{'txn':1}" ∷ [])), refusal 5 0 0)
+    ∷ (read theLatest "[]" (bundleOf (file "00000000000000000000.checkpoint.json" 0 (addOf "y" ∷ []) ∷ v0 ∷ [])), listed 0 [])
+    ∷ (read theLatest "[]" (bundleOf (file "00000000000000000000.checkpoint.json" 0 (tableOf "" ∷ addOf "y" ∷ []) ∷ v0 ∷ [])), listed 0 (ascii "y" ∷ []))
+    ∷ (
+      read theLatest "[]" (bundleOf (v0 ∷ v1 ∷ bare2 ∷ file "00000000000000000002.json" 2 (addOf "z" ∷ []) ∷ v3 ∷ m2 ∷ [])),
+      listed 3 (ascii "a.split" ∷ ascii "b.split" ∷ ascii "z" ∷ []),
+    )
+    -- the cleaner: id and columns in order; other fields are no facts; without a metaData the marker is unusable, and nothing is named
+    ∷ (clean 100 10 (cleanedWith (tableOf "'a','b'" ∷ [])), numbers (1 ∷ []))
+    ∷ (clean 100 10 (cleanedWith ("{'metaData':{'id':'t','name':'n','partitionColumns':['a','b']}}" ∷ [])), numbers (1 ∷ []))
+    ∷ (clean 100 10 (cleanedWith (tableOf "'b','a'" ∷ [])), refusal 13 0 0)
+    ∷ (clean 100 10 (cleanedWith (tableOf "'a'" ∷ [])), refusal 13 0 0)
+    ∷ (clean 100 10 (cleanedWith (tableOf "'a','b','c'" ∷ [])), refusal 13 0 0)
+    ∷ (clean 100 10 (cleanedWith ("{'metaData':{'id':'u','partitionColumns':['a','b']}}" ∷ [])), refusal 13 0 0)
+    ∷ (clean 100 10 (cleanedWith ("{'protocol':{'minReaderVersion':9,'minWriterVersion':1}}" ∷ tableOf "'a'" ∷ [])), refusal 8 0 0)
+    ∷ (clean 100 10 (cleanedWith (addOf "y" ∷ [])), numbers [])
+    ∷ []
+
 -- ---- tempting and wrong: a leading zero as octal; raw paths compared with escapes; "10" before "9" under number; a gap jumped over;
 -- a bad checkpoint refused when another start reaches v
 
@@ -112,7 +191,10 @@ tempting =
     ∷ (read theLatest "[{'column':'n','as':'number','op':'gt','value':'9'}]" pupils, listed 1 (ascii "ten" ∷ []))
     ∷ (read theLatest "[{'column':'n','as':'text','op':'gt','value':'9'}]" pupils, listed 1 (ascii "none" ∷ []))
     ∷ (read theLatest "[]" (bundleOf (v0 ∷ v1 ∷ v3 ∷ [])), listed 1 (ascii "a.split" ∷ []))
-    ∷ (read (theVersion 1) "[]" (bundleOf (v0 ∷ file "00000000000000000001.checkpoint.json" 1 ("{'add':1}" ∷ []) ∷ v1 ∷ [])), listed 1 (ascii "a.split" ∷ []))
+    ∷ (
+      read (theVersion 1) "[]" (bundleOf (v0 ∷ file "00000000000000000001.checkpoint.json" 1 (tableOf "" ∷ "{'add':1}" ∷ []) ∷ v1 ∷ [])),
+      listed 1 (ascii "a.split" ∷ []),
+    )
     ∷ []
 
 -- ---- refusals

@@ -17,14 +17,18 @@ pub record State : Type 0 where
   pub inForce : Protocol
   pub live : List Row
 
+-- what a state has before a metaData line is met
+unfoldable pub noTable : MetaData
+noTable = record { id = []; partitionColumns = [] }
+
 -- ---- one line
 
--- what the action of a line of `size` bytes at `at` does. Only version 0's metaData counts.
+-- what the action of a line of `size` bytes at `at` does: the last metaData and the last protocol are in force
 unfoldable pub effect : (at size : ℕ) → Action → State → State
 effect at size (add f) st = record { table = st .table; inForce = st .inForce; live = put pathOf (record { at = at; size = size; facts = f }) (st .live) }
 effect at size (remove p) st = record { table = st .table; inForce = st .inForce; live = takeOut pathOf p (st .live) }
 effect at size (protocol p) st = record { table = st .table; inForce = p; live = st .live }
-effect at size (metaData m) st = st
+effect at size (metaData m) st = record { table = m; inForce = st .inForce; live = st .live }
 effect at size mergeskip st = st
 effect at size other st = st
 

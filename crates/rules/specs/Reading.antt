@@ -54,13 +54,16 @@ unfoldable pub versionAsked : Asked → Log → ℕ
 versionAsked theLatest log = latest log
 versionAsked (theVersion v) log = v
 
--- refusals 4 and 5, then 6 or 7 by first line met: version 0 is always read, first
-unfoldable pub stateBy : Log → Option Way → Answer State
-stateBy log way = do
+-- refusals 4 and 5, then 6 or 7 by first line met, with at most `limit` live after a line: version 0 is always read, first
+unfoldable pub stateWithin : (limit : ℕ) → Log → Option Way → Answer State
+stateWithin limit log way = do
   f ← orRefuse noVersionZero (log .versionFile 0)
   w ← orRefuse notKept way
   z ← readZero f
-  follow mostLive z w
+  follow limit z w
+
+abbrev pub stateBy : Log → Option Way → Answer State
+stateBy log way = stateWithin mostLive log way
 
 -- refusals 8, 9 and 11: what a state at version v answers
 unfoldable pub listing : List Condition → ℕ → State → Answer Listing
@@ -70,10 +73,13 @@ listing cs v st = do
   accepted (record { version = v; table = st .table; inForce = st .inForce; canWrite = writable (st .inForce); rows = picked cs (st .live) })
 
 -- what the log's files answer at version v, come to by `way`
-unfoldable pub listingBy : List Condition → Log → ℕ → Option Way → Answer Listing
-listingBy cs log v way = do
-  st ← stateBy log way
+unfoldable pub listingWithin : (limit : ℕ) → List Condition → Log → ℕ → Option Way → Answer Listing
+listingWithin limit cs log v way = do
+  st ← stateWithin limit log way
   listing cs v st
+
+abbrev pub listingBy : List Condition → Log → ℕ → Option Way → Answer Listing
+listingBy cs log v way = listingWithin mostLive cs log v way
 
 unfoldable pub listingAt : List Condition → Log → ℕ → Answer Listing
 listingAt cs log v = listingBy cs log v (wayTo log v)

@@ -33,7 +33,9 @@ pub record SameProtocol (p q : Protocol) : Type 0 where
   pub readerFeatures : (name : Bytes) → holds name (p .readerFeatures) ≡ holds name (q .readerFeatures)
   pub writerFeatures : (name : Bytes) → holds name (p .writerFeatures) ≡ holds name (q .writerFeatures)
 
+-- the metadata in force (id, partition columns in order), the protocol in force and the live files
 pub record SameState (s t : State) : Type 0 where
+  pub table : s .table ≡ t .table
   pub inForce : SameProtocol (s .inForce) (t .inForce)
   pub live : SameRows (s .live) (t .live)
 

@@ -7,8 +7,8 @@ use Rattle.rules.specs.Bytes.{Bytes}
 use Rattle.rules.specs.Bundle.{File}
 use Rattle.rules.specs.Names.{Name, nameOf, versionIn, checkpointIn, isMarker, is}
 use Rattle.rules.specs.Lines.{lines, anyObject}
-use Rattle.rules.specs.Actions.{MetaData, unstated, action}
-use Rattle.rules.specs.History.{State, readFile}
+use Rattle.rules.specs.Actions.{Action, add, remove, protocol, metaData, mergeskip, other, unstated, action}
+use Rattle.rules.specs.History.{State, noTable, readFile}
 use Rattle.rules.specs.Refusals.{Answer, accepted, _>>=_}
 
 -- ---- the log
@@ -29,7 +29,7 @@ logOf fs = record {
   markerFile = find isMarker fs;
 }
 
--- ---- starts: version file 0, or a checkpoint with an object and every line well formed
+-- ---- starts: version file 0, or a checkpoint with an object, every line well formed, and a metaData among them
 
 unfoldable pub everyLine : List Bytes → Bool
 everyLine [] = true
@@ -40,13 +40,30 @@ everyLine ((b ∷ bs) ∷ ls) = elim (action (b ∷ bs)) [ none ↦ false | some
 unfoldable pub wellFormed : Bytes → Bool
 wellFormed body = elim (anyObject (lines body)) [ true ↦ everyLine (lines body) | false ↦ false ]
 
-unfoldable pub ifWellFormed : Option File → Option File
-ifWellFormed none = none
-ifWellFormed (some f) = elim (wellFormed (f .body)) [ true ↦ some f | false ↦ none ]
+unfoldable pub isTable : Option Action → Bool
+isTable none = false
+isTable (some (add f)) = false
+isTable (some (remove p)) = false
+isTable (some (protocol p)) = false
+isTable (some (metaData m)) = true
+isTable (some mergeskip) = false
+isTable (some other) = false
+
+-- a line says the metadata
+unfoldable pub saysTable : List Bytes → Bool
+saysTable [] = false
+saysTable (l ∷ ls) = elim (isTable (action l)) [ true ↦ true | false ↦ saysTable ls ]
+
+unfoldable pub isStart : Bytes → Bool
+isStart body = elim (wellFormed body) [ true ↦ saysTable (lines body) | false ↦ false ]
+
+unfoldable pub ifStart : Option File → Option File
+ifStart none = none
+ifStart (some f) = elim (isStart (f .body)) [ true ↦ some f | false ↦ none ]
 
 -- the checkpoint at s, if it is a start
 unfoldable pub startAt : Log → ℕ → Option File
-startAt log s = ifWellFormed (log .checkpointFile s)
+startAt log s = ifStart (log .checkpointFile s)
 
 -- ---- the way to a version
 
@@ -87,14 +104,14 @@ historyTo log (suc v) = byFile (log .versionFile (suc v)) (λ _. historyTo log v
 
 -- ---- the state at the end of a way
 
--- an empty set and protocol (1, 1), which a checkpoint's own lines are applied to
-unfoldable pub nothingLive : MetaData → State
-nothingLive m = record { table = m; inForce = unstated; live = [] }
+-- an empty set, protocol (1, 1) and no metadata yet, which a checkpoint's own lines are applied to
+unfoldable pub nothingLive : State
+nothingLive = record { table = noTable; inForce = unstated; live = [] }
 
 -- `zero-state` is the state that version file 0 gives
 unfoldable pub follow : (limit : ℕ) → (zero-state : State) → Way → Answer State
 follow limit z fromZero = accepted z
-follow limit z (fromCheckpoint f) = readFile limit f (nothingLive (z .table))
+follow limit z (fromCheckpoint f) = readFile limit f nothingLive
 follow limit z (andThen w g) = do
   st ← follow limit z w
   readFile limit g st

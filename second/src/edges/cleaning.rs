@@ -2,6 +2,7 @@
 
 use super::*;
 use crate::cleaner::{self, Rooms, MOST_NAMED};
+use crate::refusal;
 
 fn clean(now: u64, retention: u64, files: &[(String, String)]) -> Result<Vec<u32>, u64> {
     let mut names = vec![9; MOST_NAMED];
@@ -17,8 +18,8 @@ fn clean(now: u64, retention: u64, files: &[(String, String)]) -> Result<Vec<u32
 /// Versions 0 to 3, a true checkpoint at 3, the marker on it.
 fn marked_log() -> Vec<(String, String)> {
     let mut files = log_of(&[add("a", 1), add("b", 2), remove("a") + &protocol(2, 2)]);
-    files.push((checkpoint(3), protocol(2, 2) + &add("b", 2)));
-    files.push(("_last_checkpoint".to_string(), "{\"version\":3}".to_string()));
+    files.push((checkpoint(3), protocol(2, 2) + &add("b", 2) + META));
+    files.push(marker(3));
     files
 }
 
@@ -34,7 +35,7 @@ fn age_equal_to_retention_is_not_named() {
 fn one_different_fact_is_a_disagreement() {
     let with = |lines: String| {
         let mut files = marked_log();
-        files[4].1 = lines;
+        files[4].1 = META.to_string() + &lines;
         clean(1, 0, &files)
     };
     assert_eq!(with(add("b", 2) + &protocol(2, 2)), Ok(vec![1, 2]));
@@ -46,6 +47,44 @@ fn one_different_fact_is_a_disagreement() {
     assert_eq!(with(add("b", 2) + &protocol(3, 4)), Err(12));
     assert_eq!(with(add("b", 2).replace("}}}", "},\"numRecords\":null}}") + &protocol(2, 2)), Ok(vec![1, 2]));
     assert_eq!(with(add_with_year("b", "null").replace(":1,", ":2,") + &protocol(2, 2)), Err(13));
+}
+
+#[test]
+fn the_metadata_in_force_is_among_the_facts() {
+    let with = |history: &str, lines: String| {
+        let mut files = marked_log();
+        files[0].1 = meta_data("t", &["a", "b"]);
+        files[3].1 += history;
+        files[4].1 = protocol(2, 2) + &add("b", 2) + &lines;
+        clean(1, 0, &files)
+    };
+    let good = meta_data("t", &["a", "b"]);
+    assert_eq!(with("", good.clone()), Ok(vec![1, 2]));
+    assert_eq!(with("", meta_data("u", &[]) + &good), Ok(vec![1, 2]));
+    assert_eq!(with("", good.replace("\"t\"", "\"\\u0074\",\"name\":1")), Ok(vec![1, 2]));
+    for other in [&["b", "a"][..], &["a"], &["a", "b", "c"], &["a", "B"], &[]] {
+        assert_eq!(with("", meta_data("t", other)), Err(13));
+        assert_eq!(with("", good.clone() + &meta_data("t", other)), Err(13));
+        assert_eq!(with(&meta_data("t", other), good.clone()), Err(13));
+        assert_eq!(with(&meta_data("t", other), meta_data("t", other)), Ok(vec![1, 2]));
+    }
+    assert_eq!(with("", meta_data("u", &["a", "b"])), Err(13));
+    assert_eq!(with("", meta_data("u", &[]) + &protocol(9, 9)), Err(8));
+    assert_eq!(with("", meta_data("u", &[]) + &protocol(3, 4)), Err(12));
+}
+
+#[test]
+fn a_checkpoint_without_metadata_is_no_start_for_the_cleaner() {
+    let mut files = marked_log();
+    files.push((checkpoint(1), add("c", 9)));
+    assert_eq!(clean(1, 0, &files), Ok(vec![2, 3]));
+    files[6].1 += META;
+    assert_eq!(clean(1, 0, &files), Err(13));
+    files[0].1 = "malformed".to_string();
+    files[4].1 = protocol(9, 9);
+    assert_eq!(clean(1, 0, &files), Ok(vec![]));
+    files[4].1 += META;
+    assert_eq!(clean(1, 0, &files), Err(6));
 }
 
 #[test]
@@ -65,11 +104,13 @@ fn nothing_is_named_without_marker_or_other_start() {
 
 #[test]
 fn any_files_removed_give_the_same_answer_or_not_kept() {
-    let mut files = log_of(&[add("a", 1), add("b", 2), remove("a"), add("c", 3)]);
-    files.push((checkpoint(2), add("a", 1) + &add("b", 2)));
-    files.push((checkpoint(3), add("b", 2)));
-    for asked in 0..=4 {
-        let full = read(Ask::Version(asked), "[]", &bundle_of(&files)).unwrap();
+    let renamed = meta_data("t", &["month"]);
+    let mut files = log_of(&[add("a", 1), add("b", 2) + &renamed, remove("a"), add("c", 3) + META]);
+    files.push((checkpoint(2), add("a", 1) + &add("b", 2) + &renamed));
+    files.push((checkpoint(3), renamed + &add("b", 2)));
+    let queries = ["[]".to_string(), on("year"), on("month")];
+    for (asked, query) in (0..=4).flat_map(|asked| queries.iter().map(move |query| (asked, query))) {
+        let full = read(Ask::Version(asked), query, &bundle_of(&files));
         for removed in 0u32..64 {
             let kept: Vec<_> = files
                 .iter()
@@ -77,10 +118,8 @@ fn any_files_removed_give_the_same_answer_or_not_kept() {
                 .filter(|(index, _)| *index == 0 || removed >> (index - 1) & 1 == 0)
                 .map(|(_, file)| file.clone())
                 .collect();
-            match read(Ask::Version(asked), "[]", &bundle_of(&kept)) {
-                Ok(reading) => assert_eq!(reading, full),
-                Err(refusal) => assert_eq!(refusal.number, 5),
-            }
+            let answer = read(Ask::Version(asked), query, &bundle_of(&kept));
+            assert!(answer == full || answer == Err(refusal::NOT_KEPT));
         }
     }
 }

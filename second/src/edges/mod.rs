@@ -1,7 +1,8 @@
-//! Tests of the paper's own examples (P1 to P12, the program) and of its other edges.
+//! Tests of the paper's own examples (P1 to P12, the program) and of its other edges, and of C-11.
 
 mod clauses;
 mod cleaning;
+mod later_meta_data;
 mod paper;
 
 use crate::bundle::{self, File};
@@ -37,6 +38,22 @@ fn remove(path: &str) -> String {
 
 fn protocol(reader: u64, writer: u64) -> String {
     format!("{{\"protocol\":{{\"minReaderVersion\":{reader},\"minWriterVersion\":{writer}}}}}\n")
+}
+
+/// A metaData line with these partition columns.
+fn meta_data(id: &str, columns: &[&str]) -> String {
+    let columns: Vec<String> = columns.iter().map(|column| format!("\"{column}\"")).collect();
+    format!("{{\"metaData\":{{\"id\":\"{id}\",\"partitionColumns\":[{}]}}}}\n", columns.join(","))
+}
+
+/// A query that picks the files with a value of this column.
+fn on(column: &str) -> String {
+    format!("[{{\"column\":\"{column}\",\"as\":\"text\",\"op\":\"ge\",\"value\":\"\"}}]")
+}
+
+/// The marker that names the checkpoint at this version.
+fn marker(version: u64) -> (String, String) {
+    ("_last_checkpoint".to_string(), format!("{{\"version\":{version}}}"))
 }
 
 /// The bundle of these files, all modified at 0, put in order.

@@ -64,13 +64,19 @@ fn p10_p11_gaps_and_checkpoints() {
     assert_eq!(number(read(Ask::Version(3), "[]", &gap)), 5);
     assert_eq!(number(read(Ask::Version(2), "[]", &gap)), 5);
 
-    files.push((checkpoint(2), add("b", 1)));
+    files.push((checkpoint(2), META.to_string() + &add("b", 1)));
     let with_checkpoint = bundle_of(&files);
     assert_eq!(read(Ask::Version(3), "[]", &with_checkpoint).unwrap().rows, 2);
     assert_eq!(read(Ask::Latest, "[]", &with_checkpoint).unwrap().version, 1);
 
-    files.push(("_last_checkpoint".to_string(), "{\"version\":2}".to_string()));
+    files.push(marker(2));
     assert_eq!(read(Ask::Latest, "[]", &bundle_of(&files)).unwrap().version, 3);
+
+    files[3].1 = add("b", 1);
+    let without_meta_data = bundle_of(&files);
+    assert_eq!(number(read(Ask::Version(3), "[]", &without_meta_data)), 5);
+    assert_eq!(number(read(Ask::Version(2), "[]", &without_meta_data)), 5);
+    assert_eq!(read(Ask::Latest, "[]", &without_meta_data).unwrap().version, 1);
 }
 
 #[test]
@@ -146,7 +152,7 @@ fn ten_comes_after_nine_as_a_number() {
 #[test]
 fn a_bad_checkpoint_is_passed_over() {
     let mut files = log_of(&[add("a", 1)]);
-    files.push((checkpoint(1), add("b", 1) + "{}"));
+    files.push((checkpoint(1), META.to_string() + &add("b", 1) + "{}"));
     assert_eq!(read(Ask::Version(1), "[]", &bundle_of(&files)).unwrap().rows, 1);
     files.retain(|(name, _)| *name != version(1));
     assert_eq!(number(read(Ask::Version(1), "[]", &bundle_of(&files))), 5);

@@ -21,7 +21,12 @@ fn request(dice: &mut Dice, bundle: &[u8]) -> Request {
 
 /// A log with a true checkpoint that the marker names, perhaps with others below and above it.
 fn marked(dice: &mut Dice, most: usize) -> (Log, u64) {
-    let mut log = Log::grow(dice, most);
+    let log = Log::grow(dice, most);
+    mark(dice, log)
+}
+
+/// Puts true checkpoints into a log, and the marker on one of them.
+fn mark(dice: &mut Dice, mut log: Log) -> (Log, u64) {
     let last = log.last();
     let marked = if dice.one_in(4) { dice.below(log.states.len()) as u64 } else { last };
     for version in 0..=last {
@@ -45,6 +50,24 @@ pub fn disagreeing(dice: &mut Dice) -> Request {
     let version = if dice.one_in(4) { dice.below(marked as usize + 1) as u64 } else { marked };
     let mut state = log.states[version as usize].clone();
     state.falsify(dice);
+    log.put_checkpoint(dice, version, &state);
+    request(dice, &log.bundle())
+}
+
+/// Columns renamed along the way; the marked checkpoint, or another below it, has other metadata
+/// or none, or is true.
+pub fn renamed(dice: &mut Dice) -> Request {
+    let count = 1 + dice.below(3);
+    let log = Log::grow_renamed(dice, count, 3);
+    let (mut log, marked) = mark(dice, log);
+    let version = if dice.one_in(3) { dice.below(marked as usize + 1) as u64 } else { marked };
+    let mut state = log.states[version as usize].clone();
+    if !dice.one_in(3) {
+        state.falsify_meta_data(dice);
+    }
+    if dice.one_in(12) {
+        state.protocol = lines::protocol_facts(dice, true);
+    }
     log.put_checkpoint(dice, version, &state);
     request(dice, &log.bundle())
 }
@@ -77,8 +100,13 @@ pub fn gate(dice: &mut Dice) -> Request {
 /// No usable marker, or no other start: nothing is named, whatever else is wrong.
 pub fn nothing_to_name(dice: &mut Dice) -> Request {
     let (mut log, marked) = marked(dice, 4);
-    match dice.below(5) {
+    match dice.below(6) {
         0 => odd_marker(dice, &mut log),
+        5 => {
+            let mut state = log.states[marked as usize].clone();
+            state.meta_data = None;
+            log.put_checkpoint(dice, marked, &state);
+        }
         1 => log.take_out(MARKER),
         2 => log.take_out(&version_name(marked.max(1))),
         3 => log.take_out(&checkpoint_name(marked)),

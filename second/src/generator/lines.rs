@@ -55,7 +55,7 @@ const VALUES: [&str; 28] = [
     "0x10",
 ];
 
-const COLUMNS: [&str; 7] = ["year", "class", "n\u{E4}me", "", "a\"b", "month", "\u{1F600}"];
+pub const COLUMNS: [&str; 7] = ["year", "class", "n\u{E4}me", "", "a\"b", "month", "\u{1F600}"];
 
 pub const KNOWN_FEATURES: [&str; 6] =
     ["skippedFiles", "extendedMetadata", "footerOffsets", "schemaDeduplication", "checkpoint", "optimizeWrite"];
@@ -201,11 +201,6 @@ pub fn protocol_facts(dice: &mut Dice, edges: bool) -> ProtocolFacts {
         }
     }
     facts
-}
-
-pub fn meta_data(dice: &mut Dice, columns: &[impl AsRef<str>]) -> String {
-    let fields = vec![("id".to_string(), quoted(dice, "t")), ("partitionColumns".to_string(), strings(dice, columns))];
-    action(dice, "metaData", fields)
 }
 
 /// A line without effect.

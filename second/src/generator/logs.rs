@@ -2,11 +2,13 @@
 
 use super::dice::Dice;
 use super::lines;
+use super::meta_data::MetaFacts;
 use super::models::Model;
 use crate::bundle::{self, File};
 
 pub struct Log {
     pub files: Vec<File>,
+    /// The columns of all metaData lines put into the log, each once.
     pub columns: Vec<String>,
     /// The state after each version from 0.
     pub states: Vec<Model>,
@@ -36,10 +38,16 @@ fn join(dice: &mut Dice, lines: &[String]) -> Vec<u8> {
 impl Log {
     /// A well-formed log of version 0 and up to `most` versions more.
     pub fn grow(dice: &mut Dice, most: usize) -> Log {
-        let mut log = Log { files: Vec::new(), columns: lines::columns(dice), states: Vec::new() };
+        let count = dice.below(most + 1);
+        Log::grow_renamed(dice, count, 12)
+    }
+
+    /// As `grow`, with `count` versions above 0, in which one line in `renaming` is a metaData.
+    pub fn grow_renamed(dice: &mut Dice, count: usize, renaming: usize) -> Log {
+        let mut log = Log { files: Vec::new(), columns: Vec::new(), states: Vec::new() };
         log.grow_version_zero(dice);
-        for _ in 0..dice.below(most + 1) {
-            log.grow_version(dice);
+        for _ in 0..count {
+            log.grow_version(dice, renaming);
         }
         log
     }
@@ -69,8 +77,9 @@ impl Log {
     }
 
     fn grow_version_zero(&mut self, dice: &mut Dice) {
-        let mut state = Model::empty();
-        let mut lines = vec![lines::meta_data(dice, &self.columns)];
+        let meta_data = MetaFacts::first(dice);
+        let mut lines = vec![meta_data.line(dice)];
+        let mut state = Model::empty(meta_data);
         if dice.one_in(2) {
             state.protocol = lines::protocol_facts(dice, false);
             lines.push(lines::protocol(dice, &state.protocol));
@@ -81,17 +90,27 @@ impl Log {
         dice.shuffle(&mut lines);
         let body = join(dice, &lines);
         self.put(dice, version_name(0), body);
+        self.know_columns(&state);
         self.states.push(state);
     }
 
-    fn grow_version(&mut self, dice: &mut Dice) {
+    fn grow_version(&mut self, dice: &mut Dice, renaming: usize) {
         let mut state = self.states[self.states.len() - 1].clone();
         let mut lines = Vec::new();
         for _ in 0..1 + dice.below(3) {
+            if let (Some(meta_data), true) = (&mut state.meta_data, dice.one_in(renaming)) {
+                if !dice.one_in(4) {
+                    meta_data.change(dice);
+                }
+                lines.push(meta_data.line(dice));
+                self.know_columns(&state);
+                continue;
+            }
             let path = dice.pick(&lines::PATHS[..]);
-            lines.push(match dice.below(20) {
+            lines.push(match dice.below(19) {
                 0..=11 => {
-                    let facts = lines::facts(dice, path, &self.columns);
+                    let columns = if dice.one_in(3) { self.columns.clone() } else { state.columns() };
+                    let facts = lines::facts(dice, path, &columns);
                     let line = lines::add(dice, &facts);
                     state.live.insert(path.to_string(), facts);
                     line
@@ -104,13 +123,29 @@ impl Log {
                     state.protocol = lines::protocol_facts(dice, false);
                     lines::protocol(dice, &state.protocol)
                 }
-                18 => lines::meta_data(dice, &["later"]),
                 _ => lines::other(dice),
             });
         }
         let body = join(dice, &lines);
         self.put(dice, version_name(self.states.len() as u64), body);
         self.states.push(state);
+    }
+
+    fn know_columns(&mut self, state: &Model) {
+        for column in state.columns() {
+            if !self.columns.contains(&column) {
+                self.columns.push(column);
+            }
+        }
+    }
+
+    /// Columns to ask for: those in force at the last version or at another one, or all there are.
+    pub fn some_columns(&self, dice: &mut Dice) -> Vec<String> {
+        match dice.below(6) {
+            0 => self.states[dice.below(self.states.len())].columns(),
+            1 => self.columns.clone(),
+            _ => self.states[self.states.len() - 1].columns(),
+        }
     }
 
     /// Puts a file, or replaces the one with this name.
@@ -124,6 +159,7 @@ impl Log {
         let lines = state.checkpoint_lines(dice);
         let body = join(dice, &lines);
         self.put(dice, checkpoint_name(version), body);
+        self.know_columns(state);
     }
 
     pub fn put_marker(&mut self, version: u64) {

@@ -7,6 +7,7 @@ mod dice;
 mod lines;
 mod logs;
 mod markers;
+mod meta_data;
 mod models;
 mod odd_lines;
 mod odd_texts;
@@ -23,7 +24,7 @@ use dice::Dice;
 type Kind = fn(&mut Dice) -> Request;
 
 /// The kinds of requests, and how often each is made among the others.
-const KINDS: [(usize, Kind); 34] = [
+const KINDS: [(usize, Kind); 36] = [
     (1000, readings::plain),
     (2000, readings::twisted),
     (1600, readings::odd_line),
@@ -31,6 +32,7 @@ const KINDS: [(usize, Kind); 34] = [
     (300, readings::marker),
     (150, readings::names),
     (900, readings::queried),
+    (700, readings::renamed),
     (300, readings::damaged_bundle),
     (150, readings::odd_rooms),
     (2, readings::most_entries),
@@ -46,6 +48,7 @@ const KINDS: [(usize, Kind); 34] = [
     (60, states::odd_rooms),
     (400, cleanings::plain),
     (500, cleanings::disagreeing),
+    (400, cleanings::renamed),
     (700, cleanings::twisted),
     (300, cleanings::gate),
     (250, cleanings::nothing_to_name),
@@ -75,4 +78,18 @@ pub fn make(seed: u64, number: u64) -> Request {
         drawn -= weight;
     }
     unreachable!("the weights sum up to what was drawn below")
+}
+
+#[cfg(test)]
+mod tests {
+    use super::*;
+
+    /// The cleaner finds no fault with a log whose checkpoints are meant to be true.
+    #[test]
+    fn true_checkpoints_are_true() {
+        for number in 0..60 {
+            let request = cleanings::plain(&mut Dice::new(11, number));
+            assert_eq!(crate::probe::answer(&request).reached, "0", "{number}");
+        }
+    }
 }

@@ -4,17 +4,26 @@ use std::collections::BTreeMap;
 
 use super::dice::Dice;
 use super::lines::{self, FileFacts, ProtocolFacts};
+use super::meta_data::MetaFacts;
 
 #[derive(Clone, Debug)]
 pub struct Model {
     pub live: BTreeMap<String, FileFacts>,
     pub protocol: ProtocolFacts,
+    /// The metadata in force; none is what a checkpoint without a metaData line has.
+    pub meta_data: Option<MetaFacts>,
 }
 
 impl Model {
-    pub fn empty() -> Model {
+    /// No files and no protocol said, under this metadata.
+    pub fn empty(meta_data: MetaFacts) -> Model {
         let protocol = ProtocolFacts { reader: 1, writer: 1, reader_features: Vec::new(), writer_features: Vec::new() };
-        Model { live: BTreeMap::new(), protocol }
+        Model { live: BTreeMap::new(), protocol, meta_data: Some(meta_data) }
+    }
+
+    /// The partition columns in force.
+    pub fn columns(&self) -> Vec<String> {
+        self.meta_data.as_ref().map_or(Vec::new(), |meta_data| meta_data.columns.clone())
     }
 
     fn has_plain_protocol(&self) -> bool {
@@ -34,10 +43,7 @@ impl Model {
         for facts in self.live.values() {
             lines.push(lines::add(dice, facts));
         }
-        if dice.one_in(3) {
-            lines.push(lines::meta_data(dice, &["any"]));
-        }
-        if lines.is_empty() || dice.one_in(6) {
+        if (lines.is_empty() && self.meta_data.is_none()) || dice.one_in(6) {
             lines.push(lines::other(dice));
         }
         dice.shuffle(&mut lines);
@@ -45,21 +51,33 @@ impl Model {
             let passing = lines::facts(dice, "passing", &[]);
             lines.splice(0..0, [lines::add(dice, &passing), lines::remove(dice, "passing")]);
         }
+        if let Some(meta_data) = &self.meta_data {
+            put_meta_data(dice, meta_data, &mut lines);
+        }
         lines
     }
 
     /// Changes exactly one fact, of a kind taken by chance.
     pub fn falsify(&mut self, dice: &mut Dice) {
-        let changes_file = !self.live.is_empty() && !dice.one_in(3);
-        if changes_file {
-            let path = self.live.keys().nth(dice.below(self.live.len())).cloned().unwrap_or_default();
-            if let Some(mut facts) = self.live.remove(&path) {
-                if falsify_file(dice, &mut facts) {
-                    self.live.insert(facts.path.clone(), facts);
+        match dice.below(8) {
+            0 | 1 => self.falsify_meta_data(dice),
+            2..=5 if !self.live.is_empty() => {
+                let path = self.live.keys().nth(dice.below(self.live.len())).cloned().unwrap_or_default();
+                if let Some(mut facts) = self.live.remove(&path) {
+                    if falsify_file(dice, &mut facts) {
+                        self.live.insert(facts.path.clone(), facts);
+                    }
                 }
             }
-        } else {
-            self.falsify_protocol(dice);
+            _ => self.falsify_protocol(dice),
+        }
+    }
+
+    /// Other metadata, or none at all.
+    pub fn falsify_meta_data(&mut self, dice: &mut Dice) {
+        match &mut self.meta_data {
+            Some(meta_data) if !dice.one_in(4) => meta_data.change(dice),
+            _ => self.meta_data = None,
         }
     }
 
@@ -75,6 +93,19 @@ impl Model {
                 self.live.insert("extra".to_string(), facts);
             }
         }
+    }
+}
+
+/// Puts the metaData line among the others; now and then another or the same before it.
+fn put_meta_data(dice: &mut Dice, meta_data: &MetaFacts, lines: &mut Vec<String>) {
+    let place = dice.below(lines.len() + 1);
+    lines.insert(place, meta_data.line(dice));
+    if dice.one_in(6) {
+        let mut earlier = meta_data.clone();
+        if !dice.one_in(3) {
+            earlier.change(dice);
+        }
+        lines.insert(dice.below(place + 1), earlier.line(dice));
     }
 }
 

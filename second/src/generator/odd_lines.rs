@@ -23,11 +23,11 @@ fn string_of(dice: &mut Dice, length: usize) -> String {
 
 /// Any line: an action with one odd thing about it, or an odd form of the line itself.
 pub fn odd_line(dice: &mut Dice) -> Vec<u8> {
-    match dice.below(10) {
+    match dice.below(11) {
         0..=3 => odd_add(dice),
         4 | 5 => odd_protocol(dice),
-        6 => odd_meta_data(dice),
-        7 => odd_remove(dice),
+        6 | 7 => odd_meta_data(dice),
+        8 => odd_remove(dice),
         _ => odd_form(dice),
     }
 }

@@ -75,6 +75,15 @@ pub fn on_columns(dice: &mut Dice, columns: &[String]) -> Vec<u8> {
     array(&conditions).into_bytes()
 }
 
+/// A well-formed query with a condition on one of the columns, on any if there are none.
+pub fn on_one(dice: &mut Dice, columns: &[String]) -> Vec<u8> {
+    let any = lines::COLUMNS.map(str::to_string);
+    let columns = if columns.is_empty() { &any[..] } else { columns };
+    let column = &columns[dice.below(columns.len())];
+    let members = condition(dice, column);
+    array(&[object(dice, &members)]).into_bytes()
+}
+
 /// Mostly well formed on these columns; now and then on another column, or malformed.
 pub fn some(dice: &mut Dice, columns: &[String]) -> Vec<u8> {
     match dice.below(20) {

@@ -5,7 +5,7 @@ use super::dice::Dice;
 use super::logs::{version_name, Log};
 use super::markers::put_odd_marker;
 use super::queries;
-use super::twists::{odd_line_somewhere, odd_names, put_gate_edge, twist};
+use super::twists::{later_meta_data, odd_line_somewhere, odd_names, put_gate_edge, twist};
 use crate::request::Request;
 
 const TABLE: u64 = 4_096;
@@ -45,7 +45,8 @@ fn ask(dice: &mut Dice, last: u64, query: &[u8], bundle: &[u8]) -> Request {
 /// A log within the rules.
 pub fn plain(dice: &mut Dice) -> Request {
     let log = Log::grow_with_checkpoints(dice, 5);
-    let query = queries::some(dice, &log.columns);
+    let columns = log.some_columns(dice);
+    let query = queries::some(dice, &columns);
     ask(dice, log.last(), &query, &log.bundle())
 }
 
@@ -55,7 +56,8 @@ pub fn twisted(dice: &mut Dice) -> Request {
     for _ in 0..1 + dice.below(6) / 3 {
         twist(dice, &mut log);
     }
-    let query = queries::some(dice, &log.columns);
+    let columns = log.some_columns(dice);
+    let query = queries::some(dice, &columns);
     ask(dice, log.last(), &query, &log.bundle())
 }
 
@@ -76,7 +78,8 @@ pub fn gate(dice: &mut Dice) -> Request {
     for _ in 0..1 + dice.below(2) {
         put_gate_edge(dice, &mut log);
     }
-    let query = queries::some(dice, &log.columns);
+    let columns = log.some_columns(dice);
+    let query = queries::some(dice, &columns);
     ask(dice, log.last(), &query, &log.bundle())
 }
 
@@ -84,7 +87,10 @@ pub fn gate(dice: &mut Dice) -> Request {
 pub fn marker(dice: &mut Dice) -> Request {
     let mut log = Log::grow(dice, 4);
     let version = log.last();
-    let state = log.states[version as usize].clone();
+    let mut state = log.states[version as usize].clone();
+    if dice.one_in(8) {
+        state.meta_data = None;
+    }
     log.put_checkpoint(dice, version, &state);
     log.take_out(&version_name(version.max(1)));
     put_odd_marker(dice, &mut log, version);
@@ -105,14 +111,49 @@ pub fn names(dice: &mut Dice) -> Request {
 /// Queries at their edges, over a log with many values.
 pub fn queried(dice: &mut Dice) -> Request {
     let log = Log::grow_with_checkpoints(dice, 3);
-    let query = if dice.one_in(2) { queries::odd(dice, &log.columns) } else { queries::on_columns(dice, &log.columns) };
+    let columns = log.some_columns(dice);
+    let query = if dice.one_in(2) { queries::odd(dice, &columns) } else { queries::on_columns(dice, &columns) };
     ask(dice, log.last(), &query, &log.bundle())
+}
+
+/// Columns renamed along the way, checkpoints with their own, and a condition on a column that
+/// is in force at the version asked for, or was, or will be.
+pub fn renamed(dice: &mut Dice) -> Request {
+    let count = 1 + dice.below(4);
+    let mut log = Log::grow_renamed(dice, count, 3);
+    for version in 0..=log.last() {
+        if dice.one_in(4) {
+            let mut state = log.states[version as usize].clone();
+            if dice.one_in(2) {
+                state.falsify_meta_data(dice);
+            }
+            log.put_checkpoint(dice, version, &state);
+            if dice.one_in(2) {
+                log.put_marker(version);
+            }
+            if dice.one_in(2) {
+                log.take_out(&version_name(1 + dice.below(version as usize + 1) as u64));
+            }
+        }
+    }
+    if dice.one_in(8) {
+        later_meta_data(dice, &mut log);
+    }
+    let version = dice.below(log.states.len());
+    let columns = if dice.one_in(2) { log.states[version].columns() } else { log.columns.clone() };
+    let query = queries::on_one(dice, &columns);
+    if dice.one_in(4) {
+        Request::new('l', &[TABLE], &[&query, &log.bundle()])
+    } else {
+        Request::new('r', &[version as u64, TABLE], &[&query, &log.bundle()])
+    }
 }
 
 pub fn damaged_bundle(dice: &mut Dice) -> Request {
     let log = Log::grow_with_checkpoints(dice, 2);
     let bundle = bundles::damaged(dice, &log);
-    let query = queries::some(dice, &log.columns);
+    let columns = log.some_columns(dice);
+    let query = queries::some(dice, &columns);
     ask(dice, log.last(), &query, &bundle)
 }
 

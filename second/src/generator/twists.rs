@@ -4,12 +4,13 @@ use super::dice::Dice;
 use super::lines;
 use super::logs::{checkpoint_name, version_name, Log};
 use super::markers::odd_marker;
+use super::meta_data::MetaFacts;
 use super::odd_lines::{odd_add, odd_line, odd_meta_data};
 use crate::bundle::File;
 
 type Twist = fn(&mut Dice, &mut Log);
 
-const TWISTS: [Twist; 15] = [
+const TWISTS: [Twist; 18] = [
     gap,
     files_missing,
     odd_line_somewhere,
@@ -17,6 +18,9 @@ const TWISTS: [Twist; 15] = [
     bad_checkpoint,
     bad_checkpoint,
     false_checkpoint,
+    odd_checkpoint_meta_data,
+    odd_checkpoint_meta_data,
+    later_meta_data,
     odd_marker,
     odd_marker,
     odd_version_zero,
@@ -105,6 +109,45 @@ fn false_checkpoint(dice: &mut Dice, log: &mut Log) {
     }
 }
 
+/// A checkpoint with no metaData line, or with another or an odd one at its end, alone or beside
+/// the good one; the marker may name it, and it may stand above a gap.
+fn odd_checkpoint_meta_data(dice: &mut Dice, log: &mut Log) {
+    let version = dice.below(log.states.len());
+    let mut state = log.states[version].clone();
+    let line = match dice.below(4) {
+        0 => None,
+        1 => state.meta_data.clone().map(|mut other| {
+            other.change(dice);
+            other.line(dice).into_bytes()
+        }),
+        _ => Some(odd_meta_data(dice)),
+    };
+    if line.is_none() || dice.one_in(2) {
+        state.meta_data = None;
+    }
+    log.put_checkpoint(dice, version as u64, &state);
+    let name = checkpoint_name(version as u64);
+    if let (Some(line), Some(file)) = (line, log.files.iter_mut().find(|file| file.name == name)) {
+        file.body.push(b'\n');
+        file.body.extend(line);
+    }
+    if dice.one_in(2) {
+        log.put_marker(version as u64);
+    }
+    if dice.one_in(3) {
+        log.take_out(&version_name(1 + dice.below(version + 1) as u64));
+    }
+}
+
+/// A metaData line more in a version file above 0: odd, or with facts of its own.
+pub fn later_meta_data(dice: &mut Dice, log: &mut Log) {
+    let name = version_name(1 + dice.below(log.states.len()) as u64);
+    let line = if dice.one_in(2) { odd_meta_data(dice) } else { MetaFacts::first(dice).line(dice).into_bytes() };
+    if let Some(file) = log.files.iter_mut().find(|file| file.name == name) {
+        insert_line(dice, &mut file.body, &line);
+    }
+}
+
 /// Version 0 on either side of its own rules.
 fn odd_version_zero(dice: &mut Dice, log: &mut Log) {
     let name = version_name(0);
@@ -115,7 +158,7 @@ fn odd_version_zero(dice: &mut Dice, log: &mut Log) {
         2 => b"{\"mergeskip\":null}".to_vec(),
         3 => b"{\"skip\":[]}".to_vec(),
         4 => b"{\"merge\\u0073kip\":{}}".to_vec(),
-        5 => lines::meta_data(dice, &["second"]).into_bytes(),
+        5 => MetaFacts::first(dice).line(dice).into_bytes(),
         6 => {
             let protocol = lines::protocol_facts(dice, false);
             lines::protocol(dice, &protocol).into_bytes()
@@ -171,11 +214,11 @@ pub fn put_gate_edge(dice: &mut Dice, log: &mut Log) {
     }
     let line = lines::protocol(dice, &state.protocol);
     let version = if dice.one_in(2) { last } else { dice.below(log.states.len()) as u64 };
-    let columns = log.columns.clone();
+    let meta_data = log.states[0].meta_data.as_ref().map_or(String::new(), |meta_data| meta_data.line(dice));
     let name = version_name(version);
     if let Some(file) = log.files.iter_mut().find(|file| file.name == name) {
         if version == 0 {
-            file.body = format!("{}\n{line}", lines::meta_data(dice, &columns)).into_bytes();
+            file.body = format!("{meta_data}\n{line}").into_bytes();
         } else {
             insert_line(dice, &mut file.body, line.as_bytes());
         }
@@ -216,7 +259,7 @@ pub fn odd_names(dice: &mut Dice, log: &mut Log) {
         "20000000000000000000.checkpoint.json",
     ];
     let within_rules = names.len() - 6;
-    let count = if dice.one_in(3) { names.len() } else { within_rules };
+    let count = if dice.one_in(2) { names.len() } else { within_rules };
     for _ in 0..1 + dice.below(2) {
         let name = names[dice.below(count)].as_bytes().to_vec();
         log.put(dice, name, b"not read".to_vec());

@@ -54,7 +54,7 @@ fn listing<'a>(bundle: &'a [u8], told: Told, room: &[u64]) -> Listing<'a> {
     Listing { version, reader, writer, writable, rows: room.chunks_exact(ROW).take(rows).map(row).collect(), bundle }
 }
 
-/// The files that a query (JSON; `[]` picks all) picks at a version.
+/// The files that a query (JSON; `[]` picks all) picks at a version, by the partition columns in force there.
 pub fn read_at<'a>(bundle: &'a [u8], query: &[u8], version: u64) -> Result<Listing<'a>, Refusal> {
     let mut room = [0; ROWS_ROOM];
     lent::read_at(bundle, query, version, &mut room).map(|told| listing(bundle, told, &room))
@@ -67,7 +67,8 @@ pub fn read_latest<'a>(bundle: &'a [u8], query: &[u8]) -> Result<Listing<'a>, Re
 }
 
 /// The entries of the version files that may go, ascending: those below the marker's checkpoint that were modified more than `retention` before
-/// `today`, both in milliseconds.
+/// `today`, both in milliseconds, if another start reaches the checkpoint and says the same: files, protocol, id and
+/// partition columns.
 pub fn clean(bundle: &[u8], today: u64, retention: u64) -> Result<Vec<usize>, Refusal> {
     let mut names = [0; NAMES_ROOM];
     let (mut one, mut two) = ([0; ROWS_ROOM], [0; ROWS_ROOM]);

@@ -9,8 +9,8 @@ use Rattle.field_scalars.proofs.some_string_in.Tie as tie
 string-in-requires : tie.Need-string-in-requires
 string-in-requires c κs = search needs
 
-enum-known-n : tie.Need-enum-known-n
-enum-known-n c = search needs
+enum-known-p : tie.Need-enum-known-p
+enum-known-p c = search needs
 
 enum-told : tie.Need-enum-told
 enum-told c = search needs
@@ -20,14 +20,14 @@ returns c = ap idOf (subst (StringIs _ _ _) (c .enum-told .given .1) (c .before 
 
 returns-2 : tie.Need-returns-2
 returns-2 c =
-    let q = subst (StringIs _ _ _) (c .before .before .n .given .1) (c .before .before .before .before .string-in .ensures) in
+    let q = subst (StringIs _ _ _) (c .before .before .p .given .1) (c .before .before .before .before .string-in .ensures) in
     id-empty (q .0) (q .1) (c .if1 .taken)
 
 returns-3 : tie.Need-returns-3
 returns-3 c =
-    let q = subst (StringIs _ _ _) (c .before .before .n .given .1) (c .before .before .before .before .string-in .ensures) in
-    id-good (q .0) (q .1) (c .if1 .left)
+    let q = subst (StringIs _ _ _) (c .before .before .p .given .1) (c .before .before .before .before .string-in .ensures) in
+    (id-good (q .0) (q .1) (c .if1 .left), q .1, q .2)
 
 pub some-string-in-spec : {M : Type 1} → statement M
 some-string-in-spec =
-    tie.close (tie.spec string-in-requires enum-known-n enum-told returns returns-2 returns-3)
+    tie.close (tie.spec string-in-requires enum-known-p enum-told returns returns-2 returns-3)

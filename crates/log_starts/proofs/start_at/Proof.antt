@@ -1,6 +1,6 @@
--- The checkpoint at v, where its body is well formed.
+-- The checkpoint at v, where its body is that of a start.
 use mathlib.Core.Path.{sym, ap, subst, _∙_}
-use Rattle.rules.specs.Starts.{logOf, wellFormed}
+use Rattle.rules.specs.Starts.{logOf, isStart}
 use Rattle.file_bundle.specs.Files.{filesIn, fileIn}
 use Rattle.log_files.specs.Logs.{PlaceIs}
 use Rattle.log_starts.proofs.Starting.{start-none, start-good, start-bad}
@@ -27,8 +27,8 @@ returns c =
 body-in-requires : tie.Need-body-in-requires
 body-in-requires c κs = subst (PlaceIs _ _) (c .before .k .given .1) (c .before .before .before .checkpoint-file .ensures) .0
 
-well-formed-requires : tie.Need-well-formed-requires
-well-formed-requires c κs = search needs
+is-start-requires : tie.Need-is-start-requires
+is-start-requires c κs = search needs
 
 returns-2 : tie.Need-returns-2
 returns-2 c =
@@ -42,7 +42,7 @@ returns-2 c =
           _
           (fileIn s k)
           (p .1)
-          (sym (ap wellFormed (c .before .before .body-in .ensures)) ∙ sym (c .before .well-formed .ensures) ∙ c .if1 .taken),
+          (sym (ap isStart (c .before .before .body-in .ensures)) ∙ sym (c .before .is-start .ensures) ∙ c .if1 .taken),
     )
 
 returns-3 : tie.Need-returns-3
@@ -56,7 +56,7 @@ returns-3 c =
     _
     (fileIn s k)
     (p .1)
-    (sym (ap wellFormed (c .before .before .body-in .ensures)) ∙ sym (c .before .well-formed .ensures) ∙ c .if1 .left)
+    (sym (ap isStart (c .before .before .body-in .ensures)) ∙ sym (c .before .is-start .ensures) ∙ c .if1 .left)
 
 pub start-at-spec : {M : Type 1} → statement M
 start-at-spec =
@@ -67,6 +67,6 @@ start-at-spec =
     enum-told
     returns
     body-in-requires
-    well-formed-requires
+    is-start-requires
     returns-2
     returns-3)

@@ -99,20 +99,31 @@ same-length-2 c = search needs
 returns-6 : tie.Need-returns-6
 unfolding mostLive
 returns-6 c =
+    subst
+    (OutcomeIs _ _ _ _ _)
+    (c .before .before .before .st .given .1)
+    (c .before .before .before .before .before .before .before .read-file .ensures) .1 .left
+
+same-length-3 : tie.Need-same-length-3
+same-length-3 c = search needs
+
+returns-7 : tie.Need-returns-7
+unfolding mostLive
+returns-7 c =
+    let nothing-live = c .before .before .before .before .before .before .before .before .before .nothing-live in
     let b10 = c .before .before .before .before .before .before .before .before .before .before in
-    let nothing-live = c .before .before .before .before .before .before .before .nothing-live in
-    let z = c .before .before .before .before .before .before .before .before .before .z .given in
-    let read-zero = b10 .before .read-zero in
-    let k = b10 .before .before .before .before .before .before .before .k .given in
-    let checkpoint-file = b10 .before .before .before .before .before .before .before .before .before .checkpoint-file in
-    let n = b10 .before .before .before .before .before .before .before .before .before .before .before .n .given in
-    let named = b10 .before .before .before .before .before .before .before .before .before .before .before .before .before .named in
-    let d = subst (OutcomeIs _ _ _ _ _) (c .before .st .given .1) (c .before .before .before .before .before .read-file .ensures) in
-    let says = subst (ZeroIs _ _) (z .1) (read-zero .ensures) in
-    let p = subst (PlaceIs _ _) (b10 .before .before .before .f .given .1) (b10 .before .before .before .before .before .version-file .ensures) in
-    let q = subst (PlaceIs _ _) (k .1) (checkpoint-file .ensures) in
-    let marker = whole-number _ (sym (n .1) ∙ named .ensures) in
-    (begun _ _ (nothing-live .result) _ (p .1) says marker (q .1) (nothing-live .ensures) d, d .1 .left)
+    let z = b10 .before .z .given in
+    let f = b10 .before .before .before .before .before .f .given in
+    let k = b10 .before .before .before .before .before .before .before .before .before .k .given in
+    let b20 = b10 .before .before .before .before .before .before .before .before .before .before in
+    let n = b20 .before .before .before .n .given in
+    let d =
+    subst (OutcomeIs _ _ _ _ _) (c .before .before .before .st .given .1) (c .before .before .before .before .before .before .before .read-file .ensures) in
+    let says = subst (ZeroIs _ _) (z .1) (b10 .before .before .before .read-zero .ensures) in
+    let p = subst (PlaceIs _ _) (f .1) (b10 .before .before .before .before .before .before .before .version-file .ensures) in
+    let q = subst (PlaceIs _ _) (k .1) (b20 .before .checkpoint-file .ensures) in
+    let marker = whole-number _ (sym (n .1) ∙ b20 .before .before .before .before .before .named .ensures) in
+    (begun _ _ (nothing-live .result) _ (p .1) says marker (q .1) (nothing-live .ensures) d (omega (arith, c .if1 .left)), d .1 .left)
 
 pub read-marked-spec : {M : Type 1} → statement M
 read-marked-spec =
@@ -141,4 +152,6 @@ read-marked-spec =
     same-length
     returns-5
     same-length-2
-    returns-6)
+    returns-6
+    same-length-3
+    returns-7)

@@ -1,4 +1,4 @@
--- `nothing_live` keeps the metaData alone.
+-- `nothing_live` keeps nothing but where the rows are to stand.
 use Rattle.log_replay.proofs.Nothing.{nothing-renewed}
 use Rattle.log_replay.proofs.begin.nothing_live.Statement.{statement}
 use Rattle.log_replay.proofs.begin.nothing_live.Tie as tie

@@ -1,5 +1,4 @@
 -- `manifest_of` meets its contract. By its path, and by the columns that it states.
-use mathlib.Core.Bool.{Bool}
 use mathlib.Core.Path.{_∙_, subst}
 use native.Mathlib.Omega.{arith}
 use borrow.Author.Needs.{needs}
@@ -10,7 +9,7 @@ use Rattle.field_names.specs.Kinds.{namesOf}
 use Rattle.field_objects.specs.Slots.{missing}
 use Rattle.field_names.specs.declared.kinds.Kind.the-variants.{Manifest}
 use Rattle.field_scalars.specs.Inside.{stringIn}
-use Rattle.field_scalars.specs.Texts.{idOf, Told}
+use Rattle.field_scalars.specs.Texts.{StringIs}
 use Rattle.field_scalars.proofs.Stated.{each-inside}
 use Rattle.manifest_state.specs.States.{columnsStated}
 use Rattle.field_objects.proofs.Whole.{object-good, object-bad}
@@ -44,14 +43,11 @@ some-string-in-requires c κs =
     (not-false (f .result .good) (c .before .before .if1 .left)) in
     each-inside t (namesOf Manifest) (ob .ms) (f .result .slots) 0 (omega arith) (ob .each)
 
-columns-stated-requires : tie.Need-columns-stated-requires
-unfolding namesOf
-columns-stated-requires c κs =
-    let t = c .before .before .before .before .before .before .before .args .t .now in
-    let f = c .before .before .before .before .before .object-of in
-    let ob = object-good (objectOf 29 t) t (namesOf Manifest) (f .result) (f .ensures)
-    (not-false (f .result .good) (c .before .before .before .before .if1 .left)) in
-    each-inside t (namesOf Manifest) (ob .ms) (f .result .slots) 1 (omega arith) (ob .each)
+enum-told : tie.Need-enum-told
+enum-told c = search needs
+
+enum-told-2 : tie.Need-enum-told-2
+enum-told-2 c = search needs
 
 returns-2 : tie.Need-returns-2
 returns-2 c =
@@ -61,20 +57,29 @@ returns-2 c =
     (not-false (f .result .good) (c .before .before .before .before .before .if1 .left)) in
     let path = stringIn t (getD (f .result .slots) 0 missing) in
     let columns = columnsStated t (getD (f .result .slots) 1 missing) in
-    let told = subst (λ (b : Bool). Told (idOf path) b) (c .before .if2 .taken) (c .before .before .some-string-in .ensures) in
-    manifest-stated _ columns (told .0) (manifest-by t (ob .ms) (f .result .slots) (ob .all) (ob .each) ∙ manifest-path path columns (told .1))
-    t (c .columns-stated .result) (c .columns-stated .ensures)
+    manifest-by t (ob .ms) (f .result .slots) (ob .all) (ob .each)
+    ∙ manifest-pathless path columns (subst (StringIs _ _ _) (c .enum-told2 .given .1) (c .before .before .some-string-in .ensures))
+
+columns-stated-requires : tie.Need-columns-stated-requires
+unfolding namesOf
+columns-stated-requires c κs =
+    let t = c .before .before .before .before .before .before .before .before .args .t .now in
+    let f = c .before .before .before .before .before .before .object-of in
+    let ob = object-good (objectOf 29 t) t (namesOf Manifest) (f .result) (f .ensures)
+    (not-false (f .result .good) (c .before .before .before .before .before .if1 .left)) in
+    each-inside t (namesOf Manifest) (ob .ms) (f .result .slots) 1 (omega arith) (ob .each)
 
 returns-3 : tie.Need-returns-3
 returns-3 c =
-    let t = c .before .before .before .before .before .before .before .args .t .now in
-    let f = c .before .before .before .before .before .object-of in
+    let t = c .before .before .before .before .before .before .before .before .before .args .t .now in
+    let f = c .before .before .before .before .before .before .before .object-of in
     let ob = object-good (objectOf 29 t) t (namesOf Manifest) (f .result) (f .ensures)
-    (not-false (f .result .good) (c .before .before .before .before .if1 .left)) in
+    (not-false (f .result .good) (c .before .before .before .before .before .before .if1 .left)) in
     let path = stringIn t (getD (f .result .slots) 0 missing) in
     let columns = columnsStated t (getD (f .result .slots) 1 missing) in
-    manifest-by t (ob .ms) (f .result .slots) (ob .all) (ob .each)
-    ∙ manifest-pathless path columns (subst (λ (b : Bool). Told (idOf path) b) (c .if2 .left) (c .before .some-string-in .ensures))
+    let read = subst (StringIs _ _ _) (c .before .enum-told .given .1) (c .before .before .before .some-string-in .ensures) in
+    manifest-stated _ columns _ (manifest-by t (ob .ms) (f .result .slots) (ob .all) (ob .each) ∙ manifest-path path columns (read .0 .says))
+    t (c .columns-stated .result) (c .columns-stated .ensures)
 
 pub manifest-of-spec : {M : Type 1} → statement M
 manifest-of-spec =
@@ -85,6 +90,8 @@ manifest-of-spec =
     element-copy-out-path
     element-copy-out-bounds
     some-string-in-requires
-    columns-stated-requires
+    enum-told
+    enum-told-2
     returns-2
+    columns-stated-requires
     returns-3)
