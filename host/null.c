@@ -91,8 +91,9 @@ static void rows_and_words(void)
     const uint64_t two[] = {1, 2, 3, 4, 5, 6, 7, 8};
     kerumpase_row row = kerumpase_row_at(two, 1);
     HOLD(row.place == 5 && row.length == 6 && row.size == 7 && row.time == 8);
-    HOLD(strcmp(kerumpase_refusal_text(16), "unknown refusal") == 0 && strcmp(kerumpase_refusal_text(UINT32_MAX), "unknown refusal") == 0);
-    for (uint32_t i = 0; i <= 15; i++)
+    HOLD(strcmp(kerumpase_refusal_text(KERUMPASE_FOREIGN_KEYS + 1), "unknown refusal") == 0);
+    HOLD(strcmp(kerumpase_refusal_text(UINT32_MAX), "unknown refusal") == 0);
+    for (uint32_t i = 0; i <= KERUMPASE_FOREIGN_KEYS; i++)
         for (uint32_t j = 0; j < i; j++)
             HOLD(strcmp(kerumpase_refusal_text(i), kerumpase_refusal_text(j)) != 0);
 }
@@ -103,7 +104,7 @@ int main(int count, char **said)
     static uint64_t one, two;
     static uint32_t three;
     if (count == 2 && strcmp(said[1], "words") == 0) {
-        for (uint32_t i = 0; i <= 15; i++)
+        for (uint32_t i = 0; i <= KERUMPASE_FOREIGN_KEYS; i++)
             printf("| %u | %s |\n", (unsigned)i, kerumpase_refusal_text(i));
         return 0;
     }

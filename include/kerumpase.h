@@ -87,10 +87,17 @@ typedef enum kerumpase_refusal {
     KERUMPASE_NOT_WRITABLE = 12,
     KERUMPASE_CHECKPOINT_DISAGREES = 13, /* with the other start: files, protocol, id, partition columns */
     KERUMPASE_STATE_MALFORMED = 14,
-    KERUMPASE_TOO_MANY_MANIFESTS = 15    /* over 256 */
+    KERUMPASE_TOO_MANY_MANIFESTS = 15,   /* over 256 */
+    KERUMPASE_LIST_REFUSED = 16,         /* not given yet, as 17 to 20: for entries that are to come */
+    KERUMPASE_OUTPUT_TOO_SHORT = 17,
+    KERUMPASE_VALUE_OUT_OF_RANGE = 18,
+    KERUMPASE_CONTAINER_MALFORMED = 19,
+    KERUMPASE_OTHER_SCHEMA = 20,
+    KERUMPASE_FOREIGN_KEYS = 21          /* an add in a version file whose partition keys are not exactly the
+                                          * columns in force at its line; entry and line say which */
 } kerumpase_refusal;
 
-/* number is a kerumpase_refusal, 0 where the answer is accepted. Refusals 6 and 7 name a file of the
+/* number is a kerumpase_refusal, 0 where the answer is accepted. Refusals 6, 7 and 21 name a file of the
  * bundle, from 0, and a line of it, from 1 (0: something is missing at the file's end). All else is 0. */
 typedef struct kerumpase_refused {
     uint32_t number;
@@ -108,7 +115,9 @@ typedef struct kerumpase_counted {
  * ---- bundles: a log as one byte string, contents first, then bodies ----
  *
  * A log is read from a start: version file 0, or a checkpoint that is well formed and has a metaData
- * line. The last protocol line and the last metaData line on the way from there are in force.
+ * line. The last protocol line and the last metaData line on the way from there are in force. An add
+ * in a version file must have exactly the partition columns in force at its line as keys; those in a
+ * checkpoint need not.
  */
 
 /* The version listed, how many rows are in the room, the protocol in force and whether it may be
@@ -136,8 +145,8 @@ typedef struct kerumpase_row {
  * picks, by the partition columns in force at that version: the first `rows` rows of the room, in
  * the byte order of the decoded paths; the rest of the first 4,096 numbers are 0. kerumpase_path_of
  * and kerumpase_records_of show more of a row's line.
- * Refusals 1, 10, 2, 3, 4, 5, then 6 or 7, 8, 9, 11, the first that holds; after all but 1 the
- * first 4,096 numbers are 0.
+ * Refusals 1, 10, 2, 3, 4, 5, then 6, 7 or 21 by the first line met (on one line 6, 21, 7), 8, 9, 11,
+ * the first that holds; after all but 1 the first 4,096 numbers are 0.
  */
 kerumpase_listed kerumpase_read_at(const uint8_t *KERUMPASE_RESTRICT bundle, size_t bundle_length,
                                    const uint8_t *KERUMPASE_RESTRICT query, size_t query_length,
@@ -156,7 +165,8 @@ kerumpase_listed kerumpase_read_latest(const uint8_t *KERUMPASE_RESTRICT bundle,
  * of the room are their places in the bundle's contents, from 0 and ascending; the rest of the first
  * 1,024 are 0. The two tables are lent for the work, at least KERUMPASE_ROWS_ROOM each: their first
  * 4,096 numbers are 0 at the end.
- * Refusals 1, 2, 3, 4, then 6 or 7, 8, 9, 12, 13; after all but 1 the rooms hold zeros.
+ * Refusals 1, 2, 3, 4, then 6, 7 or 21 as in reading, 8, 9, 12, 13; after all but 1 the rooms hold
+ * zeros. 21 is given on the other start's way, never in the checkpoint.
  */
 kerumpase_counted kerumpase_clean(const uint8_t *KERUMPASE_RESTRICT bundle, size_t bundle_length,
                                   uint64_t today, uint64_t retention,

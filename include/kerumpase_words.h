@@ -26,6 +26,12 @@ static inline const char *kerumpase_refusal_text(uint32_t number)
     case KERUMPASE_CHECKPOINT_DISAGREES: return "checkpoint disagrees (cleaner)";
     case KERUMPASE_STATE_MALFORMED: return "state manifest malformed";
     case KERUMPASE_TOO_MANY_MANIFESTS: return "over 256 manifests";
+    case KERUMPASE_LIST_REFUSED: return "list empty, or a value that no add or remove may have";
+    case KERUMPASE_OUTPUT_TOO_SHORT: return "output room too short";
+    case KERUMPASE_VALUE_OUT_OF_RANGE: return "file value out of range";
+    case KERUMPASE_CONTAINER_MALFORMED: return "container or value malformed, or another codec";
+    case KERUMPASE_OTHER_SCHEMA: return "another schema";
+    case KERUMPASE_FOREIGN_KEYS: return "foreign partition keys";
     default: return "unknown refusal";
     }
 }

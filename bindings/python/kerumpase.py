@@ -28,7 +28,11 @@ TEXTS = (
     'accepted', 'a lent room too short; all rooms untouched', 'bundle malformed', 'version in a name too large', 'no version file 0',
     'version not kept: no start reaches it', 'a line or file read is malformed', 'more than 1,024 live after a line', 'minReaderVersion above 3',
     'unknown reader feature', 'query malformed', 'condition on no partition column', 'not writable (cleaner)', 'checkpoint disagrees (cleaner)',
-    'state manifest malformed', 'over 256 manifests')
+    'state manifest malformed', 'over 256 manifests', 'list empty, or a value that no add or remove may have', 'output room too short',
+    'file value out of range', 'container or value malformed, or another codec', 'another schema', 'foreign partition keys')
+
+# The refusals that name an entry of the bundle and a line of it.
+OF_A_LINE = (6, 7, 21)
 
 
 def refusal_text(number: int) -> str:
@@ -41,11 +45,11 @@ class LibraryMissing(OSError):
 
 
 class Refused(Exception):
-    """A refusal: its number, the entry of the bundle and the line that 6 and 7 name (otherwise 0), and the text for the number."""
+    """A refusal: its number, the entry of the bundle and the line that 6, 7 and 21 name (otherwise 0), and the text for the number."""
 
     def __init__(self, number: int, entry: int = 0, line: int = 0, name: Optional[str] = None):
         self.number, self.entry, self.line, self.name, self.text = number, entry, line, name, refusal_text(number)
-        where = f', in {name or f"entry {entry}"}, line {line}' if number in (6, 7) else ''
+        where = f', in {name or f"entry {entry}"}, line {line}' if number in OF_A_LINE else ''
         super().__init__(f'refused {number}: {self.text}{where}')
 
     def __reduce__(self):
@@ -176,7 +180,7 @@ def _room_64(length):
 
 
 def _unless_refused(refused, bundle=b''):
-    if refused.number in (6, 7):
+    if refused.number in OF_A_LINE:
         raise Refused(refused.number, refused.entry, refused.line, entry_name(bundle, refused.entry))
     if refused.number:
         raise Refused(refused.number)

@@ -149,6 +149,9 @@ class Functions(unittest.TestCase):
         self.assertEqual((x.number, x.entry, x.line, x.text, x.name), (6, 1, 2, 'a line or file read is malformed', version(1)))
         self.assertEqual(str(x), f'refused 6: a line or file read is malformed, in {version(1)}, line 2')
         self.assertEqual(str(pickle.loads(pickle.dumps(x))), str(x))
+        with self.assertRaises(Refused) as caught:
+            kerumpase.read_latest(Log({version(1): add('a') + add('b', values='{"x":null}')}).bundle())
+        self.assertEqual(str(caught.exception), f'refused 21: foreign partition keys, in {version(1)}, line 2')
 
     def test_what_gives_its_bytes(self):
         expected = kerumpase.read_latest(BUNDLE)
@@ -197,7 +200,7 @@ class Functions(unittest.TestCase):
         rows = [line.split('|') for line in (TOP / 'docs' / 'REFUSALS.md').read_text().splitlines() if line.startswith('| ')]
         table = {int(row[1]): row[2].strip() for row in rows if row[1].strip().isdigit()}
         self.assertEqual(table, dict(enumerate(kerumpase.TEXTS)))
-        self.assertEqual(kerumpase.refusal_text(16), 'unknown refusal')
+        self.assertEqual(kerumpase.refusal_text(22), 'unknown refusal')
 
     def test_threads(self):
         expected, found = kerumpase.read_latest(BUNDLE), []

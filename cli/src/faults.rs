@@ -227,6 +227,24 @@ mod tests {
         assert_eq!(faults(&[(TWO, Some(RENAMED)), (CHECKPOINT, Some(&checkpoint))]), [""; 0]);
     }
 
+    #[test]
+    fn foreign_adds_are_told_where_they_are_read() {
+        let keyed = ADD.replace("{}", r#"{"class":"7a"}"#);
+        let told = |met: &str, file: &str| {
+            let begins = r#"the line begins: {"add":{"path":"a","size":3,"modificationTime":7,"dataChange…"#;
+            format!("{met}: refusal 21: foreign partition keys, in {file}, line 1; {begins}")
+        };
+        assert_eq!(faults(&[(THREE, Some(&keyed))]), [told("the latest version", THREE)]);
+        // Version 1 is read for itself and by the cleaner, and told once; versions 2 and 3 do not need it.
+        assert_eq!(faults(&[(ONE, Some(&keyed))]), [told("version 1", ONE)]);
+        // A checkpoint is not held to the columns, but the history of this one has another file.
+        let checkpoint = format!("{META}\n{keyed}");
+        assert_eq!(
+            faults(&[(CHECKPOINT, Some(&checkpoint))]),
+            ["the cleaner: refusal 13: checkpoint disagrees (cleaner)"]
+        );
+    }
+
     fn of_line(met: &str, place: &str) -> String {
         format!("{met}: refusal 6: a line or file read is malformed, in {place}")
     }

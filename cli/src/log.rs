@@ -192,19 +192,37 @@ fn fault_of(body: &[u8]) -> Option<NoStart> {
 fn malformed_line(body: &[u8]) -> Option<usize> {
     match kerumpase::read_at(&behind_zero(b"00000000000000000001.json", body)?, ALL, 1) {
         Err(Refusal { reason: Reason::Malformed, line, .. }) => Some(line),
-        // It reads no further than a line after which too many files are live: the lines behind it are asked for by themselves.
-        Err(Refusal { reason: Reason::TooManyLive, line, .. }) => {
-            let more = malformed_line(lines_behind(body, line)).filter(|&more| more > 0)?;
-            Some(line + more)
-        }
+        // It reads no further than a foreign add, or a line after which too many files are live.
+        Err(Refusal { reason: Reason::ForeignKeys | Reason::TooManyLive, line, .. }) => malformed_behind(body, line),
         _ => None,
     }
 }
 
-/// The lines behind the one with this number, from 1.
-fn lines_behind(body: &[u8], number: usize) -> &[u8] {
-    let mut ends = body.iter().enumerate().filter(|(_, &byte)| byte == b'\n');
-    ends.nth(number - 1).map_or(&[], |(end, _)| &body[end + 1..])
+/// The first malformed line behind the one with this number, up to which all are well formed. A checkpoint is a start only if every line is well
+/// formed, whatever its adds say: the number is found by halving.
+fn malformed_behind(body: &[u8], number: usize) -> Option<usize> {
+    let ends: Vec<usize> =
+        body.iter().enumerate().filter(|(_, &byte)| byte == b'\n').map(|(at, _)| at).chain([body.len()]).collect();
+    let (mut good, mut bad) = (number, ends.len());
+    if are_well_formed(body) {
+        return None;
+    }
+    while bad - good > 1 {
+        let middle = good + (bad - good) / 2;
+        if are_well_formed(&body[..ends[middle - 1]]) {
+            good = middle;
+        } else {
+            bad = middle;
+        }
+    }
+    Some(bad)
+}
+
+/// Whether these lines are a start together with a metaData behind them; also where they are too long to ask.
+fn are_well_formed(lines: &[u8]) -> bool {
+    let asked = behind_zero(b"00000000000000000001.checkpoint.json", &[lines, b"\n", ZERO.body].concat());
+    let refusal = asked.and_then(|asked| kerumpase::read_at(&asked, ALL, 1).err());
+    !matches!(refusal, Some(Refusal { reason: Reason::NotKept, .. }))
 }
 
 /// Whether a marker can be used and names this checkpoint, asked of the library: beside a checkpoint that no reader may read, it makes the latest
@@ -292,7 +310,21 @@ mod tests {
         assert_eq!(fault("\n\n{}"), Some(NoStart::Malformed(2_102)));
         // A start that reading refuses by 7.
         assert_eq!(fault(&format!("\n{META}")), None);
-        assert_eq!((lines_behind(b"a\n\nb", 2), lines_behind(b"a", 1)), (&b"b"[..], &b""[..]));
+    }
+
+    #[test]
+    fn a_fault_behind_a_foreign_add_is_found() {
+        let keyed = ADD.replace("{}", r#"{"class":"7a"}"#);
+        let fault = |lines: &[&str]| malformed_line(lines.join("\n").as_bytes());
+        assert_eq!(fault(&[&keyed, ADD]), None);
+        assert_eq!(fault(&[&keyed, "", ADD, "{}"]), Some(4));
+        assert_eq!(fault(&[&keyed, "{}", ADD, "{}", ""]), Some(2));
+        assert_eq!(fault(&["{}", &keyed]), Some(1));
+        assert_eq!(fault(&[ADD, &keyed, "", "", "x", ""]), Some(5));
+        // As a checkpoint it is a start with its foreign adds, and no start for other reasons.
+        assert_eq!(fault_of([&keyed, META].join("\n").as_bytes()), None);
+        assert_eq!(fault_of(keyed.as_bytes()), Some(NoStart::WithoutMetaData));
+        assert_eq!(fault_of([&keyed, META, "{}"].join("\n").as_bytes()), Some(NoStart::Malformed(3)));
     }
 
     #[test]

@@ -31,7 +31,7 @@ static void print_refused(kerumpase_refused r, size_t length)
 {
     printf("refused %" PRIu32 " entry %zu line %zu\n", r.number, r.entry, r.line);
     fprintf(stderr, "list: %s", kerumpase_refusal_text(r.number));
-    if (r.number == KERUMPASE_MALFORMED || r.number == KERUMPASE_TOO_MANY_LIVE) {
+    if (r.number == KERUMPASE_MALFORMED || r.number == KERUMPASE_TOO_MANY_LIVE || r.number == KERUMPASE_FOREIGN_KEYS) {
         size_t n;
         const char *name = kerumpase_entry_name(bundle, length, r.entry, &n);
         fprintf(stderr, ", in %.*s, line %zu", (int)n, name != NULL ? name : "", r.line);

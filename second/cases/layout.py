@@ -8,7 +8,6 @@ import struct
 
 TABLE, NAMES, MANIFESTS = 4096, 1024, 256
 MARKER = "_last_checkpoint"
-META = '{"metaData":{"id":"t","partitionColumns":["year"]}}\n'
 CHECKPOINT = ".checkpoint.json"
 
 
@@ -40,15 +39,19 @@ def meta_data(columns, table="t", more=""):
     return '{"metaData":{"id":"%s","partitionColumns":[%s]%s}}\n' % (table, ",".join('"%s"' % column for column in columns), more)
 
 
+META = meta_data("")
+YEAR = meta_data(["year"])
+
+
 class bare(str):
     """A checkpoint's lines as they are, with no metaData line put behind them."""
 
 
-def with_meta_data(name, body):
-    """A checkpoint has a metaData line: META at its end if it has lines, but none of its own."""
+def with_meta_data(name, body, table):
+    """A checkpoint has a metaData line: the table's at its end if it has lines, but none of its own."""
     if not name.endswith(CHECKPOINT) or not body or isinstance(body, bare) or "metaData" in body:
         return body
-    return body + ("" if body.endswith("\n") else "\n") + META
+    return body + ("" if body.endswith("\n") else "\n") + table
 
 
 def condition(kind, op, value, column="year"):
@@ -56,13 +59,14 @@ def condition(kind, op, value, column="year"):
 
 
 class Log:
-    """Files by name with their bodies; version 0 is a metaData alone unless said otherwise, and a
-    checkpoint ends with one unless it is bare or has its own."""
+    """Files by name with their bodies; version 0 is a metaData without columns alone unless said
+    otherwise, and a checkpoint ends with version 0's metaData unless it is bare or has its own."""
 
     def __init__(self, files=None, zero=META, modified=0, times=None):
         self.files = {version(0): zero}
         self.files.update(files or {})
-        self.files = {name: with_meta_data(name, body) for name, body in self.files.items() if body is not None}
+        table = next((line + "\n" for line in zero.split("\n") if "metaData" in line), META)
+        self.files = {name: with_meta_data(name, body, table) for name, body in self.files.items() if body is not None}
         self.modified = modified
         self.times = times or {}
 

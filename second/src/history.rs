@@ -1,11 +1,11 @@
 //! History: lines applied in order to a live set, a protocol and the metadata.
 
-use std::collections::BTreeMap;
+use std::collections::{BTreeMap, BTreeSet};
 
-use crate::actions::{self, Action, MetaData, PartitionValues, Protocol};
+use crate::actions::{self, Action, Add, MetaData, PartitionValues, Protocol};
 use crate::lines;
 use crate::log::{Log, Start};
-use crate::refusal::{malformed, too_many_live, Refusal};
+use crate::refusal::{foreign_keys, malformed, too_many_live, Refusal};
 
 const MOST_LIVE: usize = 1_024;
 
@@ -29,6 +29,13 @@ impl LiveFile {
     }
 }
 
+/// Whose lines are applied: only the adds of version files are held to the columns in force.
+#[derive(Clone, Copy, Debug, PartialEq, Eq)]
+enum File {
+    Version,
+    Checkpoint,
+}
+
 /// The live files by decoded path, and the protocol and metadata in force: those of the last line.
 #[derive(Clone, Debug)]
 pub struct State {
@@ -48,6 +55,13 @@ impl State {
         self.meta_data.as_ref().map_or(&[], |meta_data| &meta_data.columns)
     }
 
+    /// An add is foreign when its partition keys are not exactly the columns in force, in any order.
+    fn is_foreign(&self, add: &Add) -> bool {
+        let columns: BTreeSet<&Vec<u8>> = self.columns().iter().collect();
+        let keys: BTreeSet<&Vec<u8>> = add.values.keys().collect();
+        keys != columns
+    }
+
     /// Equal states: the same protocol, the same metadata (id, and columns in order), and the same
     /// files with the same facts, wherever they stand.
     pub fn agrees_with(&self, other: &State) -> bool {
@@ -61,8 +75,9 @@ impl State {
                 .all(|((path, file), (other_path, other_file))| path == other_path && file.has_facts_of(other_file))
     }
 
-    /// Applies the lines of one file; refusal 6 or 7 by the first line met.
-    fn apply_file(&mut self, log: &Log, entry: usize) -> Result<(), Refusal> {
+    /// Applies the lines of one file; refusal 6, 21 or 7 by the first line met, and on one line in
+    /// this order.
+    fn apply_file(&mut self, log: &Log, kind: File, entry: usize) -> Result<(), Refusal> {
         let file = &log.entries[entry];
         let lines = lines::of(file.body);
         for line in &lines {
@@ -70,6 +85,9 @@ impl State {
                 Action::Protocol(protocol) => self.protocol = protocol,
                 Action::MetaData(meta_data) => self.meta_data = Some(meta_data),
                 Action::Add(add) => {
+                    if kind == File::Version && self.is_foreign(&add) {
+                        return Err(foreign_keys(entry, line.number));
+                    }
                     let live_file = LiveFile {
                         position: (file.start + line.position) as u64,
                         length: line.bytes.len() as u64,
@@ -122,7 +140,7 @@ pub fn read_version_zero(log: &Log) -> Result<State, Refusal> {
 /// A checkpoint's state: its own lines applied to an empty set, and to no metadata.
 pub fn read_checkpoint(log: &Log, version: u64) -> Result<State, Refusal> {
     let mut state = State::empty();
-    state.apply_file(log, log.checkpoints[&version])?;
+    state.apply_file(log, File::Checkpoint, log.checkpoints[&version])?;
     Ok(state)
 }
 
@@ -133,7 +151,7 @@ pub fn read_way(log: &Log, version_zero: &State, start: Start, version: u64) -> 
         Start::Checkpoint(checkpoint) => read_checkpoint(log, checkpoint)?,
     };
     for next in start.version() + 1..=version {
-        state.apply_file(log, log.versions[&next])?;
+        state.apply_file(log, File::Version, log.versions[&next])?;
     }
     Ok(state)
 }

@@ -1,4 +1,4 @@
-//! The numbered refusals. Numbers 6 and 7 name entry and line; in all others both are zero.
+//! The numbered refusals. Numbers 6, 7 and 21 name entry and line; in all others both are zero.
 
 #[derive(Clone, Copy, Debug, PartialEq, Eq)]
 pub struct Refusal {
@@ -33,4 +33,9 @@ pub fn malformed(entry: usize, line: u64) -> Refusal {
 /// Refusal 7: more than 1,024 files live after this line.
 pub fn too_many_live(entry: usize, line: u64) -> Refusal {
     Refusal { number: 7, entry: entry as u64, line }
+}
+
+/// Refusal 21: this line's add has other partition keys than the columns in force at it.
+pub fn foreign_keys(entry: usize, line: u64) -> Refusal {
+    Refusal { number: 21, entry: entry as u64, line }
 }

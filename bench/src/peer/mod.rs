@@ -37,21 +37,24 @@ struct State<'a> {
 pub type Answer<T> = Result<T, String>;
 
 impl<'a> State<'a> {
-    /// The lines of a file, in order.
-    fn apply(&mut self, body: Body<'a>) -> Answer<()> {
+    /// The lines of a file, in order; `held` where its adds must have exactly the partition columns in force, as those of a version file.
+    fn apply(&mut self, body: Body<'a>, held: bool) -> Answer<()> {
         let mut place = body.place;
         for line in body.text()?.split('\n') {
             if !line.is_empty() {
-                self.apply_line(line, place)?;
+                self.apply_line(line, place, held)?;
             }
             place += line.len() + 1;
         }
         Ok(())
     }
 
-    fn apply_line(&mut self, line: &'a str, place: usize) -> Answer<()> {
+    fn apply_line(&mut self, line: &'a str, place: usize, held: bool) -> Answer<()> {
         match Action::read(line)? {
             Action::Add(add) => {
+                if held && !self.fits(&add.partition_values) {
+                    return Err("foreign partition keys".to_string());
+                }
                 let row = Row {
                     place: place as u64,
                     length: line.len() as u64,
@@ -72,6 +75,12 @@ impl<'a> State<'a> {
             Action::Other => (),
         }
         Ok(())
+    }
+
+    /// Both are distinct already, so as many keys as columns and each of them a column are all.
+    fn fits(&self, values: &Pairs) -> bool {
+        let columns = self.columns.as_deref().unwrap_or_default();
+        values.0.len() == columns.len() && values.0.iter().all(|(key, _)| columns.contains(key))
     }
 }
 
@@ -114,7 +123,7 @@ fn state_at<'a>(
         at -= 1;
     };
     for next in at + 1..=version {
-        state.apply(log.versions[&next])?;
+        state.apply(log.versions[&next], true)?;
     }
     Ok(state)
 }
@@ -122,7 +131,7 @@ fn state_at<'a>(
 /// The state of a checkpoint, if every line of it is well formed and one is a metaData.
 fn checkpoint<'a>(body: Body<'a>) -> Option<State<'a>> {
     let mut state = State::default();
-    state.apply(body).ok()?;
+    state.apply(body, false).ok()?;
     state.columns.is_some().then_some(state)
 }
 

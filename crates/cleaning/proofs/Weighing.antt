@@ -7,7 +7,7 @@ use native.Mathlib.Omega.{arith}
 use Rattle.rules.specs.Bytes.{Bytes}
 use Rattle.rules.specs.Bundle.{File}
 use Rattle.rules.specs.Live.{mostLive}
-use Rattle.rules.specs.History.{orUnstated, readZero, readFile}
+use Rattle.rules.specs.History.{ofCheckpoint, orUnstated, readZero, readFile}
 use Rattle.rules.specs.History.{State as rState}
 use Rattle.rules.specs.Starts.{Way, nothingLive, follow}
 use Rattle.rules.specs.Gate.{gate, writable}
@@ -135,11 +135,11 @@ module _ (zf f : File) (w : Way) where
   compared-zero e = rw e
 
   module _ (z : rState) (e : readZero zf ≡ accepted z) where
-    compared-mine : {x : Refusal} → readFile mostLive f nothingLive ≡ refused x → compared zf f w ≡ refused x
+    compared-mine : {x : Refusal} → readFile mostLive ofCheckpoint f nothingLive ≡ refused x → compared zf f w ≡ refused x
     unfolding compared
     compared-mine g = rw (e, g)
 
-    compared-with : {mine : rState} → readFile mostLive f nothingLive ≡ accepted mine
+    compared-with : {mine : rState} → readFile mostLive ofCheckpoint f nothingLive ≡ accepted mine
         → compared zf f w ≡ (follow mostLive z w >>= (λ theirs. weighing mine theirs))
     unfolding compared weighing
     compared-with g = rw (e, g)
@@ -152,28 +152,28 @@ module _ (src : Bytes) (entry₀ k : ℕ) (start : Start) (c : ℕ) where
       (compared-zero (fileIn src entry₀) (fileIn src k) w q, subst Later q (later-readZero (fileIn src entry₀)))
 
   module _ (z : State) (d : ZeroIs src (readZero (fileIn src entry₀)) (Done z)) (empty : State) (n : Renewed z empty) (one one′ two : List ℕ) (out : Outcome)
-      (f : OutcomeIs src mostLive (readFile mostLive (fileIn src k) (stateOf src empty one)) one one′ out) where
-    begun : readFile mostLive (fileIn src k) nothingLive ≡ readFile mostLive (fileIn src k) (stateOf src empty one)
-    begun = ap (readFile mostLive (fileIn src k)) (sym (n .0 src one))
+      (f : OutcomeIs src mostLive (readFile mostLive ofCheckpoint (fileIn src k) (stateOf src empty one)) one one′ out) where
+    begun : readFile mostLive ofCheckpoint (fileIn src k) nothingLive ≡ readFile mostLive ofCheckpoint (fileIn src k) (stateOf src empty one)
+    begun = ap (readFile mostLive ofCheckpoint (fileIn src k)) (sym (n .0 src one))
 
     pub compare-refused : (x : CodeRefusal) → out ≡ NotRead x → CompareIs src entry₀ k start c (Refused x) × Left mostLive one one′
     unfolding Later
     compare-refused x e =
-        let p = subst (OutcomeIs src mostLive (readFile mostLive (fileIn src k) (stateOf src empty one)) one one′) e f in (
+        let p = subst (OutcomeIs src mostLive (readFile mostLive ofCheckpoint (fileIn src k) (stateOf src empty one)) one one′) e f in (
           λ w s. (
             compared-mine (fileIn src entry₀) (fileIn src k) w (stateOf src z two) (d .0 two) (begun ∙ p .0),
-            subst Later (p .0) (later-readFile mostLive (fileIn src k) (stateOf src empty one)),
+            subst Later (p .0) (later-readFile mostLive ofCheckpoint (fileIn src k) (stateOf src empty one)),
           ),
           p .1,
         )
 
     pub compare-carries : (mine : State) → out ≡ Done mine → Carries src mostLive mine one′
-    compare-carries mine e = subst (OutcomeIs src mostLive (readFile mostLive (fileIn src k) (stateOf src empty one)) one one′) e f .1 .carries
+    compare-carries mine e = subst (OutcomeIs src mostLive (readFile mostLive ofCheckpoint (fileIn src k) (stateOf src empty one)) one one′) e f .1 .carries
 
     pub compare-done : (mine : State) → out ≡ Done mine → (two′ : List ℕ) (r : Compared) → WithIs src z start c mine one′ two two′ r
         → CompareIs src entry₀ k start c r × Left mostLive one one′ × Left mostLive two two′
     compare-done mine e two′ r h =
-        let p = subst (OutcomeIs src mostLive (readFile mostLive (fileIn src k) (stateOf src empty one)) one one′) e f in (
+        let p = subst (OutcomeIs src mostLive (readFile mostLive ofCheckpoint (fileIn src k) (stateOf src empty one)) one one′) e f in (
           λ w s. subst
               (λ (o : Answer (Unit {0})). ComparedIs o r)
               (sym (compared-with (fileIn src entry₀) (fileIn src k) w (stateOf src z two) (d .0 two) (begun ∙ p .0)))

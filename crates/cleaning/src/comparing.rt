@@ -94,7 +94,7 @@ fn compare(
     match log_replay::read_zero(src, zero) {
         Outcome::Done(z) => {
             let empty = log_replay::nothing_live(z);
-            match log_replay::read_file(src, k, empty, one, MOST_LIVE) {
+            match log_replay::read_file(src, k, empty, one, MOST_LIVE, false) {
                 Outcome::Done(mine) => compare_with(src, z, start, c, mine, one, two),
                 Outcome::Refused(x) => Compared::Refused(x),
             }

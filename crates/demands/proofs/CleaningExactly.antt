@@ -11,7 +11,7 @@ use Rattle.rules.specs.Bytes.{Bytes, allAmong}
 use Rattle.rules.specs.Bundle.{File, bundle}
 use Rattle.rules.specs.Names.{anyTooLarge}
 use Rattle.rules.specs.Live.{mostLive}
-use Rattle.rules.specs.History.{State, readZero, readFile}
+use Rattle.rules.specs.History.{State, ofCheckpoint, readZero, readFile}
 use Rattle.rules.specs.Starts.{logOf, startAt, Way, otherWayTo, nothingLive, follow}
 use Rattle.rules.specs.Marker.{marked}
 use Rattle.rules.specs.Gate.{knownReader, readerNames, gate, writable}
@@ -19,16 +19,18 @@ use Rattle.rules.specs.Agreement.{agree}
 use Rattle.rules.specs.Cleaning.{named, compared, cleanedBy, cleanedAt, Lent, enough, cleaning}
 use Rattle.rules.specs.Same.{SameState}
 use Rattle.rules.specs.Refusals.{Refusal, Answer, accepted, refused, roomTooShort, bundleMalformed, versionTooLarge, noVersionZero}
-use Rattle.rules.specs.Refusals.{malformed, tooManyLive, readerTooHigh, unknownFeature, notWritable, checkpointDisagrees}
+use Rattle.rules.specs.Refusals.{malformed, foreignKeys, tooManyLive, readerTooHigh, unknownFeature, notWritable, checkpointDisagrees}
 use Rattle.rules.proofs.Tests.{true-not-false, false-of, true-of}
 use Rattle.rules.proofs.Agreement.{agree-true, same-agree}
 use Rattle.demands.specs.Reaching.{There}
-use Rattle.demands.specs.Exactly.{SomeTooLarge, Unknown, Readable}
+use Rattle.demands.specs.Met.{Unknown}
+use Rattle.demands.specs.Exactly.{SomeTooLarge, Readable}
 use Rattle.demands.specs.CleaningExactly.{Enough, NotWritable, NothingToName, Begun, Comparing, MetComparing}
 use Rattle.demands.specs.CleaningExactly.{in-zero, in-checkpoint, on-way, Compared, CleaningRefusesExactly}
 use Rattle.demands.proofs.Upward.{marked-start}
 use Rattle.demands.proofs.FirstMet.{readFile-met, met-readFile}
-use Rattle.demands.proofs.WayMet.{readZero-met, met-readZero, follow-met, met-follow, SixOrSeven, metIn-number, metInZero-number, metOn-number}
+use Rattle.demands.proofs.WayMet.{readZero-met, met-readZero, follow-met, met-follow, OfALine, number-6}
+use Rattle.demands.proofs.WayMet.{number-21, number-7, metIn-number, metInZero-number, metOn-number}
 use Rattle.demands.proofs.Words.{anyTooLarge-some, some-anyTooLarge, none-anyTooLarge}
 use Rattle.demands.proofs.Words.{allAmong-unknown, unknown-allAmong, known-allAmong, allAmong-known}
 use Rattle.demands.proofs.CleaningWords.{enough-true, true-enough, notWritable-false, false-notWritable, no-other, some-other}
@@ -38,12 +40,12 @@ use Rattle.demands.proofs.CleaningWords.{enough-true, true-enough, notW
 comparing-met : (zf f : File) (w : Way) (r : Refusal) → MetComparing zf f w r → compared zf f w ≡ refused r
 unfolding compared
 comparing-met zf f w r (in-zero h) = rw (met-readZero zf r h)
-comparing-met zf f w r (in-checkpoint z e h) = rw (e, met-readFile f nothingLive r h)
+comparing-met zf f w r (in-checkpoint z e h) = rw (e, met-readFile ofCheckpoint f nothingLive r h)
 comparing-met zf f w r (on-way z mine e q h) = rw (e, q, met-follow z w r h)
 
-comparing-number : (zf f : File) (w : Way) (r : Refusal) → MetComparing zf f w r → SixOrSeven r
+comparing-number : (zf f : File) (w : Way) (r : Refusal) → MetComparing zf f w r → OfALine r
 comparing-number zf f w r (in-zero h) = metInZero-number zf r h
-comparing-number zf f w r (in-checkpoint z e h) = metIn-number f nothingLive r h
+comparing-number zf f w r (in-checkpoint z e h) = metIn-number ofCheckpoint f nothingLive r h
 comparing-number zf f w r (on-way z mine e q h) = metOn-number z w r h
 
 -- ---- the conditions of cleaning, each with its answer
@@ -58,6 +60,8 @@ module _ (lent : Lent) (s : Bytes) (now retention : ℕ) where
     large : Enough lent → (fs : List File) → bundle s ≡ some fs → SomeTooLarge fs → Says (refused versionTooLarge)
     no-zero : Enough lent → (fs : List File) → bundle s ≡ some fs → (SomeTooLarge fs → ⊥) → logOf fs .versionFile 0 ≡ none → Says (refused noVersionZero)
     six : (e l : ℕ) (c : Comparing lent s) → MetComparing (c .begun .zero) (c .checkpoint) (c .way) (malformed e l) → Says (refused (malformed e l))
+    twenty-one : (e l : ℕ) (c : Comparing lent s) → MetComparing (c .begun .zero) (c .checkpoint) (c .way) (foreignKeys e l)
+        → Says (refused (foreignKeys e l))
     seven : (e l : ℕ) (c : Comparing lent s) → MetComparing (c .begun .zero) (c .checkpoint) (c .way) (tooManyLive e l) → Says (refused (tooManyLive e l))
     high : (c : Compared lent s) → knownReader < c .mine .inForce .minReaderVersion → Says (refused readerTooHigh)
     unknown : (c : Compared lent s) → c .mine .inForce .minReaderVersion ≤ knownReader → Unknown readerNames (c .mine .inForce .readerFeatures)
@@ -93,6 +97,7 @@ module _ (lent : Lent) (s : Bytes) (now retention : ℕ) where
   says-cleaning _ (large l fs e t) = rw (enough-true lent l, e, some-anyTooLarge fs t)
   says-cleaning _ (no-zero l fs e t z) = rw (enough-true lent l, e, none-anyTooLarge fs t, z)
   says-cleaning _ (six e l c m) = comparing-refused c (malformed e l) (comparing-met (c .begun .zero) (c .checkpoint) (c .way) (malformed e l) m)
+  says-cleaning _ (twenty-one e l c m) = comparing-refused c (foreignKeys e l) (comparing-met (c .begun .zero) (c .checkpoint) (c .way) (foreignKeys e l) m)
   says-cleaning _ (seven e l c m) = comparing-refused c (tooManyLive e l) (comparing-met (c .begun .zero) (c .checkpoint) (c .way) (tooManyLive e l) m)
   says-cleaning _ (high c l) =
       comparing-refused
@@ -188,26 +193,27 @@ module _ (lent : Lent) (s : Bytes) (now retention : ℕ) where
   said-comparing : (c : Comparing lent s) → (a : Answer (List ℕ)) × Says a
   said-comparing c = of-zero (readZero (c .begun .zero)) refl
     where
-      met : (r : Refusal) → MetComparing (c .begun .zero) (c .checkpoint) (c .way) r → SixOrSeven r → (a : Answer (List ℕ)) × Says a
-      met r m (inl (e, l, q)) = (_, six e l c (subst (MetComparing (c .begun .zero) (c .checkpoint) (c .way)) q m))
-      met r m (inr (e, l, q)) = (_, seven e l c (subst (MetComparing (c .begun .zero) (c .checkpoint) (c .way)) q m))
+      met : (r : Refusal) → MetComparing (c .begun .zero) (c .checkpoint) (c .way) r → OfALine r → (a : Answer (List ℕ)) × Says a
+      met _ m (number-6 e l) = (_, six e l c m)
+      met _ m (number-21 e l) = (_, twenty-one e l c m)
+      met _ m (number-7 e l) = (_, seven e l c m)
 
       refuses : (r : Refusal) → MetComparing (c .begun .zero) (c .checkpoint) (c .way) r → (a : Answer (List ℕ)) × Says a
       refuses r m = met r m (comparing-number (c .begun .zero) (c .checkpoint) (c .way) r m)
 
-      of-way : (z mine : State) → readZero (c .begun .zero) ≡ accepted z → readFile mostLive (c .checkpoint) nothingLive ≡ accepted mine
+      of-way : (z mine : State) → readZero (c .begun .zero) ≡ accepted z → readFile mostLive ofCheckpoint (c .checkpoint) nothingLive ≡ accepted mine
           → (a : Answer State) → follow mostLive z (c .way) ≡ a → (x : Answer (List ℕ)) × Says x
       of-way z mine e q (accepted theirs) h =
           said-compared (record { comparing = c; z = z; mine = mine; theirs = theirs; zero-read = e; mine-read = q; theirs-read = h })
       of-way z mine e q (refused r) h = refuses r (on-way z mine e q (follow-met z (c .way) r h))
 
-      of-checkpoint : (z : State) → readZero (c .begun .zero) ≡ accepted z → (a : Answer State) → readFile mostLive (c .checkpoint) nothingLive ≡ a
+      of-checkpoint : (z : State) → readZero (c .begun .zero) ≡ accepted z → (a : Answer State) → readFile mostLive ofCheckpoint (c .checkpoint) nothingLive ≡ a
           → (x : Answer (List ℕ)) × Says x
       of-checkpoint z e (accepted mine) q = of-way z mine e q (follow mostLive z (c .way)) refl
-      of-checkpoint z e (refused r) q = refuses r (in-checkpoint z e (readFile-met (c .checkpoint) nothingLive r q))
+      of-checkpoint z e (refused r) q = refuses r (in-checkpoint z e (readFile-met ofCheckpoint (c .checkpoint) nothingLive r q))
 
       of-zero : (a : Answer State) → readZero (c .begun .zero) ≡ a → (x : Answer (List ℕ)) × Says x
-      of-zero (accepted z) e = of-checkpoint z e (readFile mostLive (c .checkpoint) nothingLive) refl
+      of-zero (accepted z) e = of-checkpoint z e (readFile mostLive ofCheckpoint (c .checkpoint) nothingLive) refl
       of-zero (refused r) e = refuses r (in-zero (readZero-met (c .begun .zero) r e))
 
   said-begun : (b : Begun lent s) → (a : Answer (List ℕ)) × Says a
@@ -252,6 +258,7 @@ cleaning-exactly lent s now retention = record {
   no-3 = ((λ e. f3 (given (refused versionTooLarge) e)), λ c. gives _ (large (c .0) (c .1 .0) (c .1 .1) (c .1 .2)));
   no-4 = ((λ e. f4 (given (refused noVersionZero) e)), λ c. gives _ (no-zero (c .0) (c .1 .0) (c .1 .1) (c .1 .2) (c .1 .3)));
   no-6 = λ e l. ((λ h. f6 e l (given (refused (malformed e l)) h)), λ c. gives _ (six e l (c .0) (c .1)));
+  no-21 = λ e l. ((λ h. f21 e l (given (refused (foreignKeys e l)) h)), λ c. gives _ (twenty-one e l (c .0) (c .1)));
   no-7 = λ e l. ((λ h. f7 e l (given (refused (tooManyLive e l)) h)), λ c. gives _ (seven e l (c .0) (c .1)));
   no-8 = ((λ e. f8 (given (refused readerTooHigh) e)), λ c. gives _ (high (c .0) (c .1)));
   no-9 = ((λ e. f9 (given (refused unknownFeature) e)), λ c. gives _ (unknown (c .0) (c .1) (c .2)));
@@ -282,6 +289,10 @@ cleaning-exactly lent s now retention = record {
     f6 : (e l : ℕ) → Says lent s now retention (refused (malformed e l))
         → (c : Comparing lent s) × MetComparing (c .begun .zero) (c .checkpoint) (c .way) (malformed e l)
     f6 e l (six _ _ c m) = (c, m)
+
+    f21 : (e l : ℕ) → Says lent s now retention (refused (foreignKeys e l))
+        → (c : Comparing lent s) × MetComparing (c .begun .zero) (c .checkpoint) (c .way) (foreignKeys e l)
+    f21 e l (twenty-one _ _ c m) = (c, m)
 
     f7 : (e l : ℕ) → Says lent s now retention (refused (tooManyLive e l))
         → (c : Comparing lent s) × MetComparing (c .begun .zero) (c .checkpoint) (c .way) (tooManyLive e l)

@@ -12,9 +12,10 @@ use Rattle.rules.specs.Bytes.{Bytes, allAmong}
 use Rattle.rules.specs.Bundle.{File, bundle}
 use Rattle.rules.specs.Names.{anyTooLarge}
 use Rattle.rules.specs.Lines.{lines, anyObject}
-use Rattle.rules.specs.Actions.{Protocol, action}
+use Rattle.rules.specs.Actions.{Protocol, Action, action}
 use Rattle.rules.specs.Live.{mostLive}
-use Rattle.rules.specs.History.{State, Said, effect, withinLimit, readLine, readLines, readFile, saidNothing, say, zeroLines, orUnstated, readZero}
+use Rattle.rules.specs.History.{State, Origin, ofVersion, ofCheckpoint, fits, Said, effect, withinLimit, act}
+use Rattle.rules.specs.History.{readLine, readLines, readFile, saidNothing, say, zeroLines, orUnstated, readZero}
 use Rattle.rules.specs.Starts.{Log, logOf, startAt, Way, fromZero, fromCheckpoint, andThen, wayTo, otherWayTo, nothingLive, follow}
 use Rattle.rules.specs.Marker.{marked}
 use Rattle.rules.specs.Gate.{knownReader, readerNames, gate, writable}
@@ -26,7 +27,7 @@ use Rattle.rules.specs.Keeping.{keeping}
 use Rattle.rules.specs.Agreement.{agree}
 use Rattle.rules.specs.Cleaning.{named, compared, cleanedBy, cleanedAt, enough, cleaning}
 use Rattle.rules.specs.Refusals.{Refusal, Answer, accepted, refused, _>>=_, orRefuse, require, plain, roomTooShort, bundleMalformed, versionTooLarge}
-use Rattle.rules.specs.Refusals.{noVersionZero, notKept, malformed, tooManyLive, readerTooHigh, unknownFeature, queryMalformed, noSuchColumn}
+use Rattle.rules.specs.Refusals.{noVersionZero, notKept, malformed, foreignKeys, tooManyLive, readerTooHigh, unknownFeature, queryMalformed, noSuchColumn}
 use Rattle.rules.specs.Refusals.{notWritable, checkpointDisagrees, stateMalformed, tooManyManifests}
 use Rattle.rules.proofs.Tests.{apart, true-not-false}
 use Rattle.rules.proofs.Answers.{refused-number}
@@ -67,13 +68,16 @@ never-refused {ks = ks} r h (refused-by s l) e = true-not-false (in-isIn (r .num
 
 module _ (numbers : List ℕ) where
   plain-listed : (k : ℕ) → isIn k numbers ≡ true → OneOf numbers (plain k)
-  plain-listed k h = record { listed = isIn-in k numbers h; else-zero = λ _ _. (refl, refl) }
+  plain-listed k h = record { listed = isIn-in k numbers h; else-zero = λ _ _ _. (refl, refl) }
 
   malformed-listed : (e l : ℕ) → isIn 6 numbers ≡ true → OneOf numbers (malformed e l)
-  malformed-listed e l h = record { listed = isIn-in 6 numbers h; else-zero = λ f _. absurd (f refl) }
+  malformed-listed e l h = record { listed = isIn-in 6 numbers h; else-zero = λ f _ _. absurd (f refl) }
 
   tooMany-listed : (e l : ℕ) → isIn 7 numbers ≡ true → OneOf numbers (tooManyLive e l)
-  tooMany-listed e l h = record { listed = isIn-in 7 numbers h; else-zero = λ _ f. absurd (f refl) }
+  tooMany-listed e l h = record { listed = isIn-in 7 numbers h; else-zero = λ _ f _. absurd (f refl) }
+
+  foreign-listed : (e l : ℕ) → isIn 21 numbers ≡ true → OneOf numbers (foreignKeys e l)
+  foreign-listed e l h = record { listed = isIn-in 21 numbers h; else-zero = λ _ _ f. absurd (f refl) }
 
   ends-bind : {A B : Type 0} {a : Answer A} (f : A → Answer B) → Ends numbers a → ((x : A) → Ends numbers (f x)) → Ends numbers (a >>= f)
   ends-bind f (answered a) h = h a
@@ -89,34 +93,41 @@ module _ (numbers : List ℕ) where
 
   -- ---- reading lines, files and ways
 
-  module _ (six : isIn 6 numbers ≡ true) (seven : isIn 7 numbers ≡ true) where
+  module _ (six : isIn 6 numbers ≡ true) (foreign : isIn 21 numbers ≡ true) (seven : isIn 7 numbers ≡ true) where
     withinLimit-ends : (limit e k : ℕ) (st : State) → Ends numbers (withinLimit limit e k st)
     unfolding withinLimit
     withinLimit-ends limit e k st =
         ends-bind (λ _. accepted st) (ends-require (tooManyLive e k) (leb (length (st .live)) limit) (tooMany-listed e k seven)) (λ _. answered st)
 
-    readLine-ends : (limit e k at : ℕ) (l : Bytes) (st : State) → Ends numbers (readLine limit e k at l st)
+    act-ends : (limit : ℕ) (of : Origin) (e k at size : ℕ) (a : Action) (st : State) → Ends numbers (act limit of e k at size a st)
+    unfolding act
+    act-ends limit of e k at size a st =
+        ends-bind (λ _. withinLimit limit e k (effect at size a st))
+        (ends-require (foreignKeys e k) (fits of a (st .table)) (foreign-listed e k foreign))
+        (λ _. withinLimit-ends limit e k (effect at size a st))
+
+    readLine-ends : (limit : ℕ) (of : Origin) (e k at : ℕ) (l : Bytes) (st : State) → Ends numbers (readLine limit of e k at l st)
     unfolding readLine
-    readLine-ends limit e k at [] st = answered st
-    readLine-ends limit e k at (b ∷ bs) st =
-        ends-bind (λ a. withinLimit limit e k (effect at (length (b ∷ bs)) a st)) (ends-orRefuse (malformed e k) (action (b ∷ bs)) (malformed-listed e k six))
-        (λ a. withinLimit-ends limit e k (effect at (length (b ∷ bs)) a st))
+    readLine-ends limit of e k at [] st = answered st
+    readLine-ends limit of e k at (b ∷ bs) st =
+        ends-bind (λ a. act limit of e k at (length (b ∷ bs)) a st) (ends-orRefuse (malformed e k) (action (b ∷ bs)) (malformed-listed e k six))
+        (λ a. act-ends limit of e k at (length (b ∷ bs)) a st)
 
-    readLines-ends : (limit e k at : ℕ) (ls : List Bytes) (st : State) → Ends numbers (readLines limit e k at ls st)
+    readLines-ends : (limit : ℕ) (of : Origin) (e k at : ℕ) (ls : List Bytes) (st : State) → Ends numbers (readLines limit of e k at ls st)
     unfolding readLines
-    readLines-ends limit e k at [] st = answered st
-    readLines-ends limit e k at (l ∷ ls) st =
+    readLines-ends limit of e k at [] st = answered st
+    readLines-ends limit of e k at (l ∷ ls) st =
         ends-bind
-        (λ next. readLines limit e (suc k) (at + length l + 1) ls next)
-        (readLine-ends limit e k at l st)
-        (λ next. readLines-ends limit e (suc k) (at + length l + 1) ls next)
+        (λ next. readLines limit of e (suc k) (at + length l + 1) ls next)
+        (readLine-ends limit of e k at l st)
+        (λ next. readLines-ends limit of e (suc k) (at + length l + 1) ls next)
 
-    readFile-ends : (limit : ℕ) (f : File) (st : State) → Ends numbers (readFile limit f st)
+    readFile-ends : (limit : ℕ) (of : Origin) (f : File) (st : State) → Ends numbers (readFile limit of f st)
     unfolding readFile
-    readFile-ends limit f st =
+    readFile-ends limit of f st =
         ends-bind
         (λ next. require (malformed (f .entry) 0) (anyObject (lines (f .body))) >>= (λ _. accepted next))
-        (readLines-ends limit (f .entry) 1 (f .start) (lines (f .body)) st)
+        (readLines-ends limit of (f .entry) 1 (f .start) (lines (f .body)) st)
         (λ next. ends-bind (λ _. accepted next) (ends-require (malformed (f .entry) 0) (anyObject (lines (f .body))) (malformed-listed (f .entry) 0 six))
         (λ _. answered next))
 
@@ -143,8 +154,8 @@ module _ (numbers : List ℕ) where
     follow-ends : (limit : ℕ) (z : State) (w : Way) → Ends numbers (follow limit z w)
     unfolding follow
     follow-ends limit z fromZero = answered z
-    follow-ends limit z (fromCheckpoint f) = readFile-ends limit f nothingLive
-    follow-ends limit z (andThen w g) = ends-bind (λ st. readFile limit g st) (follow-ends limit z w) (λ st. readFile-ends limit g st)
+    follow-ends limit z (fromCheckpoint f) = readFile-ends limit ofCheckpoint f nothingLive
+    follow-ends limit z (andThen w g) = ends-bind (λ st. readFile limit ofVersion g st) (follow-ends limit z w) (λ st. readFile-ends limit ofVersion g st)
 
   gate-ends : isIn 8 numbers ≡ true → isIn 9 numbers ≡ true → (p : Protocol) → Ends numbers (gate p)
   unfolding gate
@@ -157,7 +168,7 @@ module _ (numbers : List ℕ) where
 -- ---- reading
 
 forReading : List ℕ
-forReading = 1 ∷ 10 ∷ 2 ∷ 3 ∷ 4 ∷ 5 ∷ 6 ∷ 7 ∷ 8 ∷ 9 ∷ 11 ∷ []
+forReading = 1 ∷ 10 ∷ 2 ∷ 3 ∷ 4 ∷ 5 ∷ 6 ∷ 21 ∷ 7 ∷ 8 ∷ 9 ∷ 11 ∷ []
 
 listing-ends : (cs : List Condition) (v : ℕ) (st : State) → Ends forReading (listing cs v st)
 unfolding listing isIn forReading
@@ -171,7 +182,7 @@ unfolding stateWithin isIn forReading
 stateBy-ends log way =
     ends-bind forReading _ (ends-orRefuse forReading noVersionZero (log .versionFile 0) (plain-listed forReading 4 refl))
     (λ f. ends-bind forReading _ (ends-orRefuse forReading notKept way (plain-listed forReading 5 refl))
-    (λ w. ends-bind forReading _ (readZero-ends forReading refl refl f) (λ z. follow-ends forReading refl refl mostLive z w)))
+    (λ w. ends-bind forReading _ (readZero-ends forReading refl refl refl f) (λ z. follow-ends forReading refl refl refl mostLive z w)))
 
 pub reading-ends : ReadingEnds
 unfolding reading listingAt listingWithin isIn forReading
@@ -200,14 +211,14 @@ keeping-ends room state q =
 -- ---- cleaning
 
 forCleaning : List ℕ
-forCleaning = 1 ∷ 2 ∷ 3 ∷ 4 ∷ 6 ∷ 7 ∷ 8 ∷ 9 ∷ 12 ∷ 13 ∷ []
+forCleaning = 1 ∷ 2 ∷ 3 ∷ 4 ∷ 6 ∷ 21 ∷ 7 ∷ 8 ∷ 9 ∷ 12 ∷ 13 ∷ []
 
 compared-ends : (zf f : File) (w : Way) → Ends forCleaning (compared zf f w)
 unfolding compared isIn forCleaning
 compared-ends zf f w =
-    ends-bind forCleaning _ (readZero-ends forCleaning refl refl zf)
-    (λ z. ends-bind forCleaning _ (readFile-ends forCleaning refl refl mostLive f nothingLive)
-    (λ mine. ends-bind forCleaning _ (follow-ends forCleaning refl refl mostLive z w)
+    ends-bind forCleaning _ (readZero-ends forCleaning refl refl refl zf)
+    (λ z. ends-bind forCleaning _ (readFile-ends forCleaning refl refl refl mostLive ofCheckpoint f nothingLive)
+    (λ mine. ends-bind forCleaning _ (follow-ends forCleaning refl refl refl mostLive z w)
     (λ theirs. ends-bind forCleaning _ (gate-ends forCleaning refl refl (mine .inForce))
     (λ _. ends-bind forCleaning _ (ends-require forCleaning notWritable (writable (mine .inForce)) (plain-listed forCleaning 12 refl))
     (λ _. ends-require forCleaning checkpointDisagrees (agree mine theirs) (plain-listed forCleaning 13 refl))))))

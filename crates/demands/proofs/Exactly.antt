@@ -1,6 +1,5 @@
 -- Demand 2 of reading and keeping: one condition holds for every input, each gives its refusal, and no two are the same refusal.
 use mathlib.Core.Path.{_≡_, refl, sym, _∙_, ap, subst}
-use mathlib.Core.Logic.{inl, inr}
 use mathlib.Core.Bool.{Bool, true, false}
 use mathlib.Core.Option.{Option, none, some}
 use mathlib.Core.List.{List}
@@ -17,15 +16,15 @@ use Rattle.rules.specs.Query.{Condition, query}
 use Rattle.rules.specs.Rooms.{rowsRoom}
 use Rattle.rules.specs.Reading.{Asked, Listing, listing, listingAt, reading, stateWithin, listingWithin}
 use Rattle.rules.specs.Refusals.{Refusal, Answer, accepted, refused, roomTooShort, bundleMalformed, versionTooLarge, noVersionZero}
-use Rattle.rules.specs.Refusals.{notKept, malformed, tooManyLive, readerTooHigh, unknownFeature, queryMalformed, noSuchColumn}
+use Rattle.rules.specs.Refusals.{notKept, malformed, foreignKeys, tooManyLive, readerTooHigh, unknownFeature, queryMalformed, noSuchColumn}
 use Rattle.rules.proofs.Tests.{true-not-false}
 use Rattle.rules.proofs.Readings.{reading-is}
 use Rattle.demands.specs.Reaching.{There, NoStart}
-use Rattle.demands.specs.Met.{Met}
-use Rattle.demands.specs.Exactly.{SomeTooLarge, Unknown, Readable, Opened, logIn, versionIn, Reached, Read, columnsAsked, answerOf, ReadingRefusesExactly}
+use Rattle.demands.specs.Met.{Unknown, Met}
+use Rattle.demands.specs.Exactly.{SomeTooLarge, Readable, Opened, logIn, versionIn, Reached, Read, columnsAsked, answerOf, ReadingRefusesExactly}
 use Rattle.demands.proofs.Starts.{no-way-no-start, way-some-start}
 use Rattle.demands.proofs.Readable.{stateBy-is}
-use Rattle.demands.proofs.WayMet.{SixOrSeven, met-number, fromZeroOn, way-met, met-way}
+use Rattle.demands.proofs.WayMet.{OfALine, number-6, number-21, number-7, met-number, fromZeroOn, way-met, met-way}
 use Rattle.demands.proofs.Words.{anyTooLarge-some, some-anyTooLarge, none-anyTooLarge}
 use Rattle.demands.proofs.Words.{allAmong-unknown, unknown-allAmong, known-allAmong, allAmong-known}
 
@@ -40,6 +39,7 @@ module _ (room : ℕ) (s q : Bytes) (asked : Asked) where
     no-zero : (o : Opened room s q) → logIn asked o .versionFile 0 ≡ none → Says (refused noVersionZero)
     not-kept : (o : Opened room s q) → There (logIn asked o .versionFile 0) → NoStart (logIn asked o) (versionIn asked o) → Says (refused notKept)
     six : (e l : ℕ) (r : Reached room s q asked) → Met (r .zero) (r .way) (malformed e l) → Says (refused (malformed e l))
+    twenty-one : (e l : ℕ) (r : Reached room s q asked) → Met (r .zero) (r .way) (foreignKeys e l) → Says (refused (foreignKeys e l))
     seven : (e l : ℕ) (r : Reached room s q asked) → Met (r .zero) (r .way) (tooManyLive e l) → Says (refused (tooManyLive e l))
     high : (r : Read room s q asked) → knownReader < r .state .inForce .minReaderVersion → Says (refused readerTooHigh)
     unknown : (r : Read room s q asked) → r .state .inForce .minReaderVersion ≤ knownReader → Unknown readerNames (r .state .inForce .readerFeatures)
@@ -81,6 +81,7 @@ module _ (room : ℕ) (s q : Bytes) (asked : Asked) where
       go none e = rw (z .1, e)
       go (some w) e = let p = way-some-start (logIn asked o) (versionIn asked o) w z e in absurd (n (p .s) (p .start) (p .reaches))
   says-reading _ (six e l r m) = reached-is r (malformed e l) m
+  says-reading _ (twenty-one e l r m) = reached-is r (foreignKeys e l) m
   says-reading _ (seven e l r m) = reached-is r (tooManyLive e l) m
   says-reading _ (high r l) = read-is r ∙ rw (lt-leb (r .state .inForce .minReaderVersion) knownReader l)
   says-reading _ (unknown r l u) =
@@ -133,9 +134,10 @@ module _ (room : ℕ) (s q : Bytes) (asked : Asked) where
   said-reached : (r : Reached room s q asked) → (a : Answer Listing) × Says a
   said-reached r = go (fromZeroOn (r .zero) (r .way)) refl
     where
-      met : (x : Refusal) → Met (r .zero) (r .way) x → SixOrSeven x → (a : Answer Listing) × Says a
-      met x m (inl (e, l, q)) = (_, six e l r (subst (Met (r .zero) (r .way)) q m))
-      met x m (inr (e, l, q)) = (_, seven e l r (subst (Met (r .zero) (r .way)) q m))
+      met : (x : Refusal) → Met (r .zero) (r .way) x → OfALine x → (a : Answer Listing) × Says a
+      met _ m (number-6 e l) = (_, six e l r m)
+      met _ m (number-21 e l) = (_, twenty-one e l r m)
+      met _ m (number-7 e l) = (_, seven e l r m)
 
       go : (a : Answer State) → fromZeroOn (r .zero) (r .way) ≡ a → (x : Answer Listing) × Says x
       go (accepted st) e =
@@ -186,6 +188,7 @@ reading-exactly room s q asked = record {
   no-4 = ((λ e. f4 (given (refused noVersionZero) e)), λ c. says-reading room s q asked _ (no-zero (c .0) (c .1)));
   no-5 = ((λ e. f5 (given (refused notKept) e)), λ c. says-reading room s q asked _ (not-kept (c .0) (c .1) (c .2)));
   no-6 = λ e l. ((λ h. f6 e l (given (refused (malformed e l)) h)), λ c. says-reading room s q asked _ (six e l (c .0) (c .1)));
+  no-21 = λ e l. ((λ h. f21 e l (given (refused (foreignKeys e l)) h)), λ c. says-reading room s q asked _ (twenty-one e l (c .0) (c .1)));
   no-7 = λ e l. ((λ h. f7 e l (given (refused (tooManyLive e l)) h)), λ c. says-reading room s q asked _ (seven e l (c .0) (c .1)));
   no-8 = ((λ e. f8 (given (refused readerTooHigh) e)), λ c. says-reading room s q asked _ (high (c .0) (c .1)));
   no-9 = ((λ e. f9 (given (refused unknownFeature) e)), λ c. says-reading room s q asked _ (unknown (c .0) (c .1) (c .2)));
@@ -216,6 +219,9 @@ reading-exactly room s q asked = record {
 
     f6 : (e l : ℕ) → Says room s q asked (refused (malformed e l)) → (r : Reached room s q asked) × Met (r .zero) (r .way) (malformed e l)
     f6 e l (six _ _ r m) = (r, m)
+
+    f21 : (e l : ℕ) → Says room s q asked (refused (foreignKeys e l)) → (r : Reached room s q asked) × Met (r .zero) (r .way) (foreignKeys e l)
+    f21 e l (twenty-one _ _ r m) = (r, m)
 
     f7 : (e l : ℕ) → Says room s q asked (refused (tooManyLive e l)) → (r : Reached room s q asked) × Met (r .zero) (r .way) (tooManyLive e l)
     f7 e l (seven _ _ r m) = (r, m)

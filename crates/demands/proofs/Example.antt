@@ -15,7 +15,7 @@ use Rattle.rules.specs.Reading.{stateBy, stateWithin}
 use Rattle.rules.specs.Agreement.{agree}
 use Rattle.rules.specs.Same.{IsTrue}
 use Rattle.rules.specs.Edges.{Holds}
-use Rattle.rules.specs.Refusals.{Refusal, Answer, accepted, refused, tooManyLive, notKept}
+use Rattle.rules.specs.Refusals.{Refusal, Answer, accepted, refused, foreignKeys, tooManyLive, notKept}
 use Rattle.rules.proofs.Opened.{rules}
 use Rattle.rules.proofs.Tests.{apart}
 use Rattle.rules.proofs.Answers.{refused-number}
@@ -168,6 +168,7 @@ example-is-full = (
     zero-readable = λ f e. accepted-by (readZero f) (passes-there zeroReadable (log .versionFile 0) f (readable-files .0) e);
     others-readable = others-readable;
     checkpoints-true = checkpoints-true;
+    none-foreign = none-foreign;
     never-over = never-over;
   },
 )
@@ -187,6 +188,12 @@ example-is-full = (
     checkpoints-true zero f e = let q : log .checkpointFile zero ≡ none = no-checkpoint zero (λ q. omega arith) in apart (cc)
     checkpoints-true (suc zero) f e = agreeing-true 1 f (passes-there (trueAt 1) (log .checkpointFile 1) f (readable-files .3) e)
     checkpoints-true (suc (suc c)) f e = let q : log .checkpointFile (suc (suc c)) ≡ none = no-checkpoint (suc (suc c)) (λ q. omega arith) in apart (cc)
+
+    none-foreign : (v e l : ℕ) → v ≤ 2 → stateBy log (historyTo log v) ≡ refused (foreignKeys e l) → ⊥
+    none-foreign zero e l b h = never-refused (stateBy log (historyTo log 0)) (foreignKeys e l) (history-files .0) h
+    none-foreign (suc zero) e l b h = never-refused (stateBy log (historyTo log 1)) (foreignKeys e l) (history-files .1) h
+    none-foreign (suc (suc zero)) e l b h = never-refused (stateBy log (historyTo log 2)) (foreignKeys e l) (history-files .2) h
+    none-foreign (suc (suc (suc v))) e l b h = absurd (omega arith)
 
     never-over : (v e l : ℕ) → stateBy log (historyTo log v) ≡ refused (tooManyLive e l) → ⊥
     never-over zero e l h = never-refused (stateBy log (historyTo log 0)) (tooManyLive e l) (history-files .0) h

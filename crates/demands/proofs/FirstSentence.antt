@@ -11,7 +11,7 @@ use Rattle.rules.specs.Bytes.{allAmong}
 use Rattle.rules.specs.Bundle.{File}
 use Rattle.rules.specs.Names.{Name, versionIn, checkpointIn, is}
 use Rattle.rules.specs.Live.{mostLive}
-use Rattle.rules.specs.History.{State, readFile, readZero}
+use Rattle.rules.specs.History.{State, ofVersion, ofCheckpoint, readFile, readZero}
 use Rattle.rules.specs.Starts.{Log, logOf, startAt, Way, fromZero, fromCheckpoint, onwardBy, byFile, byStart, wayTo, historyTo, nothingLive, follow}
 use Rattle.rules.specs.Gate.{knownReader, readerNames, gate, writable}
 use Rattle.rules.specs.Query.{Condition, columnOf}
@@ -47,7 +47,8 @@ module _ (z z′ : State) where
   unfolding onwardBy follow
   onwardBy-agree f g p unreached = unreached
   onwardBy-agree f g p (reached r) =
-      reached (same-bind (λ st. readFile mostLive f st) (λ st. readFile mostLive g st) r (λ a b q. readFile-same mostLive f g a b (p .body) q))
+      reached (same-bind (λ st. readFile mostLive ofVersion f st) (λ st. readFile mostLive ofVersion g st) r
+      (λ a b q. readFile-same mostLive ofVersion f g a b (p .body) q))
 
   byFile-agree : {o o′ : Option File} (k l : Unit {0} → Option Way) → Left o o′ → Agree (k tt) (l tt) → Agree (byFile o k) (byFile o′ l)
   unfolding byFile
@@ -100,10 +101,11 @@ module _ (fs gs : List File) (n : ℕ) (full : FullHistory fs n)
       let p = left-there g (start-left (logOf fs) (logOf gs) v (checkpoints v)) eg in
       let f = p .0 in
       let t = full .checkpoints-true v f (start-found (logOf fs) v f (p .1)) in
-      let own : readFile mostLive f nothingLive ≡ accepted (t .own) =
+      let own : readFile mostLive ofCheckpoint f nothingLive ≡ accepted (t .own) =
       from-zero zf (fromCheckpoint f) z (t .own) ez (sym (stateBy-is (logOf fs) (some (fromCheckpoint f)) zf (fromCheckpoint f) e refl) ∙ t .own-read) in
       let h = told v (t .history) l (t .history-read) in
-      let a : SameAnswer SameState (follow mostLive z (h .0)) (readFile mostLive f nothingLive) = rw (h .2, own) (both-accepted (same-state-sym (t .same))) in
+      let a : SameAnswer SameState (follow mostLive z (h .0)) (readFile mostLive ofCheckpoint f nothingLive) =
+      rw (h .2, own) (both-accepted (same-state-sym (t .same))) in
       rw (h .1) (reached (same-answer-trans (λ x y u. same-state-trans) a (begun-same mostLive f g (p .2 .body))))
 
   way-same : (v : ℕ) → v ≤ n → (w : Way) → wayTo (logOf gs) v ≡ some w

@@ -1,4 +1,4 @@
--- A readable file is accepted, or has more than 1,024 live: so a full history has a state at each of its versions.
+-- A well-formed file is accepted, or has a foreign add or more than 1,024 live: so a full history has a state at each of its versions.
 use mathlib.Core.Path.{_≡_, refl, sym, _∙_, subst}
 use mathlib.Core.Bool.{Bool, true, false}
 use mathlib.Core.Option.{Option, none, some}
@@ -12,11 +12,11 @@ use Rattle.rules.specs.Bundle.{File}
 use Rattle.rules.specs.Lines.{lines, anyObject}
 use Rattle.rules.specs.Actions.{Action, action}
 use Rattle.rules.specs.Live.{mostLive}
-use Rattle.rules.specs.History.{State, effect, withinLimit, readLine, readLines, readFile, readZero}
+use Rattle.rules.specs.History.{State, ofVersion, ofCheckpoint, fits, effect, withinLimit, act, readLine, readLines, readFile, readZero}
 use Rattle.rules.specs.Starts.{Log, logOf, everyLine, wellFormed, isStart, startAt, Way, fromZero}
 use Rattle.rules.specs.Starts.{fromCheckpoint, andThen, byFile, onwardBy, historyTo, nothingLive, follow}
 use Rattle.rules.specs.Reading.{stateBy, stateWithin}
-use Rattle.rules.specs.Refusals.{_>>=_, Answer, accepted, refused, orRefuse, require, noVersionZero, notKept, malformed, tooManyLive}
+use Rattle.rules.specs.Refusals.{_>>=_, Answer, accepted, refused, orRefuse, require, noVersionZero, notKept, malformed, foreignKeys, tooManyLive}
 use Rattle.rules.proofs.Tests.{apart}
 use Rattle.rules.proofs.Replaying.{bind-accepted, readFile-keeps}
 use Rattle.rules.proofs.Readable.{readFile-readable}
@@ -29,10 +29,12 @@ use Rattle.demands.proofs.StartsExactly.{ifStart-there}
 
 data Fine : Answer State → Type 0 where
   fine : (st : State) → Fine (accepted st)
+  foreign : (e l : ℕ) → Fine (refused (foreignKeys e l))
   over : (e l : ℕ) → Fine (refused (tooManyLive e l))
 
 fine-bind : {x : Answer State} (f : State → Answer State) → Fine x → ((st : State) → Fine (f st)) → Fine (x >>= f)
 fine-bind f (fine st) h = h st
+fine-bind f (foreign e l) h = foreign e l
 fine-bind f (over e l) h = over e l
 
 -- ---- lines and files
@@ -45,26 +47,34 @@ withinLimit-fine e k st = go (leb (length (st .live)) mostLive)
     go true = fine st
     go false = over e k
 
+act-fine : (e k at size : ℕ) (a : Action) (st : State) → Fine (act mostLive ofVersion e k at size a st)
+unfolding act
+act-fine e k at size a st = go (fits ofVersion a (st .table))
+  where
+    go : (b : Bool) → Fine (require (foreignKeys e k) b >>= (λ _. withinLimit mostLive e k (effect at size a st)))
+    go true = withinLimit-fine e k (effect at size a st)
+    go false = foreign e k
+
 -- a line, and those after it
 everyLine-cons : (l : Bytes) (ls : List Bytes) → everyLine (l ∷ ls) ≡ true
-    → ((e k at : ℕ) (st : State) → Fine (readLine mostLive e k at l st)) × (everyLine ls ≡ true)
+    → ((e k at : ℕ) (st : State) → Fine (readLine mostLive ofVersion e k at l st)) × (everyLine ls ≡ true)
 unfolding everyLine readLine
 everyLine-cons [] ls h = ((λ e k at st. fine st), h)
 everyLine-cons (b ∷ bs) ls h = go (action (b ∷ bs)) h
   where
     go : (o : Option Action) → elim o [ none ↦ false | some a ↦ everyLine ls ] ≡ true
-        → ((e k at : ℕ) (st : State) → Fine (orRefuse (malformed e k) o >>= (λ a. withinLimit mostLive e k (effect at (length (b ∷ bs)) a st))))
+        → ((e k at : ℕ) (st : State) → Fine (orRefuse (malformed e k) o >>= (λ a. act mostLive ofVersion e k at (length (b ∷ bs)) a st)))
         × (everyLine ls ≡ true)
     go none h = apart (cc)
-    go (some a) h = ((λ e k at st. withinLimit-fine e k (effect at (length (b ∷ bs)) a st)), h)
+    go (some a) h = ((λ e k at st. act-fine e k at (length (b ∷ bs)) a st), h)
 
-readLines-fine : (e k at : ℕ) (ls : List Bytes) (st : State) → everyLine ls ≡ true → Fine (readLines mostLive e k at ls st)
+readLines-fine : (e k at : ℕ) (ls : List Bytes) (st : State) → everyLine ls ≡ true → Fine (readLines mostLive ofVersion e k at ls st)
 unfolding readLines
 readLines-fine e k at [] st h = fine st
 readLines-fine e k at (l ∷ ls) st h =
     let p = everyLine-cons l ls h in
     fine-bind
-    (λ next. readLines mostLive e (suc k) (at + length l + 1) ls next)
+    (λ next. readLines mostLive ofVersion e (suc k) (at + length l + 1) ls next)
     (p .0 e k at st)
     (λ next. readLines-fine e (suc k) (at + length l + 1) ls next (p .1))
 
@@ -77,7 +87,7 @@ wellFormed-both body h = go (anyObject (lines body)) refl h
     go true e h = (e, h)
     go false e h = apart (cc)
 
-readFile-fine : (f : File) (st : State) → wellFormed (f .body) ≡ true → Fine (readFile mostLive f st)
+readFile-fine : (f : File) (st : State) → wellFormed (f .body) ≡ true → Fine (readFile mostLive ofVersion f st)
 unfolding readFile
 readFile-fine f st h =
     let p = wellFormed-both (f .body) h in
@@ -104,7 +114,7 @@ history-fine log r (suc v) h z e =
     let u = b .2 .0 in
     let g = b .0 in
     subst (λ (w : Way). Fine (follow mostLive z w)) (b .2 .2)
-    (fine-bind (λ st. readFile mostLive g st) (history-fine log r v u z (b .2 .1)) (λ st. readFile-fine g st (r v g (b .1))))
+    (fine-bind (λ st. readFile mostLive ofVersion g st) (history-fine log r v u z (b .2 .1)) (λ st. readFile-fine g st (r v g (b .1))))
 
 -- reading from version file `zf` along w
 pub stateBy-is : (log : Log) (o : Option Way) (zf : File) (w : Way) → log .versionFile 0 ≡ some zf → o ≡ some w
@@ -125,6 +135,7 @@ history-told fs n full v l =
         → stateBy (logOf fs) (historyTo (logOf fs) v) ≡ (readZero zf >>= (λ z. follow mostLive z h))
         → (a : Answer State) → follow mostLive x h ≡ a → Fine a → (st : State) × (stateBy (logOf fs) (historyTo (logOf fs) v) ≡ accepted st)
     go zf h x ez e _ ef (fine st) = (st, e ∙ rw (ez, ef))
+    go zf h x ez e _ ef (foreign i j) = absurd (full .none-foreign v i j l (e ∙ rw (ez, ef)))
     go zf h x ez e _ ef (over i j) = absurd (full .never-over v i j (e ∙ rw (ez, ef)))
 
 -- ---- and what is accepted is readable
@@ -140,10 +151,11 @@ history-id log zero h z st e p f =
 history-id log (suc v) h z st e p f =
     let b = byFile-some (log .versionFile (suc v)) (λ _. historyTo log v) h e in
     let r : follow mostLive z (andThen (b .2 .0) (b .0)) ≡ accepted st = subst (λ (w : Way). follow mostLive z w ≡ accepted st) (sym (b .2 .2)) f in
-    let c = bind-accepted (follow mostLive z (b .2 .0)) (λ x. readFile mostLive (b .0) x) r in
+    let c = bind-accepted (follow mostLive z (b .2 .0)) (λ x. readFile mostLive ofVersion (b .0) x) r in
     readFile-keeps mostLive
     (λ (x : State). HasId (x .table))
     (id-kept mostLive)
+    ofVersion
     (b .0)
     (c .0)
     st
@@ -166,8 +178,8 @@ true-is-start log c f e t =
     let (zf, (z, (u, (q, (ez, own))))) = stateBy-begun log (some (fromCheckpoint f)) (t .own) (t .own-read) in
     let (yf, (y, (h, (p, (ey, his))))) = stateBy-begun log (historyTo log c) (t .history) (t .history-read) in
     let w : fromCheckpoint f ≡ u = cc in
-    let mine : readFile mostLive f nothingLive ≡ accepted (t .own) = subst (λ (x : Way). follow mostLive z x ≡ accepted (t .own)) (sym w) own in
+    let mine : readFile mostLive ofCheckpoint f nothingLive ≡ accepted (t .own) = subst (λ (x : Way). follow mostLive z x ≡ accepted (t .own)) (sym w) own in
     let id : HasId (t .own .table) = subst HasId (sym (t .same .table)) (history-id log c h y (t .history) p (readZero-id yf y ey) his) in
     let s : isStart (f .body) ≡ true =
-    isStart-both (f .body) (readFile-readable mostLive f nothingLive (t .own) mine) (readFile-says mostLive f (t .own) mine id) in
+    isStart-both (f .body) (readFile-readable mostLive ofCheckpoint f nothingLive (t .own) mine) (readFile-says mostLive f (t .own) mine id) in
     ifStart-there (log .checkpointFile c) f e s

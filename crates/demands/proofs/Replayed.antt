@@ -11,7 +11,7 @@ use Rattle.rules.specs.Bundle.{File}
 use Rattle.rules.specs.Lines.{lines, anyObject}
 use Rattle.rules.specs.Actions.{Facts, MetaData, Protocol, Action, add, remove, protocol, metaData, mergeskip, other, action}
 use Rattle.rules.specs.Live.{mostLive, Row, pathOf, put, takeOut}
-use Rattle.rules.specs.History.{State, Said, effect, withinLimit, readLine, readLines, readFile}
+use Rattle.rules.specs.History.{State, Origin, ofVersion, ofCheckpoint, Said, effect, act, readLine, readLines, readFile}
 use Rattle.rules.specs.History.{saidNothing, sayTable, sayProtocol, say, zeroLines, orUnstated, readZero}
 use Rattle.rules.specs.Starts.{Way, fromZero, fromCheckpoint, andThen, nothingLive, follow}
 use Rattle.rules.specs.Reading.{stateWithin}
@@ -20,7 +20,7 @@ use Rattle.rules.proofs.Tests.{apart, by}
 use Rattle.rules.proofs.Order.{same-true, same-false}
 use Rattle.rules.specs.Keyed.{Ascends, lookup}
 use Rattle.rules.proofs.Live.{lookup-put, lookup-put-other, lookup-takeOut, lookup-takeOut-other}
-use Rattle.rules.proofs.Replaying.{bind-accepted, withinLimit-accepted, effect-ascends, Ordered, stateBy-live}
+use Rattle.rules.proofs.Replaying.{bind-accepted, withinLimit-accepted, act-accepted, effect-ascends, Ordered, stateBy-live}
 use Rattle.rules.proofs.Answers.{orRefuse-accepted}
 use Rattle.rules.proofs.Json.Suffix.{some-same}
 use Rattle.demands.specs.Replayed.{Line, linesFrom, linesIn, linesOn, actions, after, afterAll, liveAt, lastProtocol}
@@ -118,41 +118,42 @@ goes-more at size a ls st to s g = record {
   ordered = g .ordered;
 }
 
-readLines-goes : (e k at : ℕ) (ls : List Bytes) (st to : State) → Ordered st → readLines mostLive e k at ls st ≡ accepted to → Goes (linesFrom at ls) st to
+readLines-goes : (of : Origin) (e k at : ℕ) (ls : List Bytes) (st to : State) → Ordered st → readLines mostLive of e k at ls st ≡ accepted to
+    → Goes (linesFrom at ls) st to
 unfolding readLines readLine linesFrom afterAll actions lastProtocol lastTable
-readLines-goes e k at [] st to s h =
+readLines-goes of e k at [] st to s h =
     let q : st ≡ to = cc in
     subst (λ (x : State). Goes [] st x) q (record { live = λ p. refl; table = refl; inForce = refl; ordered = s })
-readLines-goes e k at ([] ∷ ls) st to s h =
+readLines-goes of e k at ([] ∷ ls) st to s h =
     let q : at + 0 + 1 ≡ at + 1 = omega arith in
-    readLines-goes e (suc k) (at + 1) ls st to s (subst (λ (x : ℕ). readLines mostLive e (suc k) x ls st ≡ accepted to) q h)
-readLines-goes e k at ((b ∷ bs) ∷ ls) st to s h = go (action (b ∷ bs)) h (λ next. readLines-goes e (suc k) (at + size + 1) ls next to)
+    readLines-goes of e (suc k) (at + 1) ls st to s (subst (λ (x : ℕ). readLines mostLive of e (suc k) x ls st ≡ accepted to) q h)
+readLines-goes of e k at ((b ∷ bs) ∷ ls) st to s h = go (action (b ∷ bs)) h (λ next. readLines-goes of e (suc k) (at + size + 1) ls next to)
   where
     size : ℕ
     size = length (b ∷ bs)
 
     go : (o : Option Action)
-        → ((orRefuse (malformed e k) o >>= (λ a. withinLimit mostLive e k (effect at size a st)))
-        >>= (λ next. readLines mostLive e (suc k) (at + size + 1) ls next)) ≡ accepted to
-        → ((next : State) → Ordered next → readLines mostLive e (suc k) (at + size + 1) ls next ≡ accepted to → Goes (linesFrom (at + size + 1) ls) next to)
+        → ((orRefuse (malformed e k) o >>= (λ a. act mostLive of e k at size a st))
+        >>= (λ next. readLines mostLive of e (suc k) (at + size + 1) ls next)) ≡ accepted to
+        → ((next : State) → Ordered next → readLines mostLive of e (suc k) (at + size + 1) ls next ≡ accepted to → Goes (linesFrom (at + size + 1) ls) next to)
         → Goes (elim o [ none ↦ linesFrom (at + size + 1) ls | some a ↦ record { at = at; size = size; does = a } ∷ linesFrom (at + size + 1) ls ]) st to
     go none h ih = apart (cc)
     go (some a) h ih =
-        let r = bind-accepted (withinLimit mostLive e k (effect at size a st)) (λ next. readLines mostLive e (suc k) (at + size + 1) ls next) h in
-        let w = withinLimit-accepted mostLive e k (effect at size a st) (r .1) in
-        let t : readLines mostLive e (suc k) (at + size + 1) ls (effect at size a st) ≡ accepted to =
-        subst (λ (x : State). readLines mostLive e (suc k) (at + size + 1) ls x ≡ accepted to) (sym (w .0)) (r .2) in
+        let r = bind-accepted (act mostLive of e k at size a st) (λ next. readLines mostLive of e (suc k) (at + size + 1) ls next) h in
+        let w = withinLimit-accepted mostLive e k (effect at size a st) (act-accepted mostLive of e k at size a st (r .1) .1) in
+        let t : readLines mostLive of e (suc k) (at + size + 1) ls (effect at size a st) ≡ accepted to =
+        subst (λ (x : State). readLines mostLive of e (suc k) (at + size + 1) ls x ≡ accepted to) (sym (w .0)) (r .2) in
         goes-more at size a (linesFrom (at + size + 1) ls) st to s (ih (effect at size a st) (effect-ascends at size a st s) t)
 
-readFile-goes : (f : File) (st to : State) → Ordered st → readFile mostLive f st ≡ accepted to → Goes (linesIn f) st to
+readFile-goes : (of : Origin) (f : File) (st to : State) → Ordered st → readFile mostLive of f st ≡ accepted to → Goes (linesIn f) st to
 unfolding readFile
-readFile-goes f st to s h =
-    let r = bind-accepted (readLines mostLive (f .entry) 1 (f .start) (lines (f .body)) st)
+readFile-goes of f st to s h =
+    let r = bind-accepted (readLines mostLive of (f .entry) 1 (f .start) (lines (f .body)) st)
     (λ next. require (malformed (f .entry) 0) (anyObject (lines (f .body))) >>= (λ _. accepted next)) h in
     let t = bind-accepted (require (malformed (f .entry) 0) (anyObject (lines (f .body)))) (λ _. accepted (r .0)) (r .2) in
     let p : accepted (r .0) ≡ accepted to = t .2 in
     let q : r .0 ≡ to = cc in
-    subst (Goes (linesIn f) st) q (readLines-goes (f .entry) 1 (f .start) (lines (f .body)) st (r .0) s (r .1))
+    subst (Goes (linesIn f) st) q (readLines-goes of (f .entry) 1 (f .start) (lines (f .body)) st (r .0) s (r .1))
 
 afterAll-append : (p : Bytes) (ls ms : List Line) (was : Option Row) → afterAll p (ls ++ ms) was ≡ afterAll p ms (afterAll p ls was)
 unfolding afterAll
@@ -197,15 +198,15 @@ follow-comes z fromZero st e h =
     let q : z ≡ st = cc in
     subst (Comes fromZero z) q (record { live = λ p. ap (liveAt p) e; table = refl; inForce = refl; ordered = subst (Ascends pathOf) (sym e) tt })
 follow-comes z (fromCheckpoint f) st e h =
-    let g = readFile-goes f nothingLive st tt h in
+    let g = readFile-goes ofCheckpoint f nothingLive st tt h in
     record { live = g .live; table = g .table; inForce = g .inForce; ordered = g .ordered }
-follow-comes z (andThen w g) st e h = go (bind-accepted (follow mostLive z w) (λ x. readFile mostLive g x) h) (λ x. follow-comes z w x e)
+follow-comes z (andThen w g) st e h = go (bind-accepted (follow mostLive z w) (λ x. readFile mostLive ofVersion g x) h) (λ x. follow-comes z w x e)
   where
-    go : (x : State) × (follow mostLive z w ≡ accepted x) × (readFile mostLive g x ≡ accepted st)
+    go : (x : State) × (follow mostLive z w ≡ accepted x) × (readFile mostLive ofVersion g x ≡ accepted st)
         → ((x : State) → follow mostLive z w ≡ accepted x → Comes w z x) → Comes (andThen w g) z st
     go (x, a, b) ih =
         let c = ih x a in
-        let d = readFile-goes g x st (c .ordered) b in
+        let d = readFile-goes ofVersion g x st (c .ordered) b in
         record {
           live = λ p. d .live p ∙ ap (afterAll p (linesIn g)) (c .live p) ∙ sym (afterAll-append p (linesOn w) (linesIn g) none);
           table =

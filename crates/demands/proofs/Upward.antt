@@ -10,7 +10,7 @@ use Rattle.rules.specs.Bytes.{_>>=_}
 use Rattle.rules.specs.Numbers.{most}
 use Rattle.rules.specs.Bundle.{File}
 use Rattle.rules.specs.Live.{mostLive}
-use Rattle.rules.specs.History.{State, readFile, readZero}
+use Rattle.rules.specs.History.{State, ofVersion, readFile, readZero}
 use Rattle.rules.specs.Starts.{Log, startAt, Way, fromZero, fromCheckpoint, andThen, onwardBy, byFile, byStart, wayTo, follow}
 use Rattle.rules.specs.Marker.{markerVersion, marked, climbBy, climb, orZero, latest}
 use Rattle.rules.specs.Query.{Condition}
@@ -42,7 +42,11 @@ follow-same s t zero-way h = both-accepted h
 follow-same s t (checkpoint-way {f = f} {g = g} p) h =
     begun-same mostLive f g (p .body)
 follow-same s t (then-way {f = f} {g = g} r p) h =
-    same-bind (λ st. readFile mostLive f st) (λ st. readFile mostLive g st) (follow-same s t r h) (λ a b q. readFile-same mostLive f g a b (p .body) q)
+    same-bind
+    (λ st. readFile mostLive ofVersion f st)
+    (λ st. readFile mostLive ofVersion g st)
+    (follow-same s t r h)
+    (λ a b q. readFile-same mostLive ofVersion f g a b (p .body) q)
 
 stateBy-same : (log log′ : Log) {u w : Option Way} → SameFound (log .versionFile 0) (log′ .versionFile 0) → SameWays u w
     → SameAnswer SameState (stateBy log u) (stateBy log′ w)

@@ -11,12 +11,12 @@ use Rattle.rules.specs.Bundle.{File}
 use Rattle.rules.specs.Lines.{lines}
 use Rattle.rules.specs.Actions.{MetaData, Action, action}
 use Rattle.rules.specs.Live.{mostLive}
-use Rattle.rules.specs.History.{State, Said, readFile, saidNothing, say, zeroLines, orUnstated, readZero}
+use Rattle.rules.specs.History.{State, Origin, ofVersion, ofCheckpoint, Said, readFile, saidNothing, say, zeroLines, orUnstated, readZero}
 use Rattle.rules.specs.Starts.{Way, fromZero, fromCheckpoint, andThen, nothingLive, follow}
-use Rattle.rules.specs.Refusals.{Refusal, Answer, accepted, refused, _>>=_, orRefuse, malformed, tooManyLive}
+use Rattle.rules.specs.Refusals.{Refusal, Answer, accepted, refused, _>>=_, orRefuse, malformed, foreignKeys, tooManyLive}
 use Rattle.rules.proofs.Tests.{apart}
 use Rattle.rules.proofs.Answers.{bind-refused, orRefuse-refused}
-use Rattle.demands.specs.Met.{MetIn, too-many, no-object, ZeroLine, MetInZero, malformed-line, out-of-place}
+use Rattle.demands.specs.Met.{MetIn, foreign, too-many, no-object, ZeroLine, MetInZero, malformed-line, out-of-place}
 use Rattle.demands.specs.Met.{no-metaData, MetOn, in-checkpoint, earlier, in-version, Met, in-zero, on-way}
 use Rattle.demands.proofs.FirstMet.{readFile-met, met-readFile}
 
@@ -192,19 +192,19 @@ met-readZero f r h = go h
 pub follow-met : (z : State) (w : Way) (r : Refusal) → follow mostLive z w ≡ refused r → MetOn z w r
 unfolding follow
 follow-met z fromZero r h = apart (cc)
-follow-met z (fromCheckpoint f) r h = in-checkpoint (readFile-met f nothingLive r h)
-follow-met z (andThen w g) r h = go (bind-refused (follow mostLive z w) (λ st. readFile mostLive g st) h) (follow-met z w r)
+follow-met z (fromCheckpoint f) r h = in-checkpoint (readFile-met ofCheckpoint f nothingLive r h)
+follow-met z (andThen w g) r h = go (bind-refused (follow mostLive z w) (λ st. readFile mostLive ofVersion g st) h) (follow-met z w r)
   where
-    go : (follow mostLive z w ≡ refused r) ⊎ ((st : State) × (follow mostLive z w ≡ accepted st) × (readFile mostLive g st ≡ refused r))
+    go : (follow mostLive z w ≡ refused r) ⊎ ((st : State) × (follow mostLive z w ≡ accepted st) × (readFile mostLive ofVersion g st ≡ refused r))
         → (follow mostLive z w ≡ refused r → MetOn z w r) → MetOn z (andThen w g) r
     go (inl x) ih = earlier (ih x)
-    go (inr (st, x, y)) ih = in-version st x (readFile-met g st r y)
+    go (inr (st, x, y)) ih = in-version st x (readFile-met ofVersion g st r y)
 
 pub met-follow : (z : State) (w : Way) (r : Refusal) → MetOn z w r → follow mostLive z w ≡ refused r
 unfolding follow
-met-follow z _ r (in-checkpoint {f = f} h) = met-readFile f nothingLive r h
+met-follow z _ r (in-checkpoint {f = f} h) = met-readFile ofCheckpoint f nothingLive r h
 met-follow z _ r (earlier {w = w} h) = rw (met-follow z w r h)
-met-follow z _ r (in-version {g = g} st e h) = rw (e, met-readFile g st r h)
+met-follow z _ r (in-version {g = g} st e h) = rw (e, met-readFile ofVersion g st r h)
 
 abbrev pub fromZeroOn : File → Way → Answer State
 fromZeroOn zf w = readZero zf >>= (λ z. follow mostLive z w)
@@ -220,26 +220,29 @@ pub met-way : (zf : File) (w : Way) (r : Refusal) → Met zf w r → fromZeroOn 
 met-way zf w r (in-zero h) = rw (met-readZero zf r h)
 met-way zf w r (on-way z e h) = rw (e, met-follow z w r h)
 
--- ---- what is met is refused by 6 or 7
+-- ---- what is met is refused by 6, 21 or 7
 
-abbrev pub SixOrSeven : Refusal → Type 0
-SixOrSeven r = ((e l : ℕ) × (r ≡ malformed e l)) ⊎ ((e l : ℕ) × (r ≡ tooManyLive e l))
+pub data OfALine : Refusal → Type 0 where
+  number-6 : (e l : ℕ) → OfALine (malformed e l)
+  number-21 : (e l : ℕ) → OfALine (foreignKeys e l)
+  number-7 : (e l : ℕ) → OfALine (tooManyLive e l)
 
-pub metIn-number : (f : File) (st : State) (r : Refusal) → MetIn f st r → SixOrSeven r
-metIn-number f st _ (malformed-line l e) = inl (_, _, refl)
-metIn-number f st _ (too-many l a e m) = inr (_, _, refl)
-metIn-number f st _ (no-object e) = inl (_, _, refl)
+pub metIn-number : (of : Origin) (f : File) (st : State) (r : Refusal) → MetIn of f st r → OfALine r
+metIn-number of f st _ (malformed-line l e) = number-6 _ _
+metIn-number of f st _ (foreign l a e u) = number-21 _ _
+metIn-number of f st _ (too-many l a e u m) = number-7 _ _
+metIn-number of f st _ (no-object e) = number-6 _ _
 
-pub metOn-number : (z : State) (w : Way) (r : Refusal) → MetOn z w r → SixOrSeven r
-metOn-number z _ r (in-checkpoint {f = f} h) = metIn-number f _ r h
+pub metOn-number : (z : State) (w : Way) (r : Refusal) → MetOn z w r → OfALine r
+metOn-number z _ r (in-checkpoint {f = f} h) = metIn-number ofCheckpoint f _ r h
 metOn-number z _ r (earlier {w = w} h) = metOn-number z w r h
-metOn-number z _ r (in-version {g = g} st e h) = metIn-number g st r h
+metOn-number z _ r (in-version {g = g} st e h) = metIn-number ofVersion g st r h
 
-pub metInZero-number : (f : File) (r : Refusal) → MetInZero f r → SixOrSeven r
-metInZero-number f _ (malformed-line l e) = inl (_, _, refl)
-metInZero-number f _ (out-of-place l a e q) = inl (_, _, refl)
-metInZero-number f _ (no-metaData s e q) = inl (_, _, refl)
+pub metInZero-number : (f : File) (r : Refusal) → MetInZero f r → OfALine r
+metInZero-number f _ (malformed-line l e) = number-6 _ _
+metInZero-number f _ (out-of-place l a e q) = number-6 _ _
+metInZero-number f _ (no-metaData s e q) = number-6 _ _
 
-pub met-number : (zf : File) (w : Way) (r : Refusal) → Met zf w r → SixOrSeven r
+pub met-number : (zf : File) (w : Way) (r : Refusal) → Met zf w r → OfALine r
 met-number zf w r (in-zero h) = metInZero-number zf r h
 met-number zf w r (on-way z e h) = metOn-number z w r h

@@ -1,14 +1,17 @@
--- The paper's words and the rules' tests: too large, unknown, readable.
+-- The paper's words and the rules' tests: too large, unknown, foreign.
 use mathlib.Core.Path.{_≡_, refl}
 use mathlib.Core.Logic.{inl, inr}
-use mathlib.Core.Bool.{Bool, true, false}
+use mathlib.Core.Bool.{Bool, true, false, _&&_}
 use mathlib.Core.List.{List, [], _∷_}
-use Rattle.rules.specs.Bytes.{Bytes, holds, allAmong}
+use Rattle.rules.specs.Bytes.{Bytes, holds, allAmong, sameSet, firsts}
 use Rattle.rules.specs.Bundle.{File}
 use Rattle.rules.specs.Names.{Name, version, checkpoint, marker, other, tooLarge, nameOf, isTooLarge, anyTooLarge}
-use Rattle.rules.proofs.Tests.{apart, true-not-false, true-of, false-of}
+use Rattle.rules.specs.Actions.{MetaData, Action, add, remove, protocol, metaData, mergeskip, other as another}
+use Rattle.rules.specs.History.{Origin, ofVersion, ofCheckpoint, fits}
+use Rattle.rules.proofs.Tests.{apart, true-not-false, true-of, false-of, and-left, and-right}
 use Rattle.rules.proofs.Holding.{holds-head, holds-tail, allAmong-holds}
-use Rattle.demands.specs.Exactly.{SomeTooLarge, Unknown}
+use Rattle.demands.specs.Met.{Unknown, Foreign, other-key, missing-key}
+use Rattle.demands.specs.Exactly.{SomeTooLarge}
 
 -- ---- a version in a name is too large
 
@@ -63,3 +66,39 @@ known-allAmong names xs h = true-of (allAmong names xs) (λ e. h (allAmong-unkno
 
 pub allAmong-known : (names xs : List Bytes) → allAmong names xs ≡ true → Unknown names xs → ⊥
 allAmong-known names xs e u = true-not-false e (unknown-allAmong names xs u)
+
+-- ---- an add whose keys are not the columns
+
+pub fits-foreign : (of : Origin) (a : Action) (m : MetaData) → fits of a m ≡ false → Foreign of a m
+unfolding fits sameSet
+fits-foreign ofVersion (add f) m h =
+    go (allAmong (m .partitionColumns) (firsts (f .partitionValues))) refl (allAmong (firsts (f .partitionValues)) (m .partitionColumns)) refl h
+  where
+    go : (b : Bool) → allAmong (m .partitionColumns) (firsts (f .partitionValues)) ≡ b
+        → (c : Bool) → allAmong (firsts (f .partitionValues)) (m .partitionColumns) ≡ c → (b && c) ≡ false → Foreign ofVersion (add f) m
+    go false p c q h = other-key (allAmong-unknown (m .partitionColumns) (firsts (f .partitionValues)) p)
+    go true p false q h = missing-key (allAmong-unknown (firsts (f .partitionValues)) (m .partitionColumns) q)
+    go true p true q h = apart (cc)
+fits-foreign ofVersion (remove p) m h = apart (cc)
+fits-foreign ofVersion (protocol p) m h = apart (cc)
+fits-foreign ofVersion (metaData n) m h = apart (cc)
+fits-foreign ofVersion mergeskip m h = apart (cc)
+fits-foreign ofVersion another m h = apart (cc)
+fits-foreign ofCheckpoint a m h = apart (cc)
+
+pub foreign-fits : (of : Origin) (a : Action) (m : MetaData) → Foreign of a m → fits of a m ≡ false
+unfolding fits sameSet
+foreign-fits _ _ m (other-key {f = f} u) =
+    false-of (sameSet (firsts (f .partitionValues)) (m .partitionColumns))
+    (λ e. allAmong-known (m .partitionColumns) (firsts (f .partitionValues))
+    (and-left (allAmong (m .partitionColumns) (firsts (f .partitionValues))) (allAmong (firsts (f .partitionValues)) (m .partitionColumns)) e) u)
+foreign-fits _ _ m (missing-key {f = f} u) =
+    false-of (sameSet (firsts (f .partitionValues)) (m .partitionColumns))
+    (λ e. allAmong-known (firsts (f .partitionValues)) (m .partitionColumns)
+    (and-right (allAmong (m .partitionColumns) (firsts (f .partitionValues))) (allAmong (firsts (f .partitionValues)) (m .partitionColumns)) e) u)
+
+pub none-foreign-fits : (of : Origin) (a : Action) (m : MetaData) → (Foreign of a m → ⊥) → fits of a m ≡ true
+none-foreign-fits of a m h = true-of (fits of a m) (λ e. h (fits-foreign of a m e))
+
+pub fits-none-foreign : (of : Origin) (a : Action) (m : MetaData) → fits of a m ≡ true → Foreign of a m → ⊥
+fits-none-foreign of a m e h = true-not-false e (foreign-fits of a m h)

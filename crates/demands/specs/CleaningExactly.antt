@@ -9,7 +9,7 @@ use Rattle.rules.specs.Bundle.{File, bundle}
 use Rattle.rules.specs.Names.{version, nameOf}
 use Rattle.rules.specs.Actions.{Protocol}
 use Rattle.rules.specs.Live.{mostLive}
-use Rattle.rules.specs.History.{State, readZero, readFile}
+use Rattle.rules.specs.History.{State, ofCheckpoint, readZero, readFile}
 use Rattle.rules.specs.Starts.{Log, logOf, startAt, Way, otherWayTo, nothingLive, follow}
 use Rattle.rules.specs.Marker.{marked}
 use Rattle.rules.specs.Gate.{knownReader, knownWriter, readerNames, writerNames}
@@ -17,10 +17,10 @@ use Rattle.rules.specs.Rooms.{rowsRoom, namesRoom}
 use Rattle.rules.specs.Cleaning.{named, Lent, cleaning}
 use Rattle.rules.specs.Same.{SameState}
 use Rattle.rules.specs.Refusals.{Refusal, accepted, refused, roomTooShort, bundleMalformed, versionTooLarge, noVersionZero}
-use Rattle.rules.specs.Refusals.{malformed, tooManyLive, readerTooHigh, unknownFeature, notWritable, checkpointDisagrees}
+use Rattle.rules.specs.Refusals.{malformed, foreignKeys, tooManyLive, readerTooHigh, unknownFeature, notWritable, checkpointDisagrees}
 use Rattle.demands.specs.Reaching.{Reaches, IsOther}
-use Rattle.demands.specs.Met.{MetIn, MetInZero, MetOn}
-use Rattle.demands.specs.Exactly.{SomeTooLarge, Unknown, Readable}
+use Rattle.demands.specs.Met.{Unknown, MetIn, MetInZero, MetOn}
+use Rattle.demands.specs.Exactly.{SomeTooLarge, Readable}
 
 -- ---- the paper's words
 
@@ -63,8 +63,9 @@ pub record Comparing (lent : Lent) (s : Bytes) : Type 0 where
 -- the first line met that is refused: version 0, then the checkpoint, then the other way is read
 pub data MetComparing (zero-file checkpoint : File) (w : Way) : Refusal → Type 0 where
   in-zero : {r : Refusal} → MetInZero zero-file r → MetComparing zero-file checkpoint w r
-  in-checkpoint : {r : Refusal} (z : State) → readZero zero-file ≡ accepted z → MetIn checkpoint nothingLive r → MetComparing zero-file checkpoint w r
-  on-way : {r : Refusal} (z mine : State) → readZero zero-file ≡ accepted z → readFile mostLive checkpoint nothingLive ≡ accepted mine
+  in-checkpoint : {r : Refusal} (z : State) → readZero zero-file ≡ accepted z → MetIn ofCheckpoint checkpoint nothingLive r
+      → MetComparing zero-file checkpoint w r
+  on-way : {r : Refusal} (z mine : State) → readZero zero-file ≡ accepted z → readFile mostLive ofCheckpoint checkpoint nothingLive ≡ accepted mine
       → MetOn z w r → MetComparing zero-file checkpoint w r
 
 -- no line met is refused: there are two states, the checkpoint's and the other's
@@ -74,7 +75,7 @@ pub record Compared (lent : Lent) (s : Bytes) : Type 0 where
   pub mine : State
   pub theirs : State
   pub zero-read : readZero (comparing .begun .zero) ≡ accepted z
-  pub mine-read : readFile mostLive (comparing .checkpoint) nothingLive ≡ accepted mine
+  pub mine-read : readFile mostLive ofCheckpoint (comparing .checkpoint) nothingLive ≡ accepted mine
   pub theirs-read : follow mostLive z (comparing .way) ≡ accepted theirs
 
 -- ---- cleaning
@@ -87,6 +88,8 @@ pub record CleaningExactly (lent : Lent) (s : Bytes) (now retention : ℕ) : Typ
       ↔ (Enough lent × ((fs : List File) × (bundle s ≡ some fs) × (SomeTooLarge fs → ⊥) × (logOf fs .versionFile 0 ≡ none)))
   pub no-6 : (e l : ℕ) → (cleaning lent s now retention ≡ refused (malformed e l))
       ↔ ((c : Comparing lent s) × MetComparing (c .begun .zero) (c .checkpoint) (c .way) (malformed e l))
+  pub no-21 : (e l : ℕ) → (cleaning lent s now retention ≡ refused (foreignKeys e l))
+      ↔ ((c : Comparing lent s) × MetComparing (c .begun .zero) (c .checkpoint) (c .way) (foreignKeys e l))
   pub no-7 : (e l : ℕ) → (cleaning lent s now retention ≡ refused (tooManyLive e l))
       ↔ ((c : Comparing lent s) × MetComparing (c .begun .zero) (c .checkpoint) (c .way) (tooManyLive e l))
   pub no-8 : (cleaning lent s now retention ≡ refused readerTooHigh) ↔ ((c : Compared lent s) × (knownReader < c .mine .inForce .minReaderVersion))

@@ -15,10 +15,10 @@ use Rattle.demands.specs.Removed.{In}
 
 -- ---- an answer or a numbered refusal
 
--- one of these numbers; 6 and 7 name entry and line, all else in a refusal is zero
+-- one of these numbers; 6, 7 and 21 name entry and line, all else in a refusal is zero
 pub record OneOf (numbers : List ℕ) (r : Refusal) : Type 0 where
   pub listed : In (r .number) numbers
-  pub else-zero : (r .number ≡ 6 → ⊥) → (r .number ≡ 7 → ⊥) → (r .entry ≡ 0) × (r .line ≡ 0)
+  pub else-zero : (r .number ≡ 6 → ⊥) → (r .number ≡ 7 → ⊥) → (r .number ≡ 21 → ⊥) → (r .entry ≡ 0) × (r .line ≡ 0)
 
 pub data Ends {A : Type 0} (numbers : List ℕ) : Answer A → Type 0 where
   answered : (a : A) → Ends numbers (accepted a)
@@ -26,13 +26,13 @@ pub data Ends {A : Type 0} (numbers : List ℕ) : Answer A → Type 0 where
 
 -- by number and the latest
 abbrev pub ReadingEnds : Type 0
-ReadingEnds = (room : ℕ) (s q : Bytes) (asked : Asked) → Ends (1 ∷ 10 ∷ 2 ∷ 3 ∷ 4 ∷ 5 ∷ 6 ∷ 7 ∷ 8 ∷ 9 ∷ 11 ∷ []) (reading room s q asked)
+ReadingEnds = (room : ℕ) (s q : Bytes) (asked : Asked) → Ends (1 ∷ 10 ∷ 2 ∷ 3 ∷ 4 ∷ 5 ∷ 6 ∷ 21 ∷ 7 ∷ 8 ∷ 9 ∷ 11 ∷ []) (reading room s q asked)
 
 abbrev pub KeepingEnds : Type 0
 KeepingEnds = (room : ℕ) (state q : Bytes) → Ends (1 ∷ 10 ∷ 14 ∷ 15 ∷ []) (keeping room state q)
 
 abbrev pub CleaningEnds : Type 0
-CleaningEnds = (lent : Lent) (s : Bytes) (now retention : ℕ) → Ends (1 ∷ 2 ∷ 3 ∷ 4 ∷ 6 ∷ 7 ∷ 8 ∷ 9 ∷ 12 ∷ 13 ∷ []) (cleaning lent s now retention)
+CleaningEnds = (lent : Lent) (s : Bytes) (now retention : ℕ) → Ends (1 ∷ 2 ∷ 3 ∷ 4 ∷ 6 ∷ 21 ∷ 7 ∷ 8 ∷ 9 ∷ 12 ∷ 13 ∷ []) (cleaning lent s now retention)
 
 -- ---- the rooms
 

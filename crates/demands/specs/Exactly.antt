@@ -1,12 +1,11 @@
 -- Demand 2 of reading and of keeping manifests: each refusal is given when its rule says so, and only then.
 use mathlib.Core.Path.{_≡_}
 use mathlib.Core.Logic.{_⊎_, _↔_}
-use mathlib.Core.Bool.{true, false}
 use mathlib.Core.Option.{none, some}
 use mathlib.Core.List.{List, [], _∷_, map}
 use Prim.Native.Nat.{ℕ, _≤_, _<_}
 use lib.ListN.{length}
-use Rattle.rules.specs.Bytes.{Bytes, holds}
+use Rattle.rules.specs.Bytes.{Bytes}
 use Rattle.rules.specs.Bundle.{File, bundle}
 use Rattle.rules.specs.Names.{tooLarge, nameOf}
 use Rattle.rules.specs.Actions.{Protocol}
@@ -20,9 +19,9 @@ use Rattle.rules.specs.Rooms.{rowsRoom, keptRoom}
 use Rattle.rules.specs.Reading.{Asked, versionAsked, Listing, stateBy, reading}
 use Rattle.rules.specs.Keeping.{keeping}
 use Rattle.rules.specs.Refusals.{accepted, refused, roomTooShort, bundleMalformed, versionTooLarge, noVersionZero, notKept, malformed}
-use Rattle.rules.specs.Refusals.{tooManyLive, readerTooHigh, unknownFeature, queryMalformed, noSuchColumn, stateMalformed, tooManyManifests}
+use Rattle.rules.specs.Refusals.{foreignKeys, tooManyLive, readerTooHigh, unknownFeature, queryMalformed, noSuchColumn, stateMalformed, tooManyManifests}
 use Rattle.demands.specs.Reaching.{There, NoStart}
-use Rattle.demands.specs.Met.{Met}
+use Rattle.demands.specs.Met.{Unknown, Met}
 
 -- ---- the paper's words
 
@@ -30,10 +29,6 @@ use Rattle.demands.specs.Met.{Met}
 abbrev pub SomeTooLarge : List File → Type 0
 SomeTooLarge [] = ⊥
 SomeTooLarge (f ∷ fs) = (nameOf (f .name) ≡ tooLarge) ⊎ SomeTooLarge fs
-
--- one of `these` is not among the names
-abbrev pub Unknown : (names these : List Bytes) → Type 0
-Unknown names these = (x : Bytes) × (holds x these ≡ true) × (holds x names ≡ false)
 
 -- minReaderVersion at most 3, reader features all among the four
 abbrev pub Readable : Protocol → Type 0
@@ -96,6 +91,7 @@ pub record ReadingExactly (room : ℕ) (s q : Bytes) (asked : Asked) : Type 0 wh
   pub no-5 : (reading room s q asked ≡ refused notKept)
       ↔ ((o : Opened room s q) × There (logIn asked o .versionFile 0) × NoStart (logIn asked o) (versionIn asked o))
   pub no-6 : (e l : ℕ) → (reading room s q asked ≡ refused (malformed e l)) ↔ ((r : Reached room s q asked) × Met (r .zero) (r .way) (malformed e l))
+  pub no-21 : (e l : ℕ) → (reading room s q asked ≡ refused (foreignKeys e l)) ↔ ((r : Reached room s q asked) × Met (r .zero) (r .way) (foreignKeys e l))
   pub no-7 : (e l : ℕ) → (reading room s q asked ≡ refused (tooManyLive e l)) ↔ ((r : Reached room s q asked) × Met (r .zero) (r .way) (tooManyLive e l))
   pub no-8 : (reading room s q asked ≡ refused readerTooHigh) ↔ ((r : Read room s q asked) × (knownReader < r .state .inForce .minReaderVersion))
   pub no-9 : (reading room s q asked ≡ refused unknownFeature)

@@ -34,7 +34,7 @@ untrueAtOne =
     ∷ [])
 
 unfoldable pub two : Sample
-two = file "00000000000000000002.json" 0 ("{'add':{'path':'b','size':1,'modificationTime':1,'dataChange':true,'partitionValues':{}}}" ∷ [])
+two = file "00000000000000000002.json" 0 ("{'add':{'path':'b','size':1,'modificationTime':1,'dataChange':true,'partitionValues':{'y':'2','x':null}}}" ∷ [])
 
 unfoldable pub whole : Bytes
 whole = bundleOf (zero ∷ checkpointAtOne ∷ one ∷ two ∷ [])

@@ -1,5 +1,6 @@
 -- The log that demand 3 takes: all version files 0 to n and nothing above n, every file readable, every checkpoint true to the history,
--- and never more than 1,024 files live after a line of any of them.
+-- and never more than 1,024 files live after a line of any of them. "Readable" is well formed, and no add of the history is foreign at its
+-- line, which the lines before it decide.
 use mathlib.Core.Path.{_≡_}
 use mathlib.Core.Bool.{true, false}
 use mathlib.Core.Option.{none, some}
@@ -11,7 +12,7 @@ use Rattle.rules.specs.History.{State, readZero}
 use Rattle.rules.specs.Starts.{Log, logOf, wellFormed, startAt, historyTo}
 use Rattle.rules.specs.Reading.{stateBy}
 use Rattle.rules.specs.Same.{IsTrue}
-use Rattle.rules.specs.Refusals.{accepted, refused, tooManyLive}
+use Rattle.rules.specs.Refusals.{accepted, refused, foreignKeys, tooManyLive}
 use Rattle.demands.specs.Reaching.{There}
 
 -- a true checkpoint has a state of its own: it is a start, as is said below, and never has more than 1,024 live
@@ -22,6 +23,7 @@ pub record FullHistory (fs : List File) (n : ℕ) : Type 0 where
   pub none-too-large : anyTooLarge fs ≡ false
   pub zero-readable : (f : File) → logOf fs .versionFile 0 ≡ some f → (st : State) × (readZero f ≡ accepted st)
   pub others-readable : (w : ℕ) (f : File) → logOf fs .versionFile (suc w) ≡ some f → wellFormed (f .body) ≡ true
+  pub none-foreign : (v e l : ℕ) → v ≤ n → stateBy (logOf fs) (historyTo (logOf fs) v) ≡ refused (foreignKeys e l) → ⊥
   pub checkpoints-true : (c : ℕ) (f : File) → logOf fs .checkpointFile c ≡ some f → IsTrue (logOf fs) c f
   pub never-over : (v e l : ℕ) → stateBy (logOf fs) (historyTo (logOf fs) v) ≡ refused (tooManyLive e l) → ⊥
 

@@ -21,7 +21,8 @@ use Rattle.refusals.specs.Numbered.{numbered}
 use Rattle.refusals.specs.declared.Refusal.{Refusal}
 use Rattle.refusals.specs.declared.Refusal.the-variants.{RoomTooShort, BundleMalformed, VersionTooLarge, NoVersionZero, NotKept, Malformed, TooManyLive}
 use Rattle.refusals.specs.declared.Refusal.the-variants.{ReaderTooHigh, UnknownFeature, QueryMalformed, NoSuchColumn, NotWritable, CheckpointDisagrees}
-use Rattle.refusals.specs.declared.Refusal.the-variants.{StateMalformed, TooManyManifests}
+use Rattle.refusals.specs.declared.Refusal.the-variants.{StateMalformed, TooManyManifests, ListRefused, OutputTooShort, ValueOutOfRange}
+use Rattle.refusals.specs.declared.Refusal.the-variants.{ContainerMalformed, OtherSchema, ForeignKeys}
 use Rattle.reading.specs.Answers.{readIs, ReadIs}
 use Rattle.reading.specs.declared.Read.{Read}
 use Rattle.reading.specs.declared.Read.the-variants.{Refused}
@@ -68,6 +69,12 @@ module _ (s q : Bytes) (asked : Asked) (room after : Room) (r : Read) (c : ReadI
   reading-refuses CheckpointDisagrees = never CheckpointDisagrees refl (reading-ends (length room) s q asked) (read-refused CheckpointDisagrees)
   reading-refuses StateMalformed = never StateMalformed refl (reading-ends (length room) s q asked) (read-refused StateMalformed)
   reading-refuses TooManyManifests = never TooManyManifests refl (reading-ends (length room) s q asked) (read-refused TooManyManifests)
+  reading-refuses ListRefused = never ListRefused refl (reading-ends (length room) s q asked) (read-refused ListRefused)
+  reading-refuses OutputTooShort = never OutputTooShort refl (reading-ends (length room) s q asked) (read-refused OutputTooShort)
+  reading-refuses ValueOutOfRange = never ValueOutOfRange refl (reading-ends (length room) s q asked) (read-refused ValueOutOfRange)
+  reading-refuses ContainerMalformed = never ContainerMalformed refl (reading-ends (length room) s q asked) (read-refused ContainerMalformed)
+  reading-refuses OtherSchema = never OtherSchema refl (reading-ends (length room) s q asked) (read-refused OtherSchema)
+  reading-refuses (ForeignKeys e l) = Iff·trans (read-refused (ForeignKeys e l)) (reading-exactly (length room) s q asked .no-21 e l)
 
 -- ---- cleaning
 
@@ -97,6 +104,12 @@ module _ (s : Bytes) (now retention : ℕ) (room room′ one one′ two two′ :
   cleaning-refuses CheckpointDisagrees = Iff·trans (clean-refused CheckpointDisagrees) (cleaning-exactly (lent room one two) s now retention .no-13)
   cleaning-refuses StateMalformed = never StateMalformed refl (cleaning-ends (lent room one two) s now retention) (clean-refused StateMalformed)
   cleaning-refuses TooManyManifests = never TooManyManifests refl (cleaning-ends (lent room one two) s now retention) (clean-refused TooManyManifests)
+  cleaning-refuses ListRefused = never ListRefused refl (cleaning-ends (lent room one two) s now retention) (clean-refused ListRefused)
+  cleaning-refuses OutputTooShort = never OutputTooShort refl (cleaning-ends (lent room one two) s now retention) (clean-refused OutputTooShort)
+  cleaning-refuses ValueOutOfRange = never ValueOutOfRange refl (cleaning-ends (lent room one two) s now retention) (clean-refused ValueOutOfRange)
+  cleaning-refuses ContainerMalformed = never ContainerMalformed refl (cleaning-ends (lent room one two) s now retention) (clean-refused ContainerMalformed)
+  cleaning-refuses OtherSchema = never OtherSchema refl (cleaning-ends (lent room one two) s now retention) (clean-refused OtherSchema)
+  cleaning-refuses (ForeignKeys e l) = Iff·trans (clean-refused (ForeignKeys e l)) (cleaning-exactly (lent room one two) s now retention .no-21 e l)
 
 -- ---- keeping
 
@@ -125,3 +138,9 @@ module _ (state q : Bytes) (room after : Room) (r : Kept) (c : KeepIs state q ro
   keeping-refuses CheckpointDisagrees = never CheckpointDisagrees refl (keeping-ends (length room) state q) (keep-refused CheckpointDisagrees)
   keeping-refuses StateMalformed = Iff·trans (keep-refused StateMalformed) (keeping-exactly (length room) state q .no-14)
   keeping-refuses TooManyManifests = Iff·trans (keep-refused TooManyManifests) (keeping-exactly (length room) state q .no-15)
+  keeping-refuses ListRefused = never ListRefused refl (keeping-ends (length room) state q) (keep-refused ListRefused)
+  keeping-refuses OutputTooShort = never OutputTooShort refl (keeping-ends (length room) state q) (keep-refused OutputTooShort)
+  keeping-refuses ValueOutOfRange = never ValueOutOfRange refl (keeping-ends (length room) state q) (keep-refused ValueOutOfRange)
+  keeping-refuses ContainerMalformed = never ContainerMalformed refl (keeping-ends (length room) state q) (keep-refused ContainerMalformed)
+  keeping-refuses OtherSchema = never OtherSchema refl (keeping-ends (length room) state q) (keep-refused OtherSchema)
+  keeping-refuses (ForeignKeys e l) = never (ForeignKeys e l) refl (keeping-ends (length room) state q) (keep-refused (ForeignKeys e l))

@@ -14,17 +14,18 @@ use Rattle.rules.specs.Rooms.{rowsRoom, keptRoom}
 use Rattle.rules.specs.Reading.{Asked}
 use Rattle.rules.specs.Cleaning.{Lent}
 use Rattle.rules.specs.Same.{SameState}
-use Rattle.rules.specs.Refusals.{malformed, tooManyLive}
+use Rattle.rules.specs.Refusals.{malformed, tooManyLive, foreignKeys}
 use Rattle.demands.specs.Reaching.{There, NoStart}
-use Rattle.demands.specs.Met.{Met}
-use Rattle.demands.specs.Exactly.{SomeTooLarge, Unknown, Readable, Opened, logIn, versionIn, Reached, Read, columnsAsked}
+use Rattle.demands.specs.Met.{Unknown, Met}
+use Rattle.demands.specs.Exactly.{SomeTooLarge, Readable, Opened, logIn, versionIn, Reached, Read, columnsAsked}
 use Rattle.demands.specs.CleaningExactly.{Enough, NotWritable as CannotWrite, Comparing, MetComparing, Compared}
 use Rattle.refusals.specs.declared.Refusal.{Refusal}
 use Rattle.refusals.specs.declared.Refusal.the-variants.{RoomTooShort, BundleMalformed, VersionTooLarge, NoVersionZero, NotKept, Malformed, TooManyLive}
 use Rattle.refusals.specs.declared.Refusal.the-variants.{ReaderTooHigh, UnknownFeature, QueryMalformed, NoSuchColumn, NotWritable, CheckpointDisagrees}
-use Rattle.refusals.specs.declared.Refusal.the-variants.{StateMalformed, TooManyManifests}
+use Rattle.refusals.specs.declared.Refusal.the-variants.{StateMalformed, TooManyManifests, ListRefused, OutputTooShort, ValueOutOfRange}
+use Rattle.refusals.specs.declared.Refusal.the-variants.{ContainerMalformed, OtherSchema, ForeignKeys}
 
--- reading: 1, 10, 2, 3, 4, 5, then 6 or 7 by first line met, 8, 9, 11
+-- reading: 1, 10, 2, 3, 4, 5, then 6, 21 or 7 by first line met, 8, 9, 11
 abbrev pub ReadingRule : (room : ℕ) → (s q : Bytes) → Asked → Refusal → Type 0
 ReadingRule room s q asked RoomTooShort = room < rowsRoom
 ReadingRule room s q asked BundleMalformed = (rowsRoom ≤ room) × There (query q) × (bundle s ≡ none)
@@ -43,8 +44,14 @@ ReadingRule room s q asked NotWritable = ⊥
 ReadingRule room s q asked CheckpointDisagrees = ⊥
 ReadingRule room s q asked StateMalformed = ⊥
 ReadingRule room s q asked TooManyManifests = ⊥
+ReadingRule room s q asked ListRefused = ⊥
+ReadingRule room s q asked OutputTooShort = ⊥
+ReadingRule room s q asked ValueOutOfRange = ⊥
+ReadingRule room s q asked ContainerMalformed = ⊥
+ReadingRule room s q asked OtherSchema = ⊥
+ReadingRule room s q asked (ForeignKeys e l) = (r : Reached room s q asked) × Met (r .zero) (r .way) (foreignKeys e l)
 
--- cleaning: 1 to 4; then 6 or 7 by first line met; the checkpoint's gate 8, 9, 12; then 13
+-- cleaning: 1 to 4; then 6, 21 or 7 by first line met; the checkpoint's gate 8, 9, 12; then 13
 abbrev pub CleaningRule : Lent → Bytes → Refusal → Type 0
 CleaningRule lent s RoomTooShort = Enough lent → ⊥
 CleaningRule lent s BundleMalformed = Enough lent × (bundle s ≡ none)
@@ -64,6 +71,12 @@ CleaningRule lent s CheckpointDisagrees =
     (c : Compared lent s) × Readable (c .mine .inForce) × (CannotWrite (c .mine .inForce) → ⊥) × (SameState (c .mine) (c .theirs) → ⊥)
 CleaningRule lent s StateMalformed = ⊥
 CleaningRule lent s TooManyManifests = ⊥
+CleaningRule lent s ListRefused = ⊥
+CleaningRule lent s OutputTooShort = ⊥
+CleaningRule lent s ValueOutOfRange = ⊥
+CleaningRule lent s ContainerMalformed = ⊥
+CleaningRule lent s OtherSchema = ⊥
+CleaningRule lent s (ForeignKeys e l) = (c : Comparing lent s) × MetComparing (c .begun .zero) (c .checkpoint) (c .way) (foreignKeys e l)
 
 -- manifests: 1, 10, 14, 15
 abbrev pub KeepingRule : (room : ℕ) → (state q : Bytes) → Refusal → Type 0
@@ -83,3 +96,9 @@ KeepingRule room state q CheckpointDisagrees = ⊥
 KeepingRule room state q StateMalformed = (keptRoom ≤ room) × There (query q) × (manifests state ≡ none)
 KeepingRule room state q TooManyManifests =
     (keptRoom ≤ room) × There (query q) × ((ms : List Manifest) × (manifests state ≡ some ms) × (mostManifests < length ms))
+KeepingRule room state q ListRefused = ⊥
+KeepingRule room state q OutputTooShort = ⊥
+KeepingRule room state q ValueOutOfRange = ⊥
+KeepingRule room state q ContainerMalformed = ⊥
+KeepingRule room state q OtherSchema = ⊥
+KeepingRule room state q (ForeignKeys e l) = ⊥

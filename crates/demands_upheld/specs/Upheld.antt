@@ -38,11 +38,11 @@ use Rattle.demands_upheld.specs.Programs.{Program, KeepsReadIs, readerOf
 -- is too short is left untouched. After any other refusal the stated rooms hold zeros."
 
 pub record ReadingEnds (room after : Room) (r : Read) : Type 0 where
-  pub ends : Ends (1 ∷ 10 ∷ 2 ∷ 3 ∷ 4 ∷ 5 ∷ 6 ∷ 7 ∷ 8 ∷ 9 ∷ 11 ∷ []) (readIs r)
+  pub ends : Ends (1 ∷ 10 ∷ 2 ∷ 3 ∷ 4 ∷ 5 ∷ 6 ∷ 21 ∷ 7 ∷ 8 ∷ 9 ∷ 11 ∷ []) (readIs r)
   pub table : RoomEnds rowsRoom (λ (t : Told). take (t .count * 4) after) (readIs r) room after
 
 pub record CleaningEnds (room room′ one one′ two two′ : Room) (r : Cleaned) : Type 0 where
-  pub ends : Ends (1 ∷ 2 ∷ 3 ∷ 4 ∷ 6 ∷ 7 ∷ 8 ∷ 9 ∷ 12 ∷ 13 ∷ []) (cleanedIs r)
+  pub ends : Ends (1 ∷ 2 ∷ 3 ∷ 4 ∷ 6 ∷ 21 ∷ 7 ∷ 8 ∷ 9 ∷ 12 ∷ 13 ∷ []) (cleanedIs r)
   pub names : RoomEnds namesRoom (λ (n : ℕ). take n room′) (cleanedIs r) room room′
   pub first : RoomEnds rowsRoom (λ (n : ℕ). []) (cleanedIs r) one one′
   pub second : RoomEnds rowsRoom (λ (n : ℕ). []) (cleanedIs r) two two′

@@ -4,7 +4,7 @@ ghost use mathlib.Core.Path.{_≡_};
 ghost use Rattle.refusals.specs.Numbered.{numbered};
 ghost use Rattle.entries_c.specs.Codes.{refusedBy, notRefused};
 
-// The paper's number, 0 where the answer is accepted; the entry and the line that 6 and 7 name, else 0.
+// The paper's number, 0 where the answer is accepted; the entry and the line that 6, 7 and 21 name, else 0.
 #[repr(C)]
 pub struct Refused {
     pub number: u32,

@@ -5,12 +5,14 @@ use mathlib.Core.Option.{Option, some}
 use mathlib.Core.List.{List}
 use Prim.Native.Nat.{ℕ}
 use lib.ListN.{length}
-use Rattle.rules.specs.Bytes.{Bytes, _>>=_, sameEach}
+use Rattle.rules.specs.Actions.{Pairs}
+use Rattle.rules.specs.Bytes.{Bytes, _>>=_, sameEach, sameSet, firsts}
 use Rattle.rules.specs.Json.Text.{Text}
 use Rattle.rules.specs.Json.Fields.{strings}
 use Rattle.rules.proofs.Json.Suffix.{some-same, left-same, answered-none}
 use Rattle.json_tokens.proofs.Alone.{left-alone}
 use Rattle.field_objects.proofs.Alone.{asked-alone}
+use Rattle.field_containers.specs.Nested.{Pairing, Paired}
 use Rattle.field_containers.specs.Strung.{Strung, StringsIs, Listed, IsList}
 use Rattle.field_containers.specs.declared.lists.Strings.{Strings}
 use Rattle.field_containers.specs.declared.lists.Strings.the-variants.{Good, NotStrings}
@@ -38,3 +40,10 @@ pub lists-alone : (s : Text) (at : ℕ) (t : Text) (from : ℕ) → IsList s at 
     → ((xs ys : List Bytes) → Listed s at xs → Listed t from ys → q ≡ sameEach xs ys) → r ≡ q
 lists-alone s at t from o p r q f g =
     f (o .ss) (p .ss) (o .listed) (p .listed) ∙ sym (g (o .ss) (p .ss) (o .listed) (p .listed))
+
+-- and what is asked of partition values and an array
+pub keys-alone : (s : Text) (values : ℕ) (t : Text) (columns : ℕ) → Paired s values → IsList t columns → (r q : Bool)
+    → ((ps : Pairs) (cs : List Bytes) → Pairing s values ps → Listed t columns cs → r ≡ sameSet (firsts ps) cs)
+    → ((ps : Pairs) (cs : List Bytes) → Pairing s values ps → Listed t columns cs → q ≡ sameSet (firsts ps) cs) → r ≡ q
+keys-alone s values t columns o p r q f g =
+    f (o .ps) (p .ss) (o .pairing) (p .listed) ∙ sym (g (o .ps) (p .ss) (o .pairing) (p .listed))

@@ -3,6 +3,7 @@ pub mod Elements
 pub mod Collecting
 pub mod Walking
 pub mod Matching
+pub mod InStep
 pub mod Alone
 pub mod Valued
 pub mod Placed

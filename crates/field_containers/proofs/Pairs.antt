@@ -1,19 +1,21 @@
--- Partition values as members of an object: the value of a column, by the member that has the column's name.
+-- Partition values as members of an object: the value of a column, by the member that has the column's name; and their names.
 use mathlib.Core.Path.{_≡_, refl, sym, ap, _∙_}
 use mathlib.Core.Bool.{Bool, true, false}
 use mathlib.Core.Option.{Option, some}
 use mathlib.Core.List.{List, [], _∷_}
 use Prim.Native.Nat.{ℕ}
 use lib.ListN.{drop}
-use Rattle.rules.specs.Bytes.{Bytes, _>>=_, same}
+use Rattle.rules.specs.Bytes.{Bytes, _>>=_, isSome, same, holds, sameSet, firsts}
 use Rattle.rules.specs.Json.Text.{Text}
 use Rattle.rules.specs.Json.Values.{Member, contents, value}
 use Rattle.rules.specs.Json.Fields.{stringOrNull}
 use Rattle.rules.specs.Actions.{inField, Pairs, pairs}
 use Rattle.rules.specs.Picking.{valueAt}
-use Rattle.rules.proofs.Pairs.{pairs-cons}
+use Rattle.rules.proofs.Holding.{holds-sameSet}
+use Rattle.rules.proofs.Pairs.{pairs-cons, firsts-pairs}
 use Rattle.rules.proofs.Json.Suffix.{some-same}
 use Rattle.field_objects.specs.Lookup.{Standing, lookup}
+use Rattle.field_objects.specs.Namings.{Object}
 use Rattle.field_containers.specs.Nested.{Pairing}
 
 -- ---- the column
@@ -38,3 +40,23 @@ read-object w = w .all
 
 abbrev pub standing : {s : Text} {at : ℕ} {ps : Pairs} → Pairing s at ps → Standing 29 s at
 standing w = record { ms = w .ms; left = w .left; all = read-object w }
+
+-- ---- the names
+
+pub pairing-object : {s : Text} {at : ℕ} {ps : Pairs} → Pairing s at ps → Object 29 s at (firsts ps)
+pairing-object w = record { ms = w .ms; left = w .left; all = read-object w; each = sym (firsts-pairs (w .ms) (w .each)) }
+
+-- a name is held where its value is found
+pub holds-lookup : (name : Bytes) (ms : List Member) → holds name (firsts ms) ≡ isSome (lookup name ms)
+unfolding lookup holds firsts isSome
+holds-lookup name [] = refl
+holds-lookup name (m ∷ ms) = go (holds-lookup name ms) (same name (m .0))
+  where
+    go : holds name (firsts ms) ≡ isSome (lookup name ms) → (b : Bool)
+        → elim b [ true ↦ true | false ↦ holds name (firsts ms) ] ≡ isSome {A = Text} (elim b [ true ↦ some (m .1) | false ↦ lookup name ms ])
+    go ih true = refl
+    go ih false = ih
+
+-- equal lists are the same set
+pub sets-same : {xs ys : List Bytes} → xs ≡ ys → sameSet xs ys ≡ true
+sets-same {xs} {ys} e = holds-sameSet xs ys (λ x. ap (holds x) e)

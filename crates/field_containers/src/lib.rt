@@ -1,11 +1,13 @@
 // Fields that hold others: arrays of strings, partition values, features, columns.
 mod features;
+mod fitting;
 mod lists;
 mod nested;
 
 pub use features::Features;
 pub use features::all_known;
 pub use features::features_in;
+pub use fitting::keys_fit;
 pub use lists::Strings;
 pub use lists::distinct_strings;
 pub use lists::holds_string;

@@ -1,4 +1,5 @@
 // The objects whose members the paper names: the place of a name among the names of its kind.
+// The bottom of the tower: a field that a request adds is named here, and all that stands on it is proved again.
 ghost use mathlib.Core.Path.{_≡_};
 ghost use lib.ListN.{length};
 ghost use Rattle.rules.specs.Bytes.{same};

@@ -4,11 +4,11 @@ use mathlib.Core.Bool.{Bool, true, false, _&&_}
 use mathlib.Core.Option.{Option, none, some}
 use lib.Dec.{eqb}
 use borrow.Author.Tests.{eq-eqb, ne-eqb}
-use Rattle.rules.specs.Bytes.{allAmong}
+use Rattle.rules.specs.Bytes.{allAmong, sameSet}
 use Rattle.rules.specs.Json.Text.{Text}
 use Rattle.rules.specs.Actions.{Protocol, unstated, protocol, action}
 use Rattle.rules.specs.History.{orUnstated}
-use Rattle.rules.specs.Agreement.{agreeSets, agreeProtocols}
+use Rattle.rules.specs.Agreement.{agreeProtocols}
 use Rattle.rules.proofs.Tests.{and-fails-left, and-fails-right}
 use Rattle.line_actions.specs.Line.{ProtocolIs}
 use Rattle.line_actions.specs.declared.line.Stated.{Stated}
@@ -30,10 +30,10 @@ module _ {s t : Text} {x y : Stated} (p q : Protocol) (a : ProtocolIs s p x) (b 
   writers = eqb (p .minWriterVersion) (q .minWriterVersion)
 
   abbrev reader-features : Bool
-  reader-features = agreeSets (p .readerFeatures) (q .readerFeatures)
+  reader-features = sameSet (p .readerFeatures) (q .readerFeatures)
 
   abbrev writer-features : Bool
-  writer-features = agreeSets (p .writerFeatures) (q .writerFeatures)
+  writer-features = sameSet (p .writerFeatures) (q .writerFeatures)
 
   pub readers-differ : (x .reader ≡ y .reader → ⊥) → agreeProtocols p q ≡ false
   unfolding agreeProtocols
@@ -48,12 +48,12 @@ module _ {s t : Text} {x y : Stated} (p q : Protocol) (a : ProtocolIs s p x) (b 
       and-fails-right readers
       (and-fails-left (reader-features && writer-features) (ne-eqb (p .minWriterVersion) (q .minWriterVersion) (λ e. h (a .writer ∙ e ∙ sym (b .writer)))))
 
-  pub reader-features-differ : agreeSets (p .readerFeatures) (q .readerFeatures) ≡ false → agreeProtocols p q ≡ false
+  pub reader-features-differ : sameSet (p .readerFeatures) (q .readerFeatures) ≡ false → agreeProtocols p q ≡ false
   unfolding agreeProtocols
   reader-features-differ h = and-fails-right readers (and-fails-right writers (and-fails-left writer-features h))
 
-  pub writer-features-decide : x .reader ≡ y .reader → x .writer ≡ y .writer → agreeSets (p .readerFeatures) (q .readerFeatures) ≡ true
-      → agreeProtocols p q ≡ agreeSets (p .writerFeatures) (q .writerFeatures)
+  pub writer-features-decide : x .reader ≡ y .reader → x .writer ≡ y .writer → sameSet (p .readerFeatures) (q .readerFeatures) ≡ true
+      → agreeProtocols p q ≡ sameSet (p .writerFeatures) (q .writerFeatures)
   unfolding agreeProtocols
   writer-features-decide e f h =
       and-past (writers && (reader-features && writer-features)) (eq-eqb (p .minReaderVersion) (q .minReaderVersion) (sym (a .reader) ∙ e ∙ b .reader))

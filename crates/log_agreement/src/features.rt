@@ -9,10 +9,10 @@ ghost use mathlib.Core.Path.{_≡_};
 ghost use mathlib.Core.List.{List};
 ghost use Prim.Native.Nat.{_≤_};
 ghost use lib.ListN.{length, drop};
-ghost use Rattle.rules.specs.Bytes.{Bytes, holds, allAmong};
+ghost use Rattle.rules.specs.Bytes.{Bytes, holds, allAmong, sameSet};
 ghost use Rattle.rules.specs.Actions.{Protocol as rProtocol};
 ghost use Rattle.rules.specs.History.{orUnstated};
-ghost use Rattle.rules.specs.Agreement.{agreeSets, agreeProtocols};
+ghost use Rattle.rules.specs.Agreement.{agreeProtocols};
 ghost use Rattle.json_strings.specs.Decoded.{decoded, WellSpelled};
 ghost use Rattle.field_containers.specs.Strung.{Onward};
 ghost use Rattle.field_containers.specs.Featured.{FeaturesAt};
@@ -74,7 +74,7 @@ fn features_held(s: &[u8], at: usize, t: &[u8], from: usize) -> bool
 // Whether the features of s and of t are the same set.
 fn same_features(s: &[u8], at: usize, t: &[u8], from: usize) -> bool
     requires { ⌜ Featured (now s) at × Featured (now t) from ⌝ }
-    ensures { λ r. ⌜ ((xs ys : List Bytes) → FeaturesAt (now (s .entry)) at xs → FeaturesAt (now (t .entry)) from ys → r ≡ agreeSets xs ys) ⌝ }
+    ensures { λ r. ⌜ ((xs ys : List Bytes) → FeaturesAt (now (s .entry)) at xs → FeaturesAt (now (t .entry)) from ys → r ≡ sameSet xs ys) ⌝ }
 {
     if features_held(s, at, t, from) {
         return features_held(t, from, s, at);

@@ -8,7 +8,7 @@ use Rattle.rules.specs.Numbers.{most}
 use Rattle.rules.specs.Bundle.{File}
 use Rattle.rules.specs.Live.{mostLive}
 use Rattle.rules.specs.Refusals.{Answer}
-use Rattle.rules.specs.History.{readFile, readZero}
+use Rattle.rules.specs.History.{ofCheckpoint, readFile, readZero}
 use Rattle.rules.specs.History.{State as rState}
 use Rattle.rules.specs.Starts.{logOf, startAt, fromCheckpoint, wayTo, follow}
 use Rattle.rules.specs.Marker.{climb, latest}
@@ -33,7 +33,7 @@ use Rattle.log_history.proofs.Reaching.{outcome-join}
 pub begun : {src : Bytes} {zero : File} {z : State} {k n : ℕ} (t t₁ : List ℕ) (empty st : State)
     → logOf (filesIn src) .versionFile 0 ≡ some zero → ZeroIs src (readZero zero) (Done z)
     → namedBy (logOf (filesIn src)) ≡ some n → logOf (filesIn src) .checkpointFile n ≡ some (fileIn src k)
-    → Renewed z empty → OutcomeIs src mostLive (readFile mostLive (fileIn src k) (stateOf src empty t)) t t₁ (Done st) → 0 < st .table .size
+    → Renewed z empty → OutcomeIs src mostLive (readFile mostLive ofCheckpoint (fileIn src k) (stateOf src empty t)) t t₁ (Done st) → 0 < st .table .size
     → Begun src k n st t₁
 begun {src} {zero} {z} {k} t t₁ empty st first says marker checkpoint renewed d told = record {
   zero = zero;
@@ -42,7 +42,7 @@ begun {src} {zero} {z} {k} t t₁ empty st first says marker checkpoint renewed 
   says = says .0 t;
   marker = marker;
   checkpoint = checkpoint;
-  gives = ap (readFile mostLive (fileIn src k)) (sym (renewed .0 src t)) ∙ d .0;
+  gives = ap (readFile mostLive ofCheckpoint (fileIn src k)) (sym (renewed .0 src t)) ∙ d .0;
   carries = d .1 .carries;
   told = told;
 }
@@ -52,7 +52,7 @@ module _ {src : Bytes} {k n : ℕ} {st : State} {t : List ℕ} (b : Begun src k 
   begun-start : startAt (logOf (filesIn src)) n ≡ some (fileIn src k)
   begun-start =
       start-good (logOf (filesIn src)) n (fileIn src k) (b .checkpoint)
-      (isStart-both (fileIn src k .body) (readFile-readable mostLive (fileIn src k) _ _ (b .gives))
+      (isStart-both (fileIn src k .body) (readFile-readable mostLive ofCheckpoint (fileIn src k) _ _ (b .gives))
       (readFile-says mostLive (fileIn src k) (stateOf src st t) (b .gives) (carries-id (b .carries) (b .told))))
 
   pub begun-latest : climb most (logOf (filesIn src)) n ≡ latest (logOf (filesIn src))

@@ -7,7 +7,7 @@ use native.Mathlib.Nat.{eq-or-lt-of-le}
 use native.Mathlib.Omega.{arith}
 use Rattle.rules.specs.Bundle.{File}
 use Rattle.rules.specs.Refusals.{Refusal, Answer, refused, _>>=_}
-use Rattle.rules.specs.History.{State, readFile}
+use Rattle.rules.specs.History.{ofVersion, State, readFile}
 use Rattle.rules.specs.Starts.{Log, Way, andThen, follow}
 use Rattle.rules.proofs.Tests.{apart}
 use Rattle.log_starts.specs.Ways.{Leads, here, next}
@@ -45,7 +45,7 @@ module _ {log : Log} {w₀ : Way} {s : ℕ} where
       → follow limit z w ≡ refused r
   unfolding follow
   leads-refused limit z here e = e
-  leads-refused limit z (next {v} {w} {g} l f) e = ap (λ (a : Answer State). a >>= (λ st. readFile limit g st)) (leads-refused limit z l e)
+  leads-refused limit z (next {v} {w} {g} l f) e = ap (λ (a : Answer State). a >>= (λ st. readFile limit ofVersion g st)) (leads-refused limit z l e)
 
   -- one version file more: where it is g, it is read after what came before it
   pub leads-file : {u : ℕ} {x : Way} {g : File} → s ≤ u → log .versionFile (suc u) ≡ some g → Leads log w₀ s (suc u) x

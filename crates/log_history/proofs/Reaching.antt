@@ -11,7 +11,7 @@ use Rattle.rules.specs.Bytes.{Bytes}
 use Rattle.rules.specs.Bundle.{File, IsBundle}
 use Rattle.rules.specs.Live.{mostLive}
 use Rattle.rules.specs.Refusals.{Refusal, Answer, refused, _>>=_}
-use Rattle.rules.specs.History.{readFile, readZero}
+use Rattle.rules.specs.History.{ofCheckpoint, readFile, readZero}
 use Rattle.rules.specs.History.{State as rState}
 use Rattle.rules.specs.Starts.{Log, logOf, Way, fromZero, fromCheckpoint, wayTo, follow}
 use Rattle.rules.specs.Reading.{stateWithin, stateBy}
@@ -78,32 +78,33 @@ module _ (src : Bytes) (limit v : ℕ) (z : State) (start : Start) (t t′ : Lis
       apart (cc)
 
   module _ {k : ℕ} {s : Version} (e : start ≡ Checkpoint k s) (empty : State) (renewed : Renewed z empty) where
-    begins : follow limit (stateOf src z t) (fromCheckpoint (fileIn src k)) ≡ readFile limit (fileIn src k) (stateOf src empty t)
+    begins : follow limit (stateOf src z t) (fromCheckpoint (fileIn src k)) ≡ readFile limit ofCheckpoint (fileIn src k) (stateOf src empty t)
     unfolding follow
-    begins = ap (readFile limit (fileIn src k)) (sym (renewed .0 src t))
+    begins = ap (readFile limit ofCheckpoint (fileIn src k)) (sym (renewed .0 src t))
 
     pub follow-checkpoint : {st : State} (t₁ : List ℕ) (x r : Outcome) → x ≡ Done st
-        → OutcomeIs src limit (readFile limit (fileIn src k) (stateOf src empty t)) t t₁ x
+        → OutcomeIs src limit (readFile limit ofCheckpoint (fileIn src k) (stateOf src empty t)) t t₁ x
         → OnwardIs src limit (s .0) v st t₁ t′ r → FollowIs src limit v z start t t′ r
     follow-checkpoint {st} t₁ x r q d on w h =
         let p = subst (StartIs src v (some w)) e h in
-        let a = subst (OutcomeIs src limit (readFile limit (fileIn src k) (stateOf src empty t)) t t₁) q d in
+        let a = subst (OutcomeIs src limit (readFile limit ofCheckpoint (fileIn src k) (stateOf src empty t)) t t₁) q d in
         let b = on (stateOf src z t) (fromCheckpoint (fileIn src k)) (p .2) (p .4) (begins ∙ a .0) in
         subst
         (λ (y : Way). OutcomeIs src limit (follow limit (stateOf src z t) y) t t′ r)
         (sym (some-same (p .3)))
         (outcome-join src limit (follow limit (stateOf src z t) (p .2)) t t₁ t′ r (a .1 .left) b)
 
-    faulty : {r : Refusal} → readFile limit (fileIn src k) (stateOf src empty t) ≡ refused r → (w : Way) → StartIs src v (some w) start
+    faulty : {r : Refusal} → readFile limit ofCheckpoint (fileIn src k) (stateOf src empty t) ≡ refused r → (w : Way) → StartIs src v (some w) start
         → follow limit (stateOf src z t) w ≡ refused r
     faulty q w h =
         let p = subst (StartIs src v (some w)) e h in
         ap (follow limit (stateOf src z t)) (some-same (p .3)) ∙ leads-refused limit (stateOf src z t) (p .4) (begins ∙ q)
 
-    pub follow-refused : {y : LineRefusal} (x : Outcome) → x ≡ Refused y → OutcomeIs src limit (readFile limit (fileIn src k) (stateOf src empty t)) t t′ x
+    pub follow-refused : {y : LineRefusal} (x : Outcome) → x ≡ Refused y
+        → OutcomeIs src limit (readFile limit ofCheckpoint (fileIn src k) (stateOf src empty t)) t t′ x
         → FollowIs src limit v z start t t′ (Refused y)
     follow-refused x q d w h =
-        let a = subst (OutcomeIs src limit (readFile limit (fileIn src k) (stateOf src empty t)) t t′) q d in
+        let a = subst (OutcomeIs src limit (readFile limit ofCheckpoint (fileIn src k) (stateOf src empty t)) t t′) q d in
         (faulty (a .0) w h, a .1)
 
 -- ---- from version 0

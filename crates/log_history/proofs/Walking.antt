@@ -8,7 +8,7 @@ use native.Mathlib.Omega.{arith}
 use Rattle.rules.specs.Bytes.{Bytes}
 use Rattle.rules.specs.Bundle.{File}
 use Rattle.rules.specs.Refusals.{Refusal, Answer, accepted, refused, _>>=_}
-use Rattle.rules.specs.History.{readFile}
+use Rattle.rules.specs.History.{ofVersion, readFile}
 use Rattle.rules.specs.History.{State as rState}
 use Rattle.rules.specs.Starts.{Log, logOf, Way, follow}
 use Rattle.file_bundle.specs.Files.{filesIn}
@@ -71,20 +71,21 @@ module _ (src : Bytes) (limit s v : ℕ) (t₀ : List ℕ) (st₀ : State) where
 
       module _ {f : File} (e : logOf (filesIn src) .versionFile (at + 1) ≡ some f) (t′ : List ℕ) where
         step : (z : rState) (w₀ x : Way) → Leads (logOf (filesIn src)) w₀ s (at + 1) x → follow limit z w₀ ≡ accepted (stateOf src st₀ t₀)
-            → follow limit z x ≡ readFile limit f (stateOf src st t)
+            → follow limit z x ≡ readFile limit ofVersion f (stateOf src st t)
         unfolding follow
         step z w₀ x l b =
             let m : Leads (logOf (filesIn src)) w₀ s (suc at) x = subst (λ (n : ℕ). Leads (logOf (filesIn src)) w₀ s n x) (add-one at) l in
             let r = leads-file (g .behind) (ap (logOf (filesIn src) .versionFile) (sym (add-one at)) ∙ e) m in
-            ap (follow limit z) (r .1) ∙ ap (λ (a : Answer rState). a >>= (λ y. readFile limit f y)) (g .follows z w₀ (r .0) (r .2) b)
+            ap (follow limit z) (r .1) ∙ ap (λ (a : Answer rState). a >>= (λ y. readFile limit ofVersion f y)) (g .follows z w₀ (r .0) (r .2) b)
 
-        faulty : {r : Refusal} → readFile limit f (stateOf src st t) ≡ refused r → (z : rState) (w₀ w : Way) → Leads (logOf (filesIn src)) w₀ s v w
+        faulty : {r : Refusal} → readFile limit ofVersion f (stateOf src st t) ≡ refused r → (z : rState) (w₀ w : Way) → Leads (logOf (filesIn src)) w₀ s v w
             → follow limit z w₀ ≡ accepted (stateOf src st₀ t₀) → follow limit z w ≡ refused r
         faulty q z w₀ w l b =
             let c = leads-cut (at + 1) (omega (arith, g .behind)) (omega arith) l in
             leads-refused limit z (c .2) (step z w₀ (c .0) (c .1) b ∙ q)
 
-        pub onward-next : (m : State) → OutcomeIs src limit (readFile limit f (stateOf src st t)) t t′ (Done m) → Onward src limit s v t₀ st₀ t′ (at + 1) m
+        pub onward-next : (m : State) → OutcomeIs src limit (readFile limit ofVersion f (stateOf src st t)) t t′ (Done m)
+            → Onward src limit s v t₀ st₀ t′ (at + 1) m
         onward-next m d = record {
           behind = omega (arith, g .behind);
           upto = omega arith;
@@ -92,6 +93,6 @@ module _ (src : Bytes) (limit s v : ℕ) (t₀ : List ℕ) (st₀ : State) where
           follows = λ z w₀ x l b. step z w₀ x l b ∙ d .0;
         }
 
-        pub onward-refused : (y : LineRefusal) → OutcomeIs src limit (readFile limit f (stateOf src st t)) t t′ (Refused y)
+        pub onward-refused : (y : LineRefusal) → OutcomeIs src limit (readFile limit ofVersion f (stateOf src st t)) t t′ (Refused y)
             → OnwardIs src limit s v st₀ t₀ t′ (Refused y)
         onward-refused y d z w₀ w l b = (faulty (d .0) z w₀ w l b, left-join (g .carried .left) (d .1))

@@ -7,7 +7,7 @@ use Rattle.rules.specs.Bytes.{Bytes}
 use Rattle.rules.specs.Bundle.{File}
 use Rattle.rules.specs.Live.{mostLive}
 use Rattle.rules.specs.Refusals.{accepted}
-use Rattle.rules.specs.History.{readFile, readZero}
+use Rattle.rules.specs.History.{ofCheckpoint, readFile, readZero}
 use Rattle.rules.specs.History.{State as rState}
 use Rattle.rules.specs.Starts.{logOf, wayTo, nothingLive}
 use Rattle.rules.specs.Marker.{latest}
@@ -30,7 +30,7 @@ pub record Begun (src : Bytes) (k n : ℕ) (st : State) (t : List ℕ) : Type 0 
   pub says : readZero zero ≡ accepted z
   pub marker : namedBy (logOf (filesIn src)) ≡ some n
   pub checkpoint : logOf (filesIn src) .checkpointFile n ≡ some (fileIn src k)
-  pub gives : readFile mostLive (fileIn src k) nothingLive ≡ accepted (stateOf src st t)
+  pub gives : readFile mostLive ofCheckpoint (fileIn src k) nothingLive ≡ accepted (stateOf src st t)
   pub carries : Carries src mostLive st t
   pub told : 0 < st .table .size
 

@@ -42,7 +42,7 @@ pub fn onward(
         let Place::At(k) = log_files::version_file(src, Version(next), place) else {
             return Outcome::Done(state); // never: they are all there
         };
-        match log_replay::read_file(src, k, state, t, limit) {
+        match log_replay::read_file(src, k, state, t, limit, true) {
             Outcome::Done(after) => {
                 state = after;
                 w = next;
@@ -70,7 +70,7 @@ pub fn follow(
         Start::Zero => onward(src, z, Version(0), v, 0, t, limit),
         Start::Checkpoint(k, s) => {
             let empty = log_replay::nothing_live(z);
-            match log_replay::read_file(src, k, empty, t, limit) {
+            match log_replay::read_file(src, k, empty, t, limit, false) {
                 Outcome::Done(st) => onward(src, st, s, v, k, t, limit),
                 Outcome::Refused(x) => Outcome::Refused(x),
             }
@@ -92,7 +92,7 @@ fn from_zero(src: &[u8], k: usize, start: Start, v: Version, t: &mut [u64]) -> O
     }
 }
 
-// The state at version v, read into the table t by way of the highest start that reaches it; or refusal 4, 5, 6 or 7, after which the
+// The state at version v, read into the table t by way of the highest start that reaches it; or refusal 4, 5, 6, 21 or 7, after which the
 // first rows of the table may hold anything.
 pub fn state_at(src: &[u8], v: Version, t: &mut [u64]) -> Outcome
     requires { ⌜ IsBundle (now src) × Room mostLive (now t) ⌝ }

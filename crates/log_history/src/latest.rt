@@ -67,7 +67,7 @@ fn read_marked(src: &[u8], t: &mut [u64]) -> Marked
         return Marked::NotRead;
     };
     let empty = log_replay::nothing_live(z);
-    let Outcome::Done(st) = log_replay::read_file(src, k, empty, t, MOST_LIVE) else {
+    let Outcome::Done(st) = log_replay::read_file(src, k, empty, t, MOST_LIVE, false) else {
         return Marked::NotRead;
     };
     if st.table.size == 0 {
@@ -76,7 +76,7 @@ fn read_marked(src: &[u8], t: &mut [u64]) -> Marked
     Marked::Read(k, Version(n), st)
 }
 
-// The latest version of the well-formed bundle src, and the state there, read into the table t; or refusal 4, 5, 6 or 7.
+// The latest version of the well-formed bundle src, and the state there, read into the table t; or refusal 4, 5, 6, 21 or 7.
 pub fn state_at_latest(src: &[u8], t: &mut [u64]) -> Latest
     requires { ⌜ IsBundle (now src) × Room mostLive (now t) ⌝ }
     ensures { λ r. ⌜ LatestIs (now (src .entry)) (now (t .entry)) (now (t .exit)) r ⌝ }

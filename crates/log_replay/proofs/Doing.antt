@@ -1,6 +1,7 @@
 -- What a line does, by what it says: to the rules' state, and to what is carried.
 use mathlib.Core.Path.{_≡_, refl, sym, ap, _∙_, subst}
-use mathlib.Core.Option.{Option, some}
+use mathlib.Core.Bool.{Bool, true, false}
+use mathlib.Core.Option.{Option, none, some}
 use mathlib.Core.List.{List, map}
 use Prim.Native.Nat.{ℕ, _+_, _≤_, _<_}
 use native.Mathlib.Omega.{arith}
@@ -13,7 +14,8 @@ use Rattle.rules.specs.Actions.{Facts, add, remove, protocol, metaData, mergesk
 use Rattle.rules.specs.Actions.{Action as rAction, Protocol as rProtocol, MetaData as rMetaData}
 use Rattle.rules.specs.Live.{Row, put, takeOut, pathOf}
 use Rattle.rules.specs.Refusals.{accepted}
-use Rattle.rules.specs.History.{effect, withinLimit, readLine, orUnstated}
+use Rattle.rules.specs.History.{fits, effect, withinLimit, readLine, orUnstated}
+use Rattle.rules.proofs.Tests.{apart}
 use Rattle.rules.proofs.Live.{All-put, All-takeOut}
 use Rattle.json_strings.specs.Decoded.{decoded, WellSpelled}
 use Rattle.row_table.specs.Table.{rows, behind}
@@ -21,9 +23,9 @@ use Rattle.row_table.specs.declared.Cells.{Cells}
 use Rattle.row_live.specs.declared.Standing.{Standing}
 use Rattle.row_live.specs.Live.{placeOf, key, Packed, Became}
 use Rattle.refusals.specs.Numbered.{numbered}
-use Rattle.refusals.specs.declared.Refusal.the-variants.{TooManyLive, Malformed as MalformedLine}
+use Rattle.refusals.specs.declared.Refusal.the-variants.{TooManyLive, Malformed as MalformedLine, ForeignKeys}
 use Rattle.line_actions.specs.Line.{ActionIs}
-use Rattle.line_actions.specs.Asked.{protocolIn}
+use Rattle.line_actions.specs.Asked.{addIn, protocolIn}
 use Rattle.line_actions.specs.declared.line.Added.{Added}
 use Rattle.line_actions.specs.declared.line.Stated.{Stated}
 use Rattle.line_actions.specs.declared.line.Tabled.{Tabled}
@@ -32,20 +34,31 @@ use Rattle.log_replay.specs.declared.State.{State}
 use Rattle.log_replay.specs.declared.Put.the-variants.{Rows, Full}
 use Rattle.log_replay.specs.declared.Outcome.the-variants.{Done, Refused}
 use Rattle.log_replay.specs.Views.{Lies, lineAt, protocolAt, factsAt, rowOf, orNoTable, tableAt, stateOf, Stands, Carries}
-use Rattle.log_replay.specs.Answers.{Carried, PutIs, LineIs}
-use Rattle.rules.proofs.Applying.{withinLimit-few, withinLimit-many, readLine-none, readLine-some}
+use Rattle.log_replay.specs.Answers.{Carried, PutIs, origin, LineIs}
+use Rattle.rules.proofs.Applying.{withinLimit-few, withinLimit-many, readLine-none, readLine-some, readLine-foreign}
 use Rattle.json_strings.proofs.Placing.{Placed, spelled-part}
-use Rattle.log_replay.proofs.Nothing.{table-here}
+use Rattle.log_replay.proofs.Nothing.{table-here, table-there}
 use Rattle.log_replay.proofs.Standing.{stands-facts, rows-put, rows-takeOut, length-live}
 
 -- the row of an add
 abbrev pub rowFor : (head len : ℕ) → Added → Cells
 rowFor head len a = record { head = head; len = len; size = a .size; time = a .time }
 
+-- an action that is no add has no keys
+keyless : (held : Bool) (a : rAction) → addIn (some a) ≡ none → (m : rMetaData) → fits (origin held) a m ≡ true
+unfolding fits addIn
+keyless true (add f) e m = apart (cc)
+keyless true (remove p) e m = refl
+keyless true (protocol p) e m = refl
+keyless true (metaData n) e m = refl
+keyless true mergeskip e m = refl
+keyless true other e m = refl
+keyless false a e m = refl
+
 -- rows that stand are carried on, as a change of the table left them
 became-carried : {src : Text} {limit : ℕ} {st : State} {t t′ : List ℕ} {rs : List Cells} (r : Standing) → Carries src limit st t → All (Stands src) rs
     → Became src rs limit t r t′
-    → Carried src limit t (record { table = st .table; protocol = st .protocol; base = r .base; live = r .live }) t′
+    → Carried src limit t (record { table = st .table; columns = st .columns; protocol = st .protocol; base = r .base; live = r .live }) t′
 became-carried {src} {limit} {st} {t} {t′} {rs} r w all b = record {
   left = record { rest = b .rest; length = b .length };
   carries = record {
@@ -63,45 +76,47 @@ became-carried {src} {limit} {st} {t} {t′} {rs} r w all b = record {
 module _ (src line : Text) (limit from : ℕ) (st : State) (t : List ℕ) (w : Carries src limit st t) (z : Lies src from line) (h : 0 < length line) where
   -- ---- to the rules' state
 
-  acts : (a : rAction) → action line ≡ some a → (e k : ℕ)
-      → readLine limit e k from line (stateOf src st t) ≡ withinLimit limit e k (effect from (length line) a (stateOf src st t))
-  acts a q e k =
-      readLine-some limit e k from line (stateOf src st t) h a q
+  acts : (held : Bool) (a : rAction) → action line ≡ some a → fits (origin held) a (stateOf src st t .table) ≡ true → (e k : ℕ)
+      → readLine limit (origin held) e k from line (stateOf src st t) ≡ withinLimit limit e k (effect from (length line) a (stateOf src st t))
+  acts held a q f e k =
+      readLine-some limit (origin held) e k from line (stateOf src st t) h a q f
 
-  leads : (a : rAction) → action line ≡ some a → (m : State) (t′ : List ℕ) → effect from (length line) a (stateOf src st t) ≡ stateOf src m t′
+  leads : (held : Bool) (a : rAction) → action line ≡ some a → fits (origin held) a (stateOf src st t .table) ≡ true → (m : State) (t′ : List ℕ)
+      → effect from (length line) a (stateOf src st t) ≡ stateOf src m t′
       → m .base + m .live ≤ limit
-      → (e k : ℕ) → readLine limit e k from line (stateOf src st t) ≡ accepted (stateOf src m t′)
-  leads a q m t′ f few e k =
-      acts a q e k ∙ ap (withinLimit limit e k) f ∙ withinLimit-few limit e k (stateOf src m t′) (omega (arith, length-live src m t′))
+      → (e k : ℕ) → readLine limit (origin held) e k from line (stateOf src st t) ≡ accepted (stateOf src m t′)
+  leads held a q fit m t′ f few e k =
+      acts held a q fit e k ∙ ap (withinLimit limit e k) f ∙ withinLimit-few limit e k (stateOf src m t′) (omega (arith, length-live src m t′))
 
   -- ---- lines that change no row
 
   carried-same : Carried src limit t st t
   carried-same = record { left = record { rest = refl; length = refl }; carries = w }
 
-  pub did-mergeskip : (e k : ℕ) → ActionIs (action line) line Mergeskip → LineIs src limit from line e k st t t (Done st)
-  unfolding effect
-  did-mergeskip e k q = (leads mergeskip q st t refl (w .few) e k, carried-same)
+  pub did-mergeskip : (held : Bool) (e k : ℕ) → ActionIs (action line) line Mergeskip → LineIs src limit held from line e k st t t (Done st)
+  unfolding effect addIn
+  did-mergeskip held e k q = (leads held mergeskip q (keyless held mergeskip refl _) st t refl (w .few) e k, carried-same)
 
-  pub did-other : (e k : ℕ) → ActionIs (action line) line Other → LineIs src limit from line e k st t t (Done st)
-  unfolding effect
-  did-other e k q = (leads other q st t refl (w .few) e k, carried-same)
+  pub did-other : (held : Bool) (e k : ℕ) → ActionIs (action line) line Other → LineIs src limit held from line e k st t t (Done st)
+  unfolding effect addIn
+  did-other held e k q = (leads held other q (keyless held other refl _) st t refl (w .few) e k, carried-same)
 
-  pub did-malformed : (e k : ℕ) → ActionIs (action line) line Malformed → LineIs src limit from line e k st t t (Refused (MalformedLine e k))
+  pub did-malformed : (held : Bool) (e k : ℕ) → ActionIs (action line) line Malformed → LineIs src limit held from line e k st t t (Refused (MalformedLine e k))
   unfolding numbered
-  did-malformed e k q = (readLine-none limit e k from line (stateOf src st t) h q, refl)
+  did-malformed held e k q = (readLine-none limit (origin held) e k from line (stateOf src st t) h q, refl)
 
   stated : (p : rProtocol) → action line ≡ some (protocol p) → p ≡ orUnstated (protocolAt src (record { at = from; size = length line }))
   unfolding protocolAt protocolIn lineAt orUnstated
   stated p q = sym (ap (λ o. orUnstated (protocolIn o)) (ap action (z .same) ∙ q))
 
-  pub did-metaData : (e k : ℕ) {r : Tabled} → ActionIs (action line) line (MetaData r)
-      → LineIs src limit from line e k st t t
-      (Done (record { table = record { at = from; size = length line }; protocol = st .protocol; base = st .base; live = st .live }))
-  unfolding effect stateOf orNoTable
-  did-metaData e k q =
-      let m : State = record { table = record { at = from; size = length line }; protocol = st .protocol; base = st .base; live = st .live } in (
-        leads (metaData (q .0)) (q .1) m t
+  pub did-metaData : (held : Bool) (e k : ℕ) {r : Tabled} → ActionIs (action line) line (MetaData r)
+      → LineIs src limit held from line e k st t t
+      (Done (record { table = record { at = from; size = length line }; columns = r .columns; protocol = st .protocol; base = st .base; live = st .live }))
+  unfolding effect stateOf orNoTable addIn
+  did-metaData held e k {r} q =
+      let m : State =
+      record { table = record { at = from; size = length line }; columns = r .columns; protocol = st .protocol; base = st .base; live = st .live } in (
+        leads held (metaData (q .0)) (q .1) (keyless held (metaData (q .0)) refl _) m t
             (ap
             (λ (o : Option rMetaData). record {
               table = orNoTable o;
@@ -118,19 +133,20 @@ module _ (src line : Text) (limit from : ℕ) (st : State) (t : List ℕ) (w : C
             table = w .table;
             stands = w .stands;
             metaData = z .within;
-            told = λ n. (q .0, table-here z (q .1));
+            told = λ n. table-there z q;
             protocol = w .protocol;
           };
         },
       )
 
-  pub did-protocol : (e k : ℕ) {r : Stated} → ActionIs (action line) line (Protocol r)
-      → LineIs src limit from line e k st t t
-      (Done (record { table = st .table; protocol = record { at = from; size = length line }; base = st .base; live = st .live }))
-  unfolding effect stateOf
-  did-protocol e k q =
-      let m : State = record { table = st .table; protocol = record { at = from; size = length line }; base = st .base; live = st .live } in (
-        leads (protocol (q .0)) (q .1) m t
+  pub did-protocol : (held : Bool) (e k : ℕ) {r : Stated} → ActionIs (action line) line (Protocol r)
+      → LineIs src limit held from line e k st t t
+      (Done (record { table = st .table; columns = st .columns; protocol = record { at = from; size = length line }; base = st .base; live = st .live }))
+  unfolding effect stateOf addIn
+  did-protocol held e k q =
+      let m : State =
+      record { table = st .table; columns = st .columns; protocol = record { at = from; size = length line }; base = st .base; live = st .live } in (
+        leads held (protocol (q .0)) (q .1) (keyless held (protocol (q .0)) refl _) m t
             (ap
             (λ (p : rProtocol). record {
               table = orNoTable (tableAt src (st .table));
@@ -168,18 +184,24 @@ module _ (src line : Text) (limit from : ℕ) (st : State) (t : List ℕ) (w : C
   pub remove-fits : {p : ℕ} → ActionIs (action line) line (Remove p) → from + p ≤ length src
   remove-fits {p} q = let n : p ≤ length line = q .2 in omega (arith, z .within)
 
-  pub did-remove : (entry number : ℕ) {p : ℕ} {t′ : List ℕ} (r : Standing) → ActionIs (action line) line (Remove p)
+  pub did-remove : (held : Bool) (entry number : ℕ) {p : ℕ} {t′ : List ℕ} (r : Standing) → ActionIs (action line) line (Remove p)
       → Became src (takeOut (key src) (decoded (drop (from + p) src)) (rows (st .live) (behind (st .base) t))) limit t r t′
-      → LineIs src limit from line entry number st t t′ (Done (record { table = st .table; protocol = st .protocol; base = r .base; live = r .live }))
-  unfolding effect stateOf
-  did-remove entry number {p} {t′} r q b =
+      → LineIs src limit held from line entry number st t t′
+      (Done (record { table = st .table; columns = st .columns; protocol = st .protocol; base = r .base; live = r .live }))
+  unfolding effect stateOf addIn
+  did-remove held entry number {p} {t′} r q b =
       let rs : List Cells = rows (st .live) (behind (st .base) t) in
       let k : Bytes = decoded (drop (from + p) src) in
       let x : Bytes = decoded (drop p line) in
       let e : map (rowOf src) (rows (r .live) (behind (r .base) t′)) ≡ takeOut pathOf x (map (rowOf src) rs) =
       ap (map (rowOf src)) (b .holds) ∙ rows-takeOut src k rs (w .stands)
       ∙ ap (λ (y : Bytes). takeOut pathOf y (map (rowOf src) rs)) (remove-placed q .same) in (
-        leads (remove x) (q .0) (record { table = st .table; protocol = st .protocol; base = r .base; live = r .live }) t′
+        leads held
+            (remove x)
+            (q .0)
+            (keyless held (remove x) refl _)
+            (record { table = st .table; columns = st .columns; protocol = st .protocol; base = r .base; live = r .live })
+            t′
             (ap
             (λ (rs′ : List Row). record { table = orNoTable (tableAt src (st .table)); inForce = orUnstated (protocolAt src (st .protocol)); live = rs′ })
             (sym e))
@@ -195,6 +217,11 @@ module _ (src line : Text) (limit from : ℕ) (st : State) (t : List ℕ) (w : C
 
     pub add-fits : from + a .path ≤ length src
     add-fits = let n : a .path ≤ a .end = q .2 .ordered in let k : a .end ≤ length line = q .2 .within in omega (arith, z .within)
+
+    pub did-foreign : (held : Bool) → fits (origin held) (add (q .0)) (orNoTable (tableAt src (st .table))) ≡ false → (e k : ℕ)
+        → LineIs src limit held from line e k st t t (Refused (ForeignKeys e k))
+    unfolding stateOf numbered
+    did-foreign held fit e k = (readLine-foreign limit (origin held) e k from line (stateOf src st t) h (add (q .0)) (q .1) fit, refl)
 
     module _ (head : ℕ) (packed : Packed from (from + a .path) head) where
       line-of : action (part src (placeOf (rowFor head (length line) a)) (placeOf (rowFor head (length line) a) + length line)) ≡ some (add (q .0))
@@ -222,23 +249,26 @@ module _ (src line : Text) (limit from : ℕ) (st : State) (t : List ℕ) (w : C
           rows-put src (rowFor head (length line) a) (rows (st .live) (behind (st .base) t)) stands-add (w .stands)
           ∙ ap (λ (r : Row). put pathOf r (map (rowOf src) (rows (st .live) (behind (st .base) t)))) row-add
 
-      pub did-add : (e k : ℕ) {t′ : List ℕ} (r : Standing) → PutIs src (rowFor head (length line) a) (st .base) (st .live) limit t t′ (Rows r)
-          → LineIs src limit from line e k st t t′ (Done (record { table = st .table; protocol = st .protocol; base = r .base; live = r .live }))
+      pub did-add : (held : Bool) → fits (origin held) (add (q .0)) (orNoTable (tableAt src (st .table))) ≡ true → (e k : ℕ) {t′ : List ℕ} (r : Standing)
+          → PutIs src (rowFor head (length line) a) (st .base) (st .live) limit t t′ (Rows r)
+          → LineIs src limit held from line e k st t t′
+          (Done (record { table = st .table; columns = st .columns; protocol = st .protocol; base = r .base; live = r .live }))
       unfolding effect stateOf
-      did-add e k {t′} r b = (
-        leads (add (q .0)) (q .1) (record { table = st .table; protocol = st .protocol; base = r .base; live = r .live }) t′
+      did-add held fit e k {t′} r b = (
+        leads held (add (q .0)) (q .1) fit (record { table = st .table; columns = st .columns; protocol = st .protocol; base = r .base; live = r .live }) t′
             (ap (λ (rs : List Row). record { table = orNoTable (tableAt src (st .table)); inForce = orUnstated (protocolAt src (st .protocol)); live = rs })
             (sym (ap (map (rowOf src)) (b .holds) ∙ live-add)))
             (b .within) e k,
         became-carried r w (All-put (key src) (Stands src) (rowFor head (length line) a) (rows (st .live) (behind (st .base) t)) (w .stands) stands-add) b,
       )
 
-      pub did-full : (e k : ℕ) {t′ : List ℕ} → PutIs src (rowFor head (length line) a) (st .base) (st .live) limit t t′ Full
-          → LineIs src limit from line e k st t t′ (Refused (TooManyLive e k))
+      pub did-full : (held : Bool) → fits (origin held) (add (q .0)) (orNoTable (tableAt src (st .table))) ≡ true → (e k : ℕ) {t′ : List ℕ}
+          → PutIs src (rowFor head (length line) a) (st .base) (st .live) limit t t′ Full
+          → LineIs src limit held from line e k st t t′ (Refused (TooManyLive e k))
       unfolding effect stateOf numbered
-      did-full e k {t′} b =
+      did-full held fit e k {t′} b =
           let rs : List Cells = put (key src) (rowFor head (length line) a) (rows (st .live) (behind (st .base) t)) in (
-            acts (add (q .0)) (q .1) e k
+            acts held (add (q .0)) (q .1) fit e k
                 ∙ withinLimit-many limit e k _ (omega (arith, ap length live-add, length-map rs (rowOf src), b .0)),
             b .1,
           )

@@ -6,6 +6,7 @@ pub mod Doing
 pub mod Going
 pub mod Nothing
 pub mod Tabled
+pub mod Fitting
 pub mod Zeroing
 pub mod Filing
 pub mod Within

@@ -25,5 +25,5 @@ said (some other) m e = apart (cc)
 pub carries-id : {src : Text} {limit : ℕ} {st : State} {t : List ℕ} → Carries src limit st t → 0 < st .table .size → HasId (stateOf src st t .table)
 unfolding stateOf orNoTable tableAt
 carries-id {src} {st = st} c told =
-    let (m, e) = c .told told in
-    subst HasId (sym (ap orNoTable e)) (action-id (lineAt src (st .table)) m (said (action (lineAt src (st .table))) m e))
+    let r = c .told told in
+    subst HasId (sym (ap orNoTable (r .says))) (action-id (lineAt src (st .table)) (r .table) (said (action (lineAt src (st .table))) (r .table) (r .says)))

@@ -36,7 +36,7 @@ use Rattle.log_replay.specs.declared.begin.Saying.the-variants.{Next, Re
 use Rattle.log_replay.specs.Views.{Lies, tableAt, protocolAt, orNoTable, stateOf, saidOf, Stated}
 use Rattle.log_replay.specs.Answers.{bodyAs, says, SayingIs, ZeroIs, middle}
 use Rattle.rules.proofs.Applying.{zeroLines-empty}
-use Rattle.log_replay.proofs.Nothing.{nowhere, action-here, table-here, table-nowhere, protocol-nowhere, carries-none}
+use Rattle.log_replay.proofs.Nothing.{nowhere, action-here, table-here, table-there, table-nowhere, protocol-nowhere, carries-none}
 
 -- ---- one line
 
@@ -69,20 +69,21 @@ module _ (src line : Text) (from e k : ℕ) (x : Said) (w : Stated src x) (z : L
 
   module _ {r : Tabled} (q : ActionIs (action line) line (MetaData r)) where
     pub said-table : x .table .size ≡ 0
-        → SayingIs src (says e k line (saidOf src x)) (Next (record { table = record { at = from; size = length line }; protocol = x .protocol }))
+        → SayingIs src (says e k line (saidOf src x))
+        (Next (record { table = record { at = from; size = length line }; columns = r .columns; protocol = x .protocol }))
     unfolding rSay sayTable saidOf
     said-table n = (
       told (metaData (q .0)) (q .1)
           ∙ ap (λ (o : Option rMetaData). orRefuse (malformed e k) (sayTable o (q .0) (saidOf src x))) (table-nowhere src (x .table) n)
           ∙ ap (λ (o : Option rMetaData). accepted (record { ofTable = o; ofProtocol = protocolAt src (x .protocol) })) (sym (table-here z (q .1))),
-      record { metaData = z .within; protocol = w .protocol; ofTable = λ n. (q .0, table-here z (q .1)); ofProtocol = w .ofProtocol },
+      record { metaData = z .within; protocol = w .protocol; ofTable = λ n. table-there z q; ofProtocol = w .ofProtocol },
     )
 
     pub said-table-twice : (x .table .size ≡ 0 → ⊥) → SayingIs src (says e k line (saidOf src x)) (NotSaid (MalformedLine e k))
     unfolding rSay sayTable saidOf numbered
     said-table-twice n =
         told (metaData (q .0)) (q .1)
-        ∙ ap (λ (o : Option rMetaData). orRefuse (malformed e k) (sayTable o (q .0) (saidOf src x))) (w .ofTable (omega arith) .1)
+        ∙ ap (λ (o : Option rMetaData). orRefuse (malformed e k) (sayTable o (q .0) (saidOf src x))) (w .ofTable (omega arith) .says)
 
   module _ {r : Stating} (q : ActionIs (action line) line (Protocol r)) where
     protocol-here : protocolAt src (record { at = from; size = length line }) ≡ some (q .0)
@@ -90,7 +91,8 @@ module _ (src line : Text) (from e k : ℕ) (x : Said) (w : Stated src x) (z : L
     protocol-here = ap protocolIn (action-here z ∙ q .1)
 
     pub said-protocol : x .protocol .size ≡ 0
-        → SayingIs src (says e k line (saidOf src x)) (Next (record { table = x .table; protocol = record { at = from; size = length line } }))
+        → SayingIs src (says e k line (saidOf src x))
+        (Next (record { table = x .table; columns = x .columns; protocol = record { at = from; size = length line } }))
     unfolding rSay sayProtocol saidOf
     said-protocol n = (
       told (protocol (q .0)) (q .1)
@@ -129,7 +131,7 @@ pub record Telling (src : Text) (entry from to at : ℕ) (x : Said) (line : ℕ)
   pub reads : zeroLines entry line (lines (part src at to)) (saidOf src x) ≡ zeroLines entry 1 (lines (part src from to)) saidNothing
 
 module _ (src : Text) (entry from to : ℕ) where
-  pub telling-start : from ≤ to → Telling src entry from to from (record { table = nowhere; protocol = nowhere }) 1
+  pub telling-start : from ≤ to → Telling src entry from to from (record { table = nowhere; columns = 0; protocol = nowhere }) 1
   unfolding saidOf saidNothing
   telling-start h = record {
     upto = omega arith;
@@ -153,10 +155,11 @@ module _ (src : Text) (entry from to : ℕ) where
         (sym (g .reads) ∙ ap (λ (ls : List Bytes). zeroLines entry line ls (saidOf src x)) (lines-part-none src at to h))
 
     pub telling-says : to ≤ at → (x .table .size ≡ 0 → ⊥)
-        → ZeroIs src (readZero (bodyAs entry from (part src from to))) (Done (record { table = x .table; protocol = x .protocol; base = middle; live = 0 }))
+        → ZeroIs src (readZero (bodyAs entry from (part src from to)))
+        (Done (record { table = x .table; columns = x .columns; protocol = x .protocol; base = middle; live = 0 }))
     unfolding saidOf stateOf rowsOf orNoTable
     telling-says h n =
-        let (m, q) = g .stated .ofTable (omega arith) in (
+        let q = g .stated .ofTable (omega arith) .says in (
           λ t.
               ends h
               ∙ ap (λ (o : Option rMetaData). ending entry (record { ofTable = o; ofProtocol = protocolAt src (x .protocol) })) q
@@ -164,7 +167,7 @@ module _ (src : Text) (entry from to : ℕ) where
               (sym q),
           refl,
           λ limit t short fits room. carries-none
-              (record { table = x .table; protocol = x .protocol; base = middle; live = 0 })
+              (record { table = x .table; columns = x .columns; protocol = x .protocol; base = middle; live = 0 })
               refl short fits room
               (g .stated .metaData)
               (g .stated .ofTable)

@@ -1,5 +1,6 @@
 -- What each answer of the crate says, in the rules' terms.
 use mathlib.Core.Path.{_≡_}
+use mathlib.Core.Bool.{Bool, true, false}
 use mathlib.Core.List.{List, []}
 use Prim.Native.Nat.{ℕ, _+_, _≤_, _<_}
 use lib.ListN.{length}
@@ -8,7 +9,7 @@ use Rattle.rules.specs.Json.Text.{Text}
 use Rattle.rules.specs.Actions.{action}
 use Rattle.rules.specs.Live.{put}
 use Rattle.rules.specs.Refusals.{Answer, accepted, refused, _>>=_, orRefuse, malformed}
-use Rattle.rules.specs.History.{readLine}
+use Rattle.rules.specs.History.{Origin, ofVersion, ofCheckpoint, readLine}
 use Rattle.rules.specs.Starts.{nothingLive}
 use Rattle.rules.specs.History.{State as rState, Said as rSaid, say as rSay}
 use Rattle.row_table.specs.Table.{rows, Room, behind}
@@ -41,11 +42,17 @@ abbrev pub PutIs : Text → Cells → (base n limit : ℕ) → List ℕ → List
 PutIs src c base n limit t t′ (Rows r) = Became src (put (key src) c (rows n (behind base t))) limit t r t′
 PutIs src c base n limit t t′ Full = (length (put (key src) c (rows n (behind base t))) ≡ limit + 1) × (t′ ≡ t)
 
+-- of which files the adds are held to the partition columns
+abbrev pub origin : (held : Bool) → Origin
+origin true = ofVersion
+origin false = ofCheckpoint
+
 -- of line k of entry e, which stands in src at `from`
-abbrev pub LineIs : Text → (limit from : ℕ) → (line : Text) → (e k : ℕ) → State → List ℕ → List ℕ → Outcome → Type 0
-LineIs src limit from line e k st t t′ (Done m) =
-    (readLine limit e k from line (stateOf src st t) ≡ accepted (stateOf src m t′)) × Carried src limit t m t′
-LineIs src limit from line e k st t t′ (Refused x) = (readLine limit e k from line (stateOf src st t) ≡ refused (numbered x)) × (t′ ≡ t)
+abbrev pub LineIs : Text → (limit : ℕ) → (held : Bool) → (from : ℕ) → (line : Text) → (e k : ℕ) → State → List ℕ → List ℕ → Outcome → Type 0
+LineIs src limit held from line e k st t t′ (Done m) =
+    (readLine limit (origin held) e k from line (stateOf src st t) ≡ accepted (stateOf src m t′)) × Carried src limit t m t′
+LineIs src limit held from line e k st t t′ (Refused x) =
+    (readLine limit (origin held) e k from line (stateOf src st t) ≡ refused (numbered x)) × (t′ ≡ t)
 
 -- ---- one file
 

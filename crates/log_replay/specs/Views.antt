@@ -15,6 +15,7 @@ use Rattle.rules.specs.History.{State as rState, Said as rSaid}
 use Rattle.row_table.specs.Table.{rows, Room, behind}
 use Rattle.row_table.specs.declared.Cells.{Cells}
 use Rattle.row_live.specs.Live.{places, placeOf, key, Table}
+use Rattle.field_containers.specs.Strung.{Listed}
 use Rattle.line_actions.specs.Asked.{addIn, protocolIn, metaDataIn}
 use Rattle.log_replay.specs.declared.Span.{Span}
 use Rattle.log_replay.specs.declared.State.{State}
@@ -79,9 +80,12 @@ saidOf src x = record { ofTable = tableAt src (x .table); ofProtocol = protocolA
 abbrev pub Inside : Text → Span → Type 0
 Inside src sp = sp .at + sp .size ≤ length src
 
--- where there is a line, it says a metaData
-abbrev pub Tells : Text → Span → Type 0
-Tells src sp = 0 < sp .size → (m : MetaData) × (tableAt src sp ≡ some m)
+-- a line says a metaData, and behind the bracket before `columns` of it stand its partition columns
+pub record TableSaid (src : Text) (sp : Span) (columns : ℕ) : Type 0 where
+  pub table : MetaData
+  pub says : tableAt src sp ≡ some table
+  pub within : columns ≤ length (lineAt src sp)
+  pub listed : Listed (lineAt src sp) columns (table .partitionColumns)
 
 -- the row is of a line of src, an add with the row's path and numbers
 pub record Stands (src : Text) (c : Cells) : Type 0 where
@@ -100,12 +104,12 @@ pub record Carries (src : Text) (limit : ℕ) (st : State) (t : List ℕ) : Type
   pub table : Table src (st .live) (behind (st .base) t)
   pub stands : All (Stands src) (rows (st .live) (behind (st .base) t))
   pub metaData : Inside src (st .table)
-  pub told : Tells src (st .table)
+  pub told : 0 < st .table .size → TableSaid src (st .table) (st .columns)
   pub protocol : Inside src (st .protocol)
 
 -- what version 0 said: where there is a line, it says a metaData, or a protocol
 pub record Stated (src : Text) (x : Said) : Type 0 where
   pub metaData : Inside src (x .table)
   pub protocol : Inside src (x .protocol)
-  pub ofTable : Tells src (x .table)
+  pub ofTable : 0 < x .table .size → TableSaid src (x .table) (x .columns)
   pub ofProtocol : 0 < x .protocol .size → (p : Protocol) × (protocolAt src (x .protocol) ≡ some p)

@@ -14,9 +14,10 @@ ghost use Rattle.log_replay.specs.Answers.{bodyAs, says, SayingIs, ZeroI
 // Rows are put in behind so many free ones at first, so that there is room on both sides.
 const MIDDLE: usize = 512;
 
-// The lines of version 0 that say its metaData and its protocol.
+// The lines of version 0 that say its metaData and its protocol, and where the strings of the partition columns begin in the first.
 struct Said {
     table: Span,
+    columns: usize,
     protocol: Span,
 }
 
@@ -37,6 +38,7 @@ fn say(src: &[u8], line: &[u8], from: usize, entry: usize, number: usize, said: 
         size: line.len(),
     };
     let table = said.table;
+    let columns = said.columns;
     let protocol = said.protocol;
     let bad = Refusal::Malformed(entry, number);
     match line_actions::classify(line) {
@@ -46,15 +48,17 @@ fn say(src: &[u8], line: &[u8], from: usize, entry: usize, number: usize, said: 
             if protocol.size == 0 {
                 return Saying::Next(Said {
                     table,
+                    columns,
                     protocol: this,
                 });
             }
             Saying::Refused(bad)
         }
-        Action::MetaData(_) => {
+        Action::MetaData(m) => {
             if table.size == 0 {
                 return Saying::Next(Said {
                     table: this,
+                    columns: m.columns,
                     protocol,
                 });
             }
@@ -74,6 +78,7 @@ fn zero_lines(src: &[u8], body: &[u8], from: usize, entry: usize) -> Outcome
     let mut at = 0;
     let mut said = Said {
         table: Span { at: 0, size: 0 },
+        columns: 0,
         protocol: Span { at: 0, size: 0 },
     };
     let mut line = 1;
@@ -95,12 +100,14 @@ fn zero_lines(src: &[u8], body: &[u8], from: usize, entry: usize) -> Outcome
         }
     }
     let told = said.table;
+    let columns = said.columns;
     let protocol = said.protocol;
     if told.size == 0 {
         return Outcome::Refused(Refusal::Malformed(entry, 0));
     }
     Outcome::Done(State {
         table: told,
+        columns,
         protocol,
         base: MIDDLE,
         live: 0,
@@ -126,6 +133,7 @@ pub fn nothing_live(z: State) -> State
     let none = Span { at: 0, size: 0 };
     State {
         table: none,
+        columns: 0,
         protocol: none,
         base,
         live: 0,

@@ -10,6 +10,7 @@ use Rattle.refusals.specs.declared.Refusal.{Refusal}
 use Rattle.refusals.specs.declared.Refusal.the-variants.{RoomTooShort, BundleMalformed, VersionTooLarge, NoVersionZero, NotKept}
 use Rattle.refusals.specs.declared.Refusal.the-variants.{Malformed, TooManyLive, ReaderTooHigh, UnknownFeature, QueryMalformed}
 use Rattle.refusals.specs.declared.Refusal.the-variants.{NoSuchColumn, NotWritable, CheckpointDisagrees, StateMalformed, TooManyManifests}
+use Rattle.refusals.specs.declared.Refusal.the-variants.{ListRefused, OutputTooShort, ValueOutOfRange, ContainerMalformed, OtherSchema, ForeignKeys}
 
 -- the cases, in the order of their numbers from 1
 cases : Rules.Refusal → List Refusal
@@ -17,7 +18,8 @@ cases r =
     RoomTooShort ∷ BundleMalformed ∷ VersionTooLarge ∷ NoVersionZero ∷ NotKept
     ∷ Malformed (r .entry) (r .line) ∷ TooManyLive (r .entry) (r .line)
     ∷ ReaderTooHigh ∷ UnknownFeature ∷ QueryMalformed ∷ NoSuchColumn ∷ NotWritable ∷ CheckpointDisagrees
-    ∷ StateMalformed ∷ TooManyManifests ∷ []
+    ∷ StateMalformed ∷ TooManyManifests ∷ ListRefused ∷ OutputTooShort ∷ ValueOutOfRange ∷ ContainerMalformed ∷ OtherSchema
+    ∷ ForeignKeys (r .entry) (r .line) ∷ []
 
 caseOf : Rules.Refusal → Refusal
 caseOf r = getD (cases r) (r .number - 1) RoomTooShort
@@ -39,6 +41,12 @@ caseOf-numbered NotWritable = refl
 caseOf-numbered CheckpointDisagrees = refl
 caseOf-numbered StateMalformed = refl
 caseOf-numbered TooManyManifests = refl
+caseOf-numbered ListRefused = refl
+caseOf-numbered OutputTooShort = refl
+caseOf-numbered ValueOutOfRange = refl
+caseOf-numbered ContainerMalformed = refl
+caseOf-numbered OtherSchema = refl
+caseOf-numbered (ForeignKeys e l) = refl
 
 pub numbered-alone : (x y : Refusal) → numbered x ≡ numbered y → x ≡ y
 numbered-alone x y e = sym (caseOf-numbered x) ∙ ap caseOf e ∙ caseOf-numbered y

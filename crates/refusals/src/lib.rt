@@ -1,9 +1,9 @@
-// The refusals of every entry, by the paper's table: a case for each number.
+// The refusals of every entry, by the papers' tables: a case for each number. None gives 16 to 20 yet.
 ghost use mathlib.Core.Path.{_≡_};
 ghost use Rattle.rules.specs.Refusals.{plain as namesNothing};
 ghost use Rattle.refusals.specs.Numbered.{numbered, said};
 
-// Refusals 6 and 7 name an entry and a line.
+// Refusals 6, 7 and 21 name an entry and a line.
 pub enum Refusal {
     RoomTooShort,
     BundleMalformed,
@@ -20,9 +20,15 @@ pub enum Refusal {
     CheckpointDisagrees,
     StateMalformed,
     TooManyManifests,
+    ListRefused,
+    OutputTooShort,
+    ValueOutOfRange,
+    ContainerMalformed,
+    OtherSchema,
+    ForeignKeys(usize, usize),
 }
 
-// What a refusal says: its number, and the entry and line that 6 and 7 name.
+// What a refusal says: its number, and the entry and line that 6, 7 and 21 name.
 pub struct Numbers {
     pub number: u32,
     pub entry: usize,
@@ -68,5 +74,15 @@ pub fn numbers_of(x: Refusal) -> Numbers
         Refusal::CheckpointDisagrees => plain(13),
         Refusal::StateMalformed => plain(14),
         Refusal::TooManyManifests => plain(15),
+        Refusal::ListRefused => plain(16),
+        Refusal::OutputTooShort => plain(17),
+        Refusal::ValueOutOfRange => plain(18),
+        Refusal::ContainerMalformed => plain(19),
+        Refusal::OtherSchema => plain(20),
+        Refusal::ForeignKeys(entry, line) => Numbers {
+            number: 21,
+            entry,
+            line,
+        },
     }
 }

@@ -7,17 +7,17 @@ use mathlib.Core.List.{List, [], _∷_}
 use Prim.Native.Nat.{ℕ}
 use lib.Dec.{eqb}
 use borrow.Author.Tests.{eqb-true, eq-eqb}
-use Rattle.rules.specs.Bytes.{Bytes, same, sameEach, holds, allAmong}
+use Rattle.rules.specs.Bytes.{Bytes, same, sameSet, sameEach}
 use Rattle.rules.specs.Actions.{Facts, Pairs, Protocol, MetaData}
 use Rattle.rules.specs.Live.{Row}
 use Rattle.rules.specs.History.{State}
 use Rattle.rules.specs.Picking.{valueAt}
 use Rattle.rules.specs.Agreement.{agreeValue, agreeFound, agreeOn, agreePairs, agreeRecords}
-use Rattle.rules.specs.Agreement.{agreeFacts, agreeRows, agreeSets, agreeProtocols, agreeTables, agree}
+use Rattle.rules.specs.Agreement.{agreeFacts, agreeRows, agreeProtocols, agreeTables, agree}
 use Rattle.rules.specs.Same.{SameFacts, SameRows, no-rows, row, SameProtocol, SameState}
-use Rattle.rules.proofs.Tests.{apart, tests-equal, and-left, and-right, and-both}
+use Rattle.rules.proofs.Tests.{apart, and-left, and-right, and-both}
 use Rattle.rules.proofs.Order.{same-true, eq-same, ne-same, same-or-not}
-use Rattle.rules.proofs.Holding.{allAmong-holds, holds-allAmong}
+use Rattle.rules.proofs.Holding.{sameSet-holds, holds-sameSet}
 
 -- ---- values that may be missing
 
@@ -160,27 +160,16 @@ same-agreeRows (row f s) = rw (same-agreeFacts f, agreeRows) (same-agreeRows s)
 
 -- ---- protocols
 
-pub agreeSets-true : (xs ys : List Bytes) → agreeSets xs ys ≡ true → (name : Bytes) → holds name xs ≡ holds name ys
-unfolding agreeSets
-agreeSets-true xs ys h name =
-    tests-equal (holds name xs) (holds name ys)
-    (allAmong-holds ys xs (and-left (allAmong ys xs) (allAmong xs ys) h) name)
-    (allAmong-holds xs ys (and-right (allAmong ys xs) (allAmong xs ys) h) name)
-
-pub same-agreeSets : (xs ys : List Bytes) → ((name : Bytes) → holds name xs ≡ holds name ys) → agreeSets xs ys ≡ true
-unfolding agreeSets
-same-agreeSets xs ys h = and-both (holds-allAmong ys xs (λ x t. sym (h x) ∙ t)) (holds-allAmong xs ys (λ x t. h x ∙ t))
-
 pub agreeProtocols-true : (p q : Protocol) → agreeProtocols p q ≡ true → SameProtocol p q
 unfolding agreeProtocols
 agreeProtocols-true p q h =
     let u = four (eqb (p .minReaderVersion) (q .minReaderVersion)) (eqb (p .minWriterVersion) (q .minWriterVersion))
-    (agreeSets (p .readerFeatures) (q .readerFeatures)) (agreeSets (p .writerFeatures) (q .writerFeatures)) h in
+    (sameSet (p .readerFeatures) (q .readerFeatures)) (sameSet (p .writerFeatures) (q .writerFeatures)) h in
     record {
       minReaderVersion = eqb-true (p .minReaderVersion) (q .minReaderVersion) (u .0);
       minWriterVersion = eqb-true (p .minWriterVersion) (q .minWriterVersion) (u .1);
-      readerFeatures = agreeSets-true (p .readerFeatures) (q .readerFeatures) (u .2);
-      writerFeatures = agreeSets-true (p .writerFeatures) (q .writerFeatures) (u .3);
+      readerFeatures = sameSet-holds (p .readerFeatures) (q .readerFeatures) (u .2);
+      writerFeatures = sameSet-holds (p .writerFeatures) (q .writerFeatures) (u .3);
     }
 
 pub same-agreeProtocols : {p q : Protocol} → SameProtocol p q → agreeProtocols p q ≡ true
@@ -188,8 +177,8 @@ unfolding agreeProtocols
 same-agreeProtocols {p} {q} s =
     and-both (eq-eqb (p .minReaderVersion) (q .minReaderVersion) (s .minReaderVersion))
     (and-both (eq-eqb (p .minWriterVersion) (q .minWriterVersion) (s .minWriterVersion))
-    (and-both (same-agreeSets (p .readerFeatures) (q .readerFeatures) (s .readerFeatures))
-    (same-agreeSets (p .writerFeatures) (q .writerFeatures) (s .writerFeatures))))
+    (and-both (holds-sameSet (p .readerFeatures) (q .readerFeatures) (s .readerFeatures))
+    (holds-sameSet (p .writerFeatures) (q .writerFeatures) (s .writerFeatures))))
 
 -- ---- tables
 

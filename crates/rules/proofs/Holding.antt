@@ -1,4 +1,4 @@
--- Lists of byte strings: `holds`, `distinct` and `allAmong` by the places of a list, as loops over it meet them.
+-- Lists of byte strings: `holds`, `distinct`, `allAmong` and `sameSet` by the places of a list, as loops over it meet them.
 use mathlib.Core.Path.{_≡_, refl, sym, _∙_}
 use mathlib.Core.Logic.{_⊎_, inl, inr}
 use mathlib.Core.Bool.{Bool, true, false, _&&_, _||_, not}
@@ -6,8 +6,8 @@ use mathlib.Core.List.{List, [], _∷_, _++_}
 use Prim.Native.Nat.{ℕ, zero, suc, _<_, zero-le, suc-le-suc}
 use native.Mathlib.Nat.{le-of-suc-le-suc, not-suc-le-zero}
 use lib.ListN.{length, getD}
-use Rattle.rules.specs.Bytes.{Bytes, same, holds, distinct, allAmong}
-use Rattle.rules.proofs.Tests.{apart, true-not-false, false-of, or-fails, or-fails-left, or-fails-right}
+use Rattle.rules.specs.Bytes.{Bytes, same, holds, distinct, allAmong, sameSet}
+use Rattle.rules.proofs.Tests.{apart, true-not-false, false-of, tests-equal, or-fails, or-fails-left, or-fails-right, and-left, and-right, and-both}
 use Rattle.rules.proofs.Order.{same-true, same-false, eq-same, ne-same}
 
 -- ---- holds
@@ -181,3 +181,16 @@ allAmong-holds names xs h x t = let r = holds-true x xs t in rw (← r .2) (allA
 
 pub holds-allAmong : (names xs : List Bytes) → ((x : Bytes) → holds x xs ≡ true → holds x names ≡ true) → allAmong names xs ≡ true
 holds-allAmong names xs h = allAmong-of names xs (λ i l. h (getD xs i []) (at-holds (getD xs i []) xs i l refl))
+
+-- ---- sameSet
+
+pub sameSet-holds : (xs ys : List Bytes) → sameSet xs ys ≡ true → (x : Bytes) → holds x xs ≡ holds x ys
+unfolding sameSet
+sameSet-holds xs ys h x =
+    tests-equal (holds x xs) (holds x ys)
+    (allAmong-holds ys xs (and-left (allAmong ys xs) (allAmong xs ys) h) x)
+    (allAmong-holds xs ys (and-right (allAmong ys xs) (allAmong xs ys) h) x)
+
+pub holds-sameSet : (xs ys : List Bytes) → ((x : Bytes) → holds x xs ≡ holds x ys) → sameSet xs ys ≡ true
+unfolding sameSet
+holds-sameSet xs ys h = and-both (holds-allAmong ys xs (λ x t. sym (h x) ∙ t)) (holds-allAmong xs ys (λ x t. h x ∙ t))

@@ -10,14 +10,15 @@ use lib.ListN.{length}
 use Rattle.rules.specs.Bytes.{Bytes, allAmong}
 use Rattle.rules.specs.Bundle.{File}
 use Rattle.rules.specs.Lines.{lines, anyObject}
-use Rattle.rules.specs.Actions.{action}
+use Rattle.rules.specs.Actions.{Action, action}
 use Rattle.rules.specs.Live.{mostLive}
 use Rattle.rules.specs.Gate.{gate, knownReader, readerNames, writable}
 use Rattle.rules.specs.Query.{Condition, columnOf}
 use Rattle.rules.specs.Picking.{picked}
 use Rattle.rules.specs.Refusals.{Refusal, Answer, accepted, refused, _>>=_, orRefuse, require}
-use Rattle.rules.specs.Refusals.{malformed, tooManyLive, readerTooHigh, unknownFeature, noSuchColumn, noVersionZero, notKept}
-use Rattle.rules.specs.History.{State, Said, effect, withinLimit, readLine, readLines, readFile, saidNothing, say, zeroLines, orUnstated, readZero}
+use Rattle.rules.specs.Refusals.{malformed, foreignKeys, tooManyLive, readerTooHigh, unknownFeature, noSuchColumn, noVersionZero, notKept}
+use Rattle.rules.specs.History.{State, Origin, ofVersion, ofCheckpoint, fits, Said, effect, withinLimit, act}
+use Rattle.rules.specs.History.{readLine, readLines, readFile, saidNothing, say, zeroLines, orUnstated, readZero}
 use Rattle.rules.specs.Starts.{Log, Way, fromZero, fromCheckpoint, andThen, nothingLive, follow}
 use Rattle.rules.specs.Reading.{Listing, stateWithin, stateBy, listing}
 
@@ -57,28 +58,35 @@ module _ (limit : ℕ) where
       (later-require (tooManyLive e k) (leb (length (st .live)) limit) (λ n. omega arith))
       (λ _. later-accepted st)
 
-  later-readLine : (e k at : ℕ) (l : Bytes) (st : State) → Later (readLine limit e k at l st)
+  later-act : (of : Origin) (e k at size : ℕ) (a : Action) (st : State) → Later (act limit of e k at size a st)
+  unfolding act
+  later-act of e k at size a st =
+      later-bind (require (foreignKeys e k) (fits of a (st .table))) (λ _. withinLimit limit e k (effect at size a st))
+      (later-require (foreignKeys e k) (fits of a (st .table)) (λ n. omega arith))
+      (λ _. later-withinLimit e k (effect at size a st))
+
+  later-readLine : (of : Origin) (e k at : ℕ) (l : Bytes) (st : State) → Later (readLine limit of e k at l st)
   unfolding readLine
-  later-readLine e k at [] st = later-accepted st
-  later-readLine e k at (b ∷ bs) st =
-      later-bind (orRefuse (malformed e k) (action (b ∷ bs))) (λ a. withinLimit limit e k (effect at (length (b ∷ bs)) a st))
+  later-readLine of e k at [] st = later-accepted st
+  later-readLine of e k at (b ∷ bs) st =
+      later-bind (orRefuse (malformed e k) (action (b ∷ bs))) (λ a. act limit of e k at (length (b ∷ bs)) a st)
       (later-orRefuse (malformed e k) (action (b ∷ bs)) (λ n. omega arith))
-      (λ a. later-withinLimit e k (effect at (length (b ∷ bs)) a st))
+      (λ a. later-act of e k at (length (b ∷ bs)) a st)
 
-  later-readLines : (e k at : ℕ) (ls : List Bytes) (st : State) → Later (readLines limit e k at ls st)
+  later-readLines : (of : Origin) (e k at : ℕ) (ls : List Bytes) (st : State) → Later (readLines limit of e k at ls st)
   unfolding readLines
-  later-readLines e k at [] st = later-accepted st
-  later-readLines e k at (l ∷ ls) st =
-      later-bind (readLine limit e k at l st) (λ next. readLines limit e (suc k) (at + length l + 1) ls next)
-      (later-readLine e k at l st)
-      (λ next. later-readLines e (suc k) (at + length l + 1) ls next)
+  later-readLines of e k at [] st = later-accepted st
+  later-readLines of e k at (l ∷ ls) st =
+      later-bind (readLine limit of e k at l st) (λ next. readLines limit of e (suc k) (at + length l + 1) ls next)
+      (later-readLine of e k at l st)
+      (λ next. later-readLines of e (suc k) (at + length l + 1) ls next)
 
-  pub later-readFile : (f : File) (st : State) → Later (readFile limit f st)
+  pub later-readFile : (of : Origin) (f : File) (st : State) → Later (readFile limit of f st)
   unfolding readFile
-  later-readFile f st =
-      later-bind (readLines limit (f .entry) 1 (f .start) (lines (f .body)) st)
+  later-readFile of f st =
+      later-bind (readLines limit of (f .entry) 1 (f .start) (lines (f .body)) st)
       (λ next. require (malformed (f .entry) 0) (anyObject (lines (f .body))) >>= (λ _. accepted next))
-      (later-readLines (f .entry) 1 (f .start) (lines (f .body)) st)
+      (later-readLines of (f .entry) 1 (f .start) (lines (f .body)) st)
       (λ next. later-bind (require (malformed (f .entry) 0) (anyObject (lines (f .body)))) (λ _. accepted next)
       (later-require (malformed (f .entry) 0) (anyObject (lines (f .body))) (λ n. omega arith))
       (λ _. later-accepted next))
@@ -86,8 +94,8 @@ module _ (limit : ℕ) where
   pub later-follow : (z : State) (w : Way) → Later (follow limit z w)
   unfolding follow
   later-follow z fromZero = later-accepted z
-  later-follow z (fromCheckpoint f) = later-readFile f nothingLive
-  later-follow z (andThen w g) = later-bind (follow limit z w) (λ st. readFile limit g st) (later-follow z w) (λ st. later-readFile g st)
+  later-follow z (fromCheckpoint f) = later-readFile ofCheckpoint f nothingLive
+  later-follow z (andThen w g) = later-bind (follow limit z w) (λ st. readFile limit ofVersion g st) (later-follow z w) (λ st. later-readFile ofVersion g st)
 
 later-zeroLines : (e k : ℕ) (ls : List Bytes) (s : Said) → Later (zeroLines e k ls s)
 unfolding zeroLines

@@ -2,6 +2,7 @@
 pub mod Opened
 pub mod Edges
 pub mod Examples
+pub mod ForeignColumns
 pub mod Tests
 pub mod Order
 pub mod Holding

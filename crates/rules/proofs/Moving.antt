@@ -11,8 +11,10 @@ use Rattle.rules.specs.Bundle.{File}
 use Rattle.rules.specs.Lines.{lines, anyObject}
 use Rattle.rules.specs.Actions.{Facts, Protocol, MetaData, Action, add, remove, protocol, metaData, mergeskip, other, action}
 use Rattle.rules.specs.Live.{Row, pathOf, putBeside, takeIf, put, takeOut}
-use Rattle.rules.specs.Refusals.{_>>=_, Answer, accepted, orRefuse, require, malformed, tooManyLive, noSuchColumn, readerTooHigh, unknownFeature}
-use Rattle.rules.specs.History.{State, Said, effect, withinLimit, readLine, readLines, readFile, say, saidNothing, zeroLines, orUnstated, readZero}
+use Rattle.rules.specs.Refusals.{_>>=_, Answer, accepted, orRefuse, require, malformed, foreignKeys}
+use Rattle.rules.specs.Refusals.{tooManyLive, noSuchColumn, readerTooHigh, unknownFeature}
+use Rattle.rules.specs.History.{State, Origin, ofCheckpoint, fits, Said, effect, withinLimit, act, readLine, readLines, readFile}
+use Rattle.rules.specs.History.{say, saidNothing, zeroLines, orUnstated, readZero}
 use Rattle.rules.specs.Starts.{nothingLive}
 use Rattle.rules.specs.Gate.{knownReader, knownWriter, readerNames, writerNames, gate, writable}
 use Rattle.rules.specs.Query.{Condition, columnOf}
@@ -68,7 +70,7 @@ effect-same at at′ n n′ (metaData m) s t h = record { table = refl; inForce 
 effect-same at at′ n n′ mergeskip s t h = h
 effect-same at at′ n n′ other s t h = h
 
-module _ (limit : ℕ) where
+module _ (limit : ℕ) (of : Origin) where
   withinLimit-same : (e e′ k : ℕ) (s t : State) → SameState s t → SameAnswer SameState (withinLimit limit e k s) (withinLimit limit e′ k t)
   unfolding withinLimit
   withinLimit-same e e′ k s t h =
@@ -77,7 +79,20 @@ module _ (limit : ℕ) where
       (length-same-rows (h .live))
       (same-require (tooManyLive e k) (tooManyLive e′ k) refl (leb (length (s .live)) limit) (accepted s) (accepted t) (both-accepted h))
 
-  readLine-same : (e e′ k at at′ : ℕ) (l : Bytes) (s t : State) → SameState s t → SameAnswer SameState (readLine limit e k at l s) (readLine limit e′ k at′ l t)
+  act-same : (e e′ k at at′ n : ℕ) (a : Action) (s t : State) → SameState s t
+      → SameAnswer SameState (act limit of e k at n a s) (act limit of e′ k at′ n a t)
+  unfolding act
+  act-same e e′ k at at′ n a s t h =
+      subst
+      (λ (m : MetaData). SameAnswer SameState (act limit of e k at n a s)
+      (require (foreignKeys e′ k) (fits of a m) >>= (λ _. withinLimit limit e′ k (effect at′ n a t))))
+      (h .table)
+      (same-require (foreignKeys e k) (foreignKeys e′ k) refl (fits of a (s .table)) (withinLimit limit e k (effect at n a s))
+      (withinLimit limit e′ k (effect at′ n a t))
+      (withinLimit-same e e′ k (effect at n a s) (effect at′ n a t) (effect-same at at′ n n a s t h)))
+
+  readLine-same : (e e′ k at at′ : ℕ) (l : Bytes) (s t : State) → SameState s t
+      → SameAnswer SameState (readLine limit of e k at l s) (readLine limit of e′ k at′ l t)
   unfolding readLine
   readLine-same e e′ k at at′ [] s t h = both-accepted h
   readLine-same e e′ k at at′ (b ∷ bs) s t h =
@@ -86,22 +101,21 @@ module _ (limit : ℕ) where
       (malformed e′ k)
       refl
       (action (b ∷ bs))
-      (λ a. withinLimit limit e k (effect at (length (b ∷ bs)) a s))
-      (λ a. withinLimit limit e′ k (effect at′ (length (b ∷ bs)) a t))
-      (λ a. withinLimit-same e e′ k (effect at (length (b ∷ bs)) a s) (effect at′ (length (b ∷ bs)) a t)
-      (effect-same at at′ (length (b ∷ bs)) (length (b ∷ bs)) a s t h))
+      (λ a. act limit of e k at (length (b ∷ bs)) a s)
+      (λ a. act limit of e′ k at′ (length (b ∷ bs)) a t)
+      (λ a. act-same e e′ k at at′ (length (b ∷ bs)) a s t h)
 
   readLines-same : (e e′ k at at′ : ℕ) (ls : List Bytes) (s t : State) → SameState s t
-      → SameAnswer SameState (readLines limit e k at ls s) (readLines limit e′ k at′ ls t)
+      → SameAnswer SameState (readLines limit of e k at ls s) (readLines limit of e′ k at′ ls t)
   unfolding readLines
   readLines-same e e′ k at at′ [] s t h = both-accepted h
   readLines-same e e′ k at at′ (l ∷ ls) s t h =
-      same-bind (λ next. readLines limit e (suc k) (at + length l + 1) ls next) (λ next. readLines limit e′ (suc k) (at′ + length l + 1) ls next)
+      same-bind (λ next. readLines limit of e (suc k) (at + length l + 1) ls next) (λ next. readLines limit of e′ (suc k) (at′ + length l + 1) ls next)
       (readLine-same e e′ k at at′ l s t h) (λ a b r. readLines-same e e′ (suc k) (at + length l + 1) (at′ + length l + 1) ls a b r)
 
   -- reading a body, wherever it lies
   readBody : (entry start : ℕ) → Bytes → State → Answer State
-  readBody e at body st = readLines limit e 1 at (lines body) st >>= (λ next. require (malformed e 0) (anyObject (lines body)) >>= (λ _. accepted next))
+  readBody e at body st = readLines limit of e 1 at (lines body) st >>= (λ next. require (malformed e 0) (anyObject (lines body)) >>= (λ _. accepted next))
 
   readBody-same : (e e′ at at′ : ℕ) (body : Bytes) (s t : State) → SameState s t → SameAnswer SameState (readBody e at body s) (readBody e′ at′ body t)
   unfolding readBody
@@ -112,16 +126,17 @@ module _ (limit : ℕ) where
       (readLines-same e e′ 1 at at′ (lines body) s t h)
       (λ a b r. same-require (malformed e 0) (malformed e′ 0) refl (anyObject (lines body)) (accepted a) (accepted b) (both-accepted r))
 
-  pub readFile-same : (f g : File) (s t : State) → f .body ≡ g .body → SameState s t → SameAnswer SameState (readFile limit f s) (readFile limit g t)
+  pub readFile-same : (f g : File) (s t : State) → f .body ≡ g .body → SameState s t → SameAnswer SameState (readFile limit of f s) (readFile limit of g t)
   unfolding readBody readFile
   readFile-same f g s t e h =
-      subst (λ (body : Bytes). SameAnswer SameState (readFile limit f s) (readBody (g .entry) (g .start) body t)) e
+      subst (λ (body : Bytes). SameAnswer SameState (readFile limit of f s) (readBody (g .entry) (g .start) body t)) e
       (readBody-same (f .entry) (g .entry) (f .start) (g .start) (f .body) s t h)
 
 -- ---- starts: the same body, wherever it lies
 
-pub begun-same : (limit : ℕ) (f g : File) → f .body ≡ g .body → SameAnswer SameState (readFile limit f nothingLive) (readFile limit g nothingLive)
-begun-same limit f g e = readFile-same limit f g nothingLive nothingLive e (same-state-refl nothingLive)
+pub begun-same : (limit : ℕ) (f g : File) → f .body ≡ g .body
+    → SameAnswer SameState (readFile limit ofCheckpoint f nothingLive) (readFile limit ofCheckpoint g nothingLive)
+begun-same limit f g e = readFile-same limit ofCheckpoint f g nothingLive nothingLive e (same-state-refl nothingLive)
 
 -- ---- version 0
 

@@ -27,10 +27,11 @@ use Rattle.rules.specs.Program
 use Rattle.rules.specs.Samples
 use Rattle.rules.specs.Edges
 use Rattle.rules.specs.Examples
+use Rattle.rules.specs.ForeignColumns
 
 unfoldable pub inBytes : Unit {0}
 unfolding Bytes.ascii Bytes.isSome Bytes.first Bytes.among Bytes.isEmpty Bytes.keepIf Bytes.same Bytes.begins Bytes.order Bytes.isLess Bytes.isEqual
-    Bytes.isMore Bytes.holds Bytes.distinct Bytes.allAmong Bytes.sameEach Bytes.firsts
+    Bytes.isMore Bytes.holds Bytes.distinct Bytes.allAmong Bytes.sameSet Bytes.sameEach Bytes.firsts
 inBytes = tt
 
 unfoldable pub inNumbers : Unit {0}
@@ -93,9 +94,8 @@ unfolding Live.mostLive Live.pathOf Live.putBeside Live.takeIf Live.put Live.tak
 inLive = tt
 
 unfoldable pub inHistory : Unit {0}
-unfolding History.noTable History.effect History.withinLimit History.readLine History.readLines History.readFile History.saidNothing History.sayTable
-    History.sayProtocol
-    History.say History.zeroLines History.orUnstated History.readZero
+unfolding History.noTable History.fits History.effect History.withinLimit History.act History.readLine History.readLines History.readFile
+    History.saidNothing History.sayTable History.sayProtocol History.say History.zeroLines History.orUnstated History.readZero
 inHistory = tt
 
 unfoldable pub inStarts : Unit {0}
@@ -142,7 +142,7 @@ inKeeping = tt
 
 unfoldable pub inAgreement : Unit {0}
 unfolding Agreement.agreeValue Agreement.agreeFound Agreement.agreeOn Agreement.agreePairs Agreement.agreeRecords Agreement.agreeFacts Agreement.agreeRows
-    Agreement.agreeSets Agreement.agreeProtocols Agreement.agreeTables Agreement.agree
+    Agreement.agreeProtocols Agreement.agreeTables Agreement.agree
 inAgreement = tt
 
 unfoldable pub inCleaning : Unit {0}
@@ -175,12 +175,17 @@ unfolding Examples.sized Examples.school Examples.listings Examples.protocolled 
     Examples.metaDataLater Examples.pupil Examples.pupils Examples.tempting Examples.manifestList Examples.countFrom Examples.stateOf Examples.refusals
 inExamples = tt
 
+unfoldable pub inForeignColumns : Unit {0}
+unfolding ForeignColumns.keyed ForeignColumns.onLineThree ForeignColumns.withoutColumns ForeignColumns.keys ForeignColumns.strayed
+    ForeignColumns.renamedBelow ForeignColumns.heldTo ForeignColumns.orders
+inForeignColumns = tt
+
 unfoldable pub inTexts : Unit {0}
 unfolding inBytes inNumbers inBundle inNames inJsonText inJsonNumbers inJsonStrings inJsonValues inJsonFields inLines inActions inPathPlaces
 inTexts = tt
 
 unfoldable pub inTables : Unit {0}
-unfolding inSamples inEdges inNamesAndNumbers inExamples
+unfolding inSamples inEdges inNamesAndNumbers inExamples inForeignColumns
 inTables = tt
 
 unfoldable pub rules : Unit {0}

@@ -16,8 +16,10 @@ use Rattle.rules.specs.Bundle.{File}
 use Rattle.rules.specs.Lines.{lines, anyObject}
 use Rattle.rules.specs.Actions.{MetaData, Action, add, remove, protocol, metaData, mergeskip, other, action}
 use Rattle.rules.specs.Live.{mostLive, pathOf}
-use Rattle.rules.specs.Refusals.{Refusal, Answer, accepted, refused, _>>=_, orRefuse, require, malformed, tooManyLive, noVersionZero, notKept}
-use Rattle.rules.specs.History.{State, Said, effect, withinLimit, readLine, readLines, readFile, saidNothing, zeroLines, orUnstated, readZero}
+use Rattle.rules.specs.Refusals.{Refusal, Answer, accepted, refused, _>>=_, orRefuse, require}
+use Rattle.rules.specs.Refusals.{malformed, foreignKeys, tooManyLive, noVersionZero, notKept}
+use Rattle.rules.specs.History.{State, Origin, ofVersion, ofCheckpoint, fits, Said, effect, withinLimit, act, readLine, readLines, readFile}
+use Rattle.rules.specs.History.{saidNothing, zeroLines, orUnstated, readZero}
 use Rattle.rules.specs.Starts.{Log, Way, fromZero, fromCheckpoint, andThen, nothingLive, follow}
 use Rattle.rules.specs.Reading.{stateWithin, stateBy}
 use Rattle.rules.specs.Keyed.{Ascends}
@@ -57,6 +59,14 @@ withinLimit-accepted limit e k st {to} h = go (bind-accepted (require (tooManyLi
         let p : accepted st ≡ accepted to = r .2 in
         (cc, leb-true (length (st .live)) limit (require-accepted (tooManyLive e k) (leb (length (st .live)) limit) q))
 
+-- an action that is accepted fits, and its effect is within the limit
+pub act-accepted : (limit : ℕ) (of : Origin) (e k at size : ℕ) (a : Action) (st : State) {to : State} → act limit of e k at size a st ≡ accepted to
+    → (fits of a (st .table) ≡ true) × (withinLimit limit e k (effect at size a st) ≡ accepted to)
+unfolding act
+act-accepted limit of e k at size a st h =
+    let r = bind-accepted (require (foreignKeys e k) (fits of a (st .table))) (λ _. withinLimit limit e k (effect at size a st)) h in
+    (require-accepted (foreignKeys e k) (fits of a (st .table)) (r .1), r .2)
+
 -- a line that is accepted is empty, or its action's effect is within the limit
 pub record Applied (limit at : ℕ) (l : Bytes) (st to : State) : Type 0 where
   pub does : Action
@@ -64,71 +74,73 @@ pub record Applied (limit at : ℕ) (l : Bytes) (st to : State) : Type 0 where
   pub reached : effect at (length l) does st ≡ to
   pub fits : length (to .live) ≤ limit
 
-pub readLine-accepted : (limit e k at : ℕ) (l : Bytes) (st to : State) → readLine limit e k at l st ≡ accepted to → (st ≡ to) ⊎ Applied limit at l st to
+pub readLine-accepted : (limit : ℕ) (of : Origin) (e k at : ℕ) (l : Bytes) (st to : State) → readLine limit of e k at l st ≡ accepted to
+    → (st ≡ to) ⊎ Applied limit at l st to
 unfolding readLine
-readLine-accepted limit e k at [] st to h = inl (cc)
-readLine-accepted limit e k at (b ∷ bs) st to h = go (action (b ∷ bs)) refl h
+readLine-accepted limit of e k at [] st to h = inl (cc)
+readLine-accepted limit of e k at (b ∷ bs) st to h = go (action (b ∷ bs)) refl h
   where
     size : ℕ
     size = length (b ∷ bs)
 
-    go : (o : Option Action) → action (b ∷ bs) ≡ o → (orRefuse (malformed e k) o >>= (λ a. withinLimit limit e k (effect at size a st))) ≡ accepted to
+    go : (o : Option Action) → action (b ∷ bs) ≡ o → (orRefuse (malformed e k) o >>= (λ a. act limit of e k at size a st)) ≡ accepted to
         → (st ≡ to) ⊎ Applied limit at (b ∷ bs) st to
     go none q h = apart (cc)
     go (some a) q h =
-        let r = withinLimit-accepted limit e k (effect at size a st) h in
+        let r = withinLimit-accepted limit e k (effect at size a st) (act-accepted limit of e k at size a st h .1) in
         inr (record { does = a; said = q; reached = r .0; fits = subst (λ (x : State). length (x .live) ≤ limit) (r .0) (r .1) })
 
 -- ---- lines as they stand in a text: the first of them from a on ends at e
 
-pub readLines-part : (limit n k : ℕ) (s : Bytes) (a e b : ℕ) (st : State) → a < b → b ≤ length s → a ≤ e → e ≤ b
+pub readLines-part : (limit : ℕ) (of : Origin) (n k : ℕ) (s : Bytes) (a e b : ℕ) (st : State) → a < b → b ≤ length s → a ≤ e → e ≤ b
     → ((j : ℕ) → a ≤ j → j < e → getD s j 0 ≡ 0x0A → ⊥) → (e < b → getD s e 0 ≡ 0x0A)
-    → readLines limit n k a (lines (part s a b)) st
-    ≡ (readLine limit n k a (part s a e) st >>= (λ next. readLines limit n (suc k) (e + 1) (lines (part s (e + 1) b)) next))
+    → readLines limit of n k a (lines (part s a b)) st
+    ≡ (readLine limit of n k a (part s a e) st >>= (λ next. readLines limit of n (suc k) (e + 1) (lines (part s (e + 1) b)) next))
 unfolding readLines
-readLines-part limit n k s a e b st ab bs ae eb before feed =
+readLines-part limit of n k s a e b st ab bs ae eb before feed =
     let p : a + length (part s a e) + 1 ≡ e + 1 = omega (arith, length-part s a e (omega arith)) in
     rw (lines-part s a e b ab bs ae eb before feed, p)
 
-pub readLines-none : (limit n k : ℕ) (s : Bytes) (a b : ℕ) (st : State) → b ≤ a → readLines limit n k a (lines (part s a b)) st ≡ accepted st
+pub readLines-none : (limit : ℕ) (of : Origin) (n k : ℕ) (s : Bytes) (a b : ℕ) (st : State) → b ≤ a
+    → readLines limit of n k a (lines (part s a b)) st ≡ accepted st
 unfolding readLines
-readLines-none limit n k s a b st h = rw (lines-part-none s a b h)
+readLines-none limit of n k s a b st h = rw (lines-part-none s a b h)
 
 -- ---- what every line keeps, lines, files and ways keep
 
 -- P of the state before an accepted line gives P of the state after it
 abbrev pub Kept : (limit : ℕ) → (State → Type 0) → Type 0
-Kept limit P = (e k at : ℕ) (l : Bytes) (st to : State) → readLine limit e k at l st ≡ accepted to → P st → P to
+Kept limit P = (of : Origin) (e k at : ℕ) (l : Bytes) (st to : State) → readLine limit of e k at l st ≡ accepted to → P st → P to
 
 module _ (limit : ℕ) (P : State → Type 0) (kept : Kept limit P) where
-  pub readLines-keeps : (e k at : ℕ) (ls : List Bytes) (st to : State) → readLines limit e k at ls st ≡ accepted to → P st → P to
+  pub readLines-keeps : (of : Origin) (e k at : ℕ) (ls : List Bytes) (st to : State) → readLines limit of e k at ls st ≡ accepted to → P st → P to
   unfolding readLines
-  readLines-keeps e k at [] st to h p = subst P (cc) p
-  readLines-keeps e k at (l ∷ ls) st to h p =
-      let r = bind-accepted (readLine limit e k at l st) (λ next. readLines limit e (suc k) (at + length l + 1) ls next) h in
-      readLines-keeps e (suc k) (at + length l + 1) ls (r .0) to (r .2) (kept e k at l st (r .0) (r .1) p)
+  readLines-keeps of e k at [] st to h p = subst P (cc) p
+  readLines-keeps of e k at (l ∷ ls) st to h p =
+      let r = bind-accepted (readLine limit of e k at l st) (λ next. readLines limit of e (suc k) (at + length l + 1) ls next) h in
+      readLines-keeps of e (suc k) (at + length l + 1) ls (r .0) to (r .2) (kept of e k at l st (r .0) (r .1) p)
 
-  pub readFile-keeps : (f : File) (st to : State) → readFile limit f st ≡ accepted to → P st → P to
+  pub readFile-keeps : (of : Origin) (f : File) (st to : State) → readFile limit of f st ≡ accepted to → P st → P to
   unfolding readFile
-  readFile-keeps f st to h p = go (bind-accepted (readLines limit (f .entry) 1 (f .start) (lines (f .body)) st) ended h)
+  readFile-keeps of f st to h p = go (bind-accepted (readLines limit of (f .entry) 1 (f .start) (lines (f .body)) st) ended h)
     where
       ended : State → Answer State
       ended next = require (malformed (f .entry) 0) (anyObject (lines (f .body))) >>= (λ _. accepted next)
 
-      go : (next : State) × (readLines limit (f .entry) 1 (f .start) (lines (f .body)) st ≡ accepted next) × (ended next ≡ accepted to) → P to
+      go : (next : State) × (readLines limit of (f .entry) 1 (f .start) (lines (f .body)) st ≡ accepted next) × (ended next ≡ accepted to) → P to
       go r =
           let t = bind-accepted (require (malformed (f .entry) 0) (anyObject (lines (f .body)))) (λ _. accepted (r .0)) (r .2) in
           let q : accepted (r .0) ≡ accepted to = t .2 in
-          subst P (cc) (readLines-keeps (f .entry) 1 (f .start) (lines (f .body)) st (r .0) (r .1) p)
+          subst P (cc) (readLines-keeps of (f .entry) 1 (f .start) (lines (f .body)) st (r .0) (r .1) p)
 
   -- where it holds of no live files, and of what version 0 gives
   pub follow-keeps : (z : State) (w : Way) (to : State) → follow limit z w ≡ accepted to → P z → P nothingLive → P to
   unfolding follow
   follow-keeps z fromZero to h p q = subst P (cc) p
-  follow-keeps z (fromCheckpoint f) to h p q = readFile-keeps f nothingLive to h q
+  follow-keeps z (fromCheckpoint f) to h p q = readFile-keeps ofCheckpoint f nothingLive to h q
   follow-keeps z (andThen w g) to h p q =
-      let r = bind-accepted (follow limit z w) (λ st. readFile limit g st) h in
-      readFile-keeps g (r .0) to (r .2) (follow-keeps z w (r .0) (r .1) p q)
+      let r = bind-accepted (follow limit z w) (λ st. readFile limit ofVersion g st) h in
+      readFile-keeps ofVersion g (r .0) to (r .2) (follow-keeps z w (r .0) (r .1) p q)
 
 -- ---- path order and the limit
 
@@ -139,14 +151,14 @@ abbrev pub Fits : ℕ → State → Type 0
 Fits limit st = length (st .live) ≤ limit
 
 pub ordered-kept : (limit : ℕ) → Kept limit Ordered
-ordered-kept limit e k at l st to h s = go (readLine-accepted limit e k at l st to h)
+ordered-kept limit of e k at l st to h s = go (readLine-accepted limit of e k at l st to h)
   where
     go : (st ≡ to) ⊎ Applied limit at l st to → Ascends pathOf (to .live)
     go (inl q) = subst (λ (x : State). Ascends pathOf (x .live)) q s
     go (inr r) = subst (λ (x : State). Ascends pathOf (x .live)) (r .reached) (effect-ascends at (length l) (r .does) st s)
 
 pub fits-kept : (limit : ℕ) → Kept limit (Fits limit)
-fits-kept limit e k at l st to h s = go (readLine-accepted limit e k at l st to h)
+fits-kept limit of e k at l st to h s = go (readLine-accepted limit of e k at l st to h)
   where
     go : (st ≡ to) ⊎ Applied limit at l st to → length (to .live) ≤ limit
     go (inl q) = subst (λ (x : State). length (x .live) ≤ limit) q s

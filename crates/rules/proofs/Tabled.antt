@@ -17,7 +17,7 @@ use Rattle.rules.specs.Actions.{inAction, inField, pathAt, addOf, Protoc
 use Rattle.rules.specs.Actions.{Key, keyAdd, keyRemove, keyProtocol, keyMetaData, keyMergeskip, keyOther, keyOf}
 use Rattle.rules.specs.Actions.{Action, add, remove, protocol, metaData, mergeskip, other, actionBy, lineMember, action}
 use Rattle.rules.specs.Refusals.{Answer, accepted, _>>=_, orRefuse, require, malformed}
-use Rattle.rules.specs.History.{State, noTable, Said, effect, readLine, readLines, readFile, sayTable}
+use Rattle.rules.specs.History.{State, noTable, Origin, ofCheckpoint, Said, effect, readLine, readLines, readFile, sayTable}
 use Rattle.rules.specs.History.{sayProtocol, say, saidNothing, zeroLines, orUnstated, readZero}
 use Rattle.rules.specs.Starts.{isTable, saysTable, wellFormed, isStart, nothingLive}
 use Rattle.rules.proofs.Tests.{apart}
@@ -74,7 +74,7 @@ action-id l m h = bound (lineMember l) _ h (λ x a b. actionBy-id (keyOf (x .0))
 
 pub id-kept : (limit : ℕ) → Kept limit (λ (st : State). HasId (st .table))
 unfolding effect
-id-kept limit e k at l st to h p = go (readLine-accepted limit e k at l st to h)
+id-kept limit of e k at l st to h p = go (readLine-accepted limit of e k at l st to h)
   where
     of-effect : (a : Action) → action l ≡ some a → HasId (effect at (length l) a st .table)
     of-effect (add f) q = p
@@ -88,9 +88,10 @@ id-kept limit e k at l st to h p = go (readLine-accepted limit e k at l st to h)
     go (inl r) = subst (λ (x : State). HasId (x .table)) r p
     go (inr r) = subst (λ (x : State). HasId (x .table)) (r .reached) (of-effect (r .does) (r .said))
 
-readLine-table : (limit e k at : ℕ) (l : Bytes) (st to : State) → readLine limit e k at l st ≡ accepted to → isTable (action l) ≡ false → to .table ≡ st .table
+readLine-table : (limit : ℕ) (of : Origin) (e k at : ℕ) (l : Bytes) (st to : State) → readLine limit of e k at l st ≡ accepted to
+    → isTable (action l) ≡ false → to .table ≡ st .table
 unfolding effect isTable
-readLine-table limit e k at l st to h n = go (readLine-accepted limit e k at l st to h)
+readLine-table limit of e k at l st to h n = go (readLine-accepted limit of e k at l st to h)
   where
     of-effect : (a : Action) → isTable (some a) ≡ false → effect at (length l) a st .table ≡ st .table
     of-effect (add f) q = refl
@@ -106,23 +107,25 @@ readLine-table limit e k at l st to h n = go (readLine-accepted limit e k at l s
         subst (λ (x : State). x .table ≡ st .table) (r .reached)
         (of-effect (r .does) (subst (λ (o : Option Action). isTable o ≡ false) (r .said) n))
 
-pub readLines-table : (limit e k at : ℕ) (ls : List Bytes) (st to : State) → readLines limit e k at ls st ≡ accepted to → saysTable ls ≡ false
+pub readLines-table : (limit : ℕ) (of : Origin) (e k at : ℕ) (ls : List Bytes) (st to : State) → readLines limit of e k at ls st ≡ accepted to
+    → saysTable ls ≡ false
     → to .table ≡ st .table
 unfolding readLines saysTable
-readLines-table limit e k at [] st to h n = let q : to ≡ st = cc in ap (λ (x : State). x .table) q
-readLines-table limit e k at (l ∷ ls) st to h n =
-    let r = bind-accepted (readLine limit e k at l st) (λ next. readLines limit e (suc k) (at + length l + 1) ls next) h in
-    go (isTable (action l)) refl n (r .0) (r .1) (λ q. readLines-table limit e (suc k) (at + length l + 1) ls (r .0) to (r .2) q)
+readLines-table limit of e k at [] st to h n = let q : to ≡ st = cc in ap (λ (x : State). x .table) q
+readLines-table limit of e k at (l ∷ ls) st to h n =
+    let r = bind-accepted (readLine limit of e k at l st) (λ next. readLines limit of e (suc k) (at + length l + 1) ls next) h in
+    go (isTable (action l)) refl n (r .0) (r .1) (λ q. readLines-table limit of e (suc k) (at + length l + 1) ls (r .0) to (r .2) q)
   where
     go : (b : Bool) → isTable (action l) ≡ b → elim b [ true ↦ true | false ↦ saysTable ls ] ≡ false → (next : State)
-        → readLine limit e k at l st ≡ accepted next
+        → readLine limit of e k at l st ≡ accepted next
         → (saysTable ls ≡ false → to .table ≡ next .table) → to .table ≡ st .table
     go true q n next a ih = apart (cc)
-    go false q n next a ih = ih n ∙ readLine-table limit e k at l st next a q
+    go false q n next a ih = ih n ∙ readLine-table limit of e k at l st next a q
 
 -- ---- a file read from nothing that ends with an id said a metaData
 
-pub readFile-says : (limit : ℕ) (f : File) (to : State) → readFile limit f nothingLive ≡ accepted to → HasId (to .table) → saysTable (lines (f .body)) ≡ true
+pub readFile-says : (limit : ℕ) (f : File) (to : State) → readFile limit ofCheckpoint f nothingLive ≡ accepted to → HasId (to .table)
+    → saysTable (lines (f .body)) ≡ true
 unfolding readFile nothingLive noTable
 readFile-says limit f to h p = go (saysTable (lines (f .body))) refl
   where
@@ -131,11 +134,11 @@ readFile-says limit f to h p = go (saysTable (lines (f .body))) refl
 
     left : saysTable (lines (f .body)) ≡ false → ⊥
     left n =
-        let r = bind-accepted (readLines limit (f .entry) 1 (f .start) (lines (f .body)) nothingLive) ended h in
+        let r = bind-accepted (readLines limit ofCheckpoint (f .entry) 1 (f .start) (lines (f .body)) nothingLive) ended h in
         let t = bind-accepted (require (malformed (f .entry) 0) (anyObject (lines (f .body)))) (λ _. accepted (r .0)) (r .2) in
         let q : accepted (r .0) ≡ accepted to = t .2 in
         let s : r .0 ≡ to = cc in
-        let e = readLines-table limit (f .entry) 1 (f .start) (lines (f .body)) nothingLive (r .0) (r .1) n in
+        let e = readLines-table limit ofCheckpoint (f .entry) 1 (f .start) (lines (f .body)) nothingLive (r .0) (r .1) n in
         p (ap (λ (m : MetaData). m .id) (ap (λ (x : State). x .table) (sym s) ∙ e))
 
     go : (b : Bool) → saysTable (lines (f .body)) ≡ b → saysTable (lines (f .body)) ≡ true

@@ -5,7 +5,7 @@ use mathlib.Core.Option.{Option, none, some}
 use mathlib.Core.List.{List, [], _∷_}
 use Prim.Native.Nat.{ℕ}
 use lib.Dec.{eqb}
-use Rattle.rules.specs.Bytes.{Bytes, same, sameEach, allAmong}
+use Rattle.rules.specs.Bytes.{Bytes, same, sameSet, sameEach}
 use Rattle.rules.specs.Actions.{Facts, Pairs, Protocol, MetaData}
 use Rattle.rules.specs.Live.{Row}
 use Rattle.rules.specs.Picking.{valueAt}
@@ -55,15 +55,12 @@ agreeRows [] (s ∷ ss) = false
 agreeRows (r ∷ rs) [] = false
 agreeRows (r ∷ rs) (s ∷ ss) = elim (agreeFacts (r .facts) (s .facts)) [ true ↦ agreeRows rs ss | false ↦ false ]
 
-unfoldable pub agreeSets : List Bytes → List Bytes → Bool
-agreeSets xs ys = allAmong ys xs && allAmong xs ys
-
 unfoldable pub agreeProtocols : Protocol → Protocol → Bool
 agreeProtocols p q =
     eqb (p .minReaderVersion) (q .minReaderVersion)
     && (eqb (p .minWriterVersion) (q .minWriterVersion)
-    && (agreeSets (p .readerFeatures) (q .readerFeatures)
-    && agreeSets (p .writerFeatures) (q .writerFeatures)))
+    && (sameSet (p .readerFeatures) (q .readerFeatures)
+    && sameSet (p .writerFeatures) (q .writerFeatures)))
 
 -- partition columns in order
 unfoldable pub agreeTables : MetaData → MetaData → Bool

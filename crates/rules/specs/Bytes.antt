@@ -110,6 +110,10 @@ unfoldable pub allAmong : List Bytes → List Bytes → Bool
 allAmong names [] = true
 allAmong names (x ∷ xs) = elim (holds x names) [ true ↦ allAmong names xs | false ↦ false ]
 
+-- the same strings, in any order
+unfoldable pub sameSet : List Bytes → List Bytes → Bool
+sameSet xs ys = allAmong ys xs && allAmong xs ys
+
 -- the same strings, one after the other
 unfoldable pub sameEach : List Bytes → List Bytes → Bool
 sameEach [] [] = true

@@ -7,7 +7,7 @@ use lib.Dec.{leb, ltb}
 use Rattle.rules.specs.Bytes.{Bytes, keepIf}
 use Rattle.rules.specs.Bundle.{File, bundle}
 use Rattle.rules.specs.Names.{nameOf, versionIn, anyTooLarge}
-use Rattle.rules.specs.History.{readZero, readFile}
+use Rattle.rules.specs.History.{ofCheckpoint, readZero, readFile}
 use Rattle.rules.specs.Starts.{logOf, Way, startAt, otherWayTo, nothingLive, follow}
 use Rattle.rules.specs.Marker.{marked}
 use Rattle.rules.specs.Gate.{gate, writable}
@@ -38,11 +38,11 @@ named c now retention (f ∷ fs) = keepIf (mayGo c now retention f) (f .entry) (
 
 -- ---- when
 
--- version 0, then the checkpoint, then the highest other start's way is read (6, 7); the checkpoint's gate 8, 9, 12; then 13
+-- version 0, then the checkpoint, then the highest other start's way is read (6, 21, 7); the checkpoint's gate 8, 9, 12; then 13
 unfoldable pub compared : (zero-file checkpoint : File) → Way → Answer (Unit {0})
 compared zf f w = do
   z ← readZero zf
-  mine ← readFile mostLive f nothingLive
+  mine ← readFile mostLive ofCheckpoint f nothingLive
   theirs ← follow mostLive z w
   _ ← gate (mine .inForce)
   _ ← require notWritable (writable (mine .inForce))

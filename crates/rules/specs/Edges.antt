@@ -10,7 +10,7 @@ use Rattle.rules.specs.Names.{Name, version, checkpoint, tooLarge, nameO
 use Rattle.rules.specs.Lines.{lines}
 use Rattle.rules.specs.Actions.{pathPlace}
 use Rattle.rules.specs.Live.{mostLive, pathOf}
-use Rattle.rules.specs.History.{State, readLines}
+use Rattle.rules.specs.History.{State, ofVersion, readLines}
 use Rattle.rules.specs.Starts.{nothingLive}
 use Rattle.rules.specs.Query.{Number, number, outOfRange, numberOf, asText, asNumber, Op, eq, lt, le, gt, ge}
 use Rattle.rules.specs.Picking.{meetsAs}
@@ -30,6 +30,7 @@ pub data Question : Type 0 where
   numeral : String → Question
   meet : Op → (value bound : String) → Question
   apply : List String → Question
+  within : (limit : ℕ) → List String → Question
   drops : Op → (bound min max : String) → Question
   read : Asked → (query : String) → (bundle : Bytes) → Question
   keep : (state query : Bytes) → Question
@@ -64,7 +65,8 @@ unfoldable pub rule : Question → Says
 rule (name s) = named (nameOf (ascii s))
 rule (numeral s) = value (numberOf (ascii s))
 rule (meet op x b) = test (meetsAs asNumber op (ascii x) (ascii b))
-rule (apply ls) = saysState (readLines mostLive 0 1 0 (lines (bodyOf ls)) nothingLive)
+rule (apply ls) = saysState (readLines mostLive ofVersion 0 1 0 (lines (bodyOf ls)) nothingLive)
+rule (within limit ls) = saysState (readLines limit ofVersion 0 1 0 (lines (bodyOf ls)) nothingLive)
 rule (drops op b lo hi) = test (outsideAs asText op (ascii b) (ascii lo) (ascii hi))
 rule (read asked q s) = saysListing (reading rowsRoom s (json q) asked)
 rule (keep state q) = saysNumbers (keeping keptRoom state q)

@@ -1,15 +1,16 @@
--- Lines applied in order: one line, one file, version 0 with its own rules. Refusals 6 and 7 come with the first line met.
+-- Lines applied in order: one line, one file, version 0 with its own rules. Refusals 6, 21 and 7 come with the first line met.
+use mathlib.Core.Bool.{Bool, true}
 use mathlib.Core.Option.{Option, none, some}
 use mathlib.Core.List.{List, [], _∷_}
 use Prim.Native.Nat.{ℕ, suc, _+_}
 use lib.Dec.{leb}
 use lib.ListN.{length}
-use Rattle.rules.specs.Bytes.{Bytes}
+use Rattle.rules.specs.Bytes.{Bytes, sameSet, firsts}
 use Rattle.rules.specs.Bundle.{File}
 use Rattle.rules.specs.Lines.{lines, anyObject}
 use Rattle.rules.specs.Actions.{Protocol, unstated, MetaData, Action, add, remove, protocol, metaData, mergeskip, other, action}
 use Rattle.rules.specs.Live.{Row, pathOf, put, takeOut}
-use Rattle.rules.specs.Refusals.{Answer, accepted, _>>=_, orRefuse, require, malformed, tooManyLive}
+use Rattle.rules.specs.Refusals.{Answer, accepted, _>>=_, orRefuse, require, malformed, foreignKeys, tooManyLive}
 
 -- what a log says: the metadata and the protocol in force, and the live files
 pub record State : Type 0 where
@@ -20,6 +21,22 @@ pub record State : Type 0 where
 -- what a state has before a metaData line is met
 unfoldable pub noTable : MetaData
 noTable = record { id = []; partitionColumns = [] }
+
+-- ---- the keys of an add
+
+-- whose lines are read: the adds of a version file are held to the partition columns, those of a checkpoint are not
+pub data Origin : Type 0 where
+  ofVersion ofCheckpoint : Origin
+
+-- the partition keys of an add are exactly the partition columns in force, in any order; a key whose value is null is a key
+unfoldable pub fits : Origin → Action → MetaData → Bool
+fits ofVersion (add f) m = sameSet (firsts (f .partitionValues)) (m .partitionColumns)
+fits ofVersion (remove p) m = true
+fits ofVersion (protocol p) m = true
+fits ofVersion (metaData n) m = true
+fits ofVersion mergeskip m = true
+fits ofVersion other m = true
+fits ofCheckpoint a m = true
 
 -- ---- one line
 
@@ -38,24 +55,30 @@ withinLimit limit e k st = do
   _ ← require (tooManyLive e k) (leb (length (st .live)) limit)
   accepted st
 
--- line number k of entry e, at its place in the bundle; an empty line is skipped
-unfoldable pub readLine : (limit entry number at : ℕ) → Bytes → State → Answer State
-readLine limit e k at [] st = accepted st
-readLine limit e k at (b ∷ bs) st = do
-  a ← orRefuse (malformed e k) (action (b ∷ bs))
-  withinLimit limit e k (effect at (length (b ∷ bs)) a st)
+-- what an action does where its keys fit the columns in force at its line
+unfoldable pub act : (limit : ℕ) → Origin → (entry number at size : ℕ) → Action → State → Answer State
+act limit of e k at size a st = do
+  _ ← require (foreignKeys e k) (fits of a (st .table))
+  withinLimit limit e k (effect at size a st)
 
-unfoldable pub readLines : (limit entry number at : ℕ) → List Bytes → State → Answer State
-readLines limit e k at [] st = accepted st
-readLines limit e k at (l ∷ ls) st = do
-  next ← readLine limit e k at l st
-  readLines limit e (suc k) (at + length l + 1) ls next
+-- line number k of entry e, at its place in the bundle; an empty line is skipped. On one line 6, 21, 7
+unfoldable pub readLine : (limit : ℕ) → Origin → (entry number at : ℕ) → Bytes → State → Answer State
+readLine limit of e k at [] st = accepted st
+readLine limit of e k at (b ∷ bs) st = do
+  a ← orRefuse (malformed e k) (action (b ∷ bs))
+  act limit of e k at (length (b ∷ bs)) a st
+
+unfoldable pub readLines : (limit : ℕ) → Origin → (entry number at : ℕ) → List Bytes → State → Answer State
+readLines limit of e k at [] st = accepted st
+readLines limit of e k at (l ∷ ls) st = do
+  next ← readLine limit of e k at l st
+  readLines limit of e (suc k) (at + length l + 1) ls next
 
 -- ---- one file: a file with no object is malformed, which is met at its end (line 0)
 
-unfoldable pub readFile : (limit : ℕ) → File → State → Answer State
-readFile limit f st = do
-  next ← readLines limit (f .entry) 1 (f .start) (lines (f .body)) st
+unfoldable pub readFile : (limit : ℕ) → Origin → File → State → Answer State
+readFile limit of f st = do
+  next ← readLines limit of (f .entry) 1 (f .start) (lines (f .body)) st
   _ ← require (malformed (f .entry) 0) (anyObject (lines (f .body)))
   accepted next
 

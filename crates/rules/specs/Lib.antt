@@ -25,4 +25,5 @@ pub mod Same
 pub mod Samples
 pub mod Edges
 pub mod Examples
+pub mod ForeignColumns
 pub mod Keyed

@@ -54,7 +54,7 @@ unfoldable pub versionAsked : Asked → Log → ℕ
 versionAsked theLatest log = latest log
 versionAsked (theVersion v) log = v
 
--- refusals 4 and 5, then 6 or 7 by first line met, with at most `limit` live after a line: version 0 is always read, first
+-- refusals 4 and 5, then 6, 21 or 7 by first line met, with at most `limit` live after a line: version 0 is always read, first
 unfoldable pub stateWithin : (limit : ℕ) → Log → Option Way → Answer State
 stateWithin limit log way = do
   f ← orRefuse noVersionZero (log .versionFile 0)
@@ -88,7 +88,7 @@ listingAt cs log v = listingBy cs log v (wayTo log v)
 unfoldable pub historyListing : List Condition → Log → ℕ → Answer Listing
 historyListing cs log v = listingBy cs log v (historyTo log v)
 
--- refusals 1, 10, 2, 3, 4, 5, then 6 or 7 by first line met, 8, 9, 11; `room` is how many u64 are lent
+-- refusals 1, 10, 2, 3, 4, 5, then 6, 21 or 7 by first line met, 8, 9, 11; `room` is how many u64 are lent
 unfoldable pub reading : (room : ℕ) → (s q : Bytes) → Asked → Answer Listing
 reading room s q asked = do
   _ ← require roomTooShort (leb rowsRoom room)

@@ -1,4 +1,4 @@
--- The refusals by their numbers. All else in a refusal is zero, but that 6 and 7 name entry and line.
+-- The refusals by their numbers. All else in a refusal is zero, but that 6, 7 and 21 name entry and line.
 use mathlib.Core.Bool.{Bool, true, false}
 use mathlib.Core.Option.{Option, none, some}
 use Prim.Native.Nat.{ℕ}
@@ -62,6 +62,10 @@ stateMalformed = plain 14
 
 abbrev pub tooManyManifests : Refusal
 tooManyManifests = plain 15
+
+-- foreign partition keys: those of an add are not the partition columns in force at its line
+abbrev pub foreignKeys : (entry line : ℕ) → Refusal
+foreignKeys e l = record { number = 21; entry = e; line = l }
 
 -- ---- an answer, or a refusal
 

@@ -8,7 +8,7 @@ use Rattle.rules.specs.Bundle.{File}
 use Rattle.rules.specs.Names.{Name, nameOf, versionIn, checkpointIn, isMarker, is}
 use Rattle.rules.specs.Lines.{lines, anyObject}
 use Rattle.rules.specs.Actions.{Action, add, remove, protocol, metaData, mergeskip, other, unstated, action}
-use Rattle.rules.specs.History.{State, noTable, readFile}
+use Rattle.rules.specs.History.{State, noTable, ofVersion, ofCheckpoint, readFile}
 use Rattle.rules.specs.Refusals.{Answer, accepted, _>>=_}
 
 -- ---- the log
@@ -111,7 +111,7 @@ nothingLive = record { table = noTable; inForce = unstated; live = [] }
 -- `zero-state` is the state that version file 0 gives
 unfoldable pub follow : (limit : ℕ) → (zero-state : State) → Way → Answer State
 follow limit z fromZero = accepted z
-follow limit z (fromCheckpoint f) = readFile limit f nothingLive
+follow limit z (fromCheckpoint f) = readFile limit ofCheckpoint f nothingLive
 follow limit z (andThen w g) = do
   st ← follow limit z w
-  readFile limit g st
+  readFile limit ofVersion g st

@@ -53,7 +53,7 @@ fn one_different_fact_is_a_disagreement() {
 fn the_metadata_in_force_is_among_the_facts() {
     let with = |history: &str, lines: String| {
         let mut files = marked_log();
-        files[0].1 = meta_data("t", &["a", "b"]);
+        files[2].1 += &meta_data("t", &["a", "b"]);
         files[3].1 += history;
         files[4].1 = protocol(2, 2) + &add("b", 2) + &lines;
         clean(1, 0, &files)
@@ -88,6 +88,27 @@ fn a_checkpoint_without_metadata_is_no_start_for_the_cleaner() {
 }
 
 #[test]
+fn a_foreign_add_on_the_way_stops_the_cleaner() {
+    let foreign = add_with_year("a", "\"1\"");
+    let with = |index: usize, lines: String| {
+        let mut files = marked_log();
+        files[index].1 = lines;
+        clean(1, 0, &files)
+    };
+    assert_eq!(with(1, foreign.clone()), Err(21));
+    assert_eq!(with(1, foreign.clone() + "malformed"), Err(21));
+    assert_eq!(with(1, "malformed\n".to_string() + &foreign), Err(6));
+    assert_eq!(with(4, foreign.clone() + META), Err(13));
+    let mut files = marked_log();
+    files[1].1 = foreign.clone();
+    files[4].1 = protocol(9, 9) + META;
+    assert_eq!(clean(1, 0, &files), Err(21));
+    files[4].1 = protocol(2, 2) + &add("b", 2) + META;
+    files.push((checkpoint(1), foreign + META));
+    assert_eq!(clean(1, 0, &files), Ok(vec![2, 3]));
+}
+
+#[test]
 fn nothing_is_named_without_marker_or_other_start() {
     let mut files = marked_log();
     files[0].1 = "malformed".to_string();
@@ -105,12 +126,16 @@ fn nothing_is_named_without_marker_or_other_start() {
 #[test]
 fn any_files_removed_give_the_same_answer_or_not_kept() {
     let renamed = meta_data("t", &["month"]);
-    let mut files = log_of(&[add("a", 1), add("b", 2) + &renamed, remove("a"), add("c", 3) + META]);
-    files.push((checkpoint(2), add("a", 1) + &add("b", 2) + &renamed));
-    files.push((checkpoint(3), renamed + &add("b", 2)));
+    let [a, b] = ["a", "b"].map(|path| add_with_year(path, "\"1\""));
+    let c = add_with_values("c", 3, "{\"month\":null}");
+    let mut files = log_of(&[a.clone(), b.clone() + &renamed, remove("a"), c + YEAR]);
+    files[0].1 = YEAR.to_string();
+    files.push((checkpoint(2), a + &b + &renamed));
+    files.push((checkpoint(3), renamed + &b));
     let queries = ["[]".to_string(), on("year"), on("month")];
     for (asked, query) in (0..=4).flat_map(|asked| queries.iter().map(move |query| (asked, query))) {
         let full = read(Ask::Version(asked), query, &bundle_of(&files));
+        assert!(full.map_or_else(|refusal| refusal == refusal::NO_PARTITION_COLUMN, |_| true));
         for removed in 0u32..64 {
             let kept: Vec<_> = files
                 .iter()

@@ -16,11 +16,16 @@ fn metas(columns: &[&str]) -> String {
     meta_data("t", columns)
 }
 
+/// An add under the columns a and b, which are in force for this line alone.
+fn add_with_both(path: &str, columns: &[&str]) -> String {
+    metas(&["a", "b"]) + &add_with_values(path, 1, BOTH) + &metas(columns)
+}
+
 const BOTH: &str = "{\"a\":\"1\",\"b\":\"2\"}";
 
 #[test]
 fn the_last_line_at_or_below_the_version() {
-    let mut files = log_of(&[add_with_values("f", 1, BOTH), metas(&["b"]), add("g", 1), metas(&["a"])]);
+    let mut files = log_of(&[add_with_both("f", &["a"]), metas(&["b"]), remove("g"), metas(&["a"])]);
     files[0].1 = metas(&["a"]);
     let bundle = bundle_of(&files);
     assert_eq!(asked(0, "a b", &bundle), [0, -11]);
@@ -32,7 +37,7 @@ fn the_last_line_at_or_below_the_version() {
 
 #[test]
 fn the_last_line_of_a_file() {
-    let bundle = bundle_of(&log_of(&[metas(&["b"]) + &add_with_values("f", 1, BOTH) + &metas(&["c", "b"])]));
+    let bundle = bundle_of(&log_of(&[add_with_both("f", &["c", "b"])]));
     assert_eq!(asked(1, "b c a year", &bundle), [1, 0, -11, -11]);
 }
 
@@ -58,7 +63,7 @@ fn version_zero_keeps_its_rules() {
 fn a_checkpoint_brings_its_own() {
     let mut files = log_of(&[]);
     files.push((checkpoint(2), metas(&["a"]) + &add_with_values("f", 1, BOTH) + &metas(&["c", "b"])));
-    files.push((version(3), add("g", 1)));
+    files.push((version(3), add_with_values("g", 1, "{\"b\":null,\"c\":null}")));
     files.push((version(4), metas(&["a"])));
     let bundle = bundle_of(&files);
     assert_eq!(asked(2, "c b a year", &bundle), [0, 1, -11, -11]);

@@ -1,7 +1,8 @@
-//! Tests of the paper's own examples (P1 to P12, the program) and of its other edges, and of C-11.
+//! Tests of the paper's own examples (P1 to P12, the program) of its other edges, and of C-11 and C-22.
 
 mod clauses;
 mod cleaning;
+mod foreign_keys;
 mod later_meta_data;
 mod paper;
 
@@ -9,7 +10,8 @@ use crate::bundle::{self, File};
 use crate::reading::{self, Ask, Reading, TABLE};
 use crate::refusal::Refusal;
 
-const META: &str = "{\"metaData\":{\"id\":\"t\",\"partitionColumns\":[\"year\"]}}\n";
+const META: &str = "{\"metaData\":{\"id\":\"t\",\"partitionColumns\":[]}}\n";
+const YEAR: &str = "{\"metaData\":{\"id\":\"t\",\"partitionColumns\":[\"year\"]}}\n";
 
 fn version(number: u64) -> String {
     format!("{number:020}.json")

@@ -138,9 +138,8 @@ fn live_files_1024_accepted_1025_refused() {
 
 #[test]
 fn ten_comes_after_nine_as_a_number() {
-    let bundle = bundle_of(&log_of(&[add_with_year("a", "\"10\"")
-        + &add_with_year("b", "\"9\"")
-        + &add_with_year("c", "null")]));
+    let years = add_with_year("a", "\"10\"") + &add_with_year("b", "\"9\"") + &add_with_year("c", "null");
+    let bundle = bundle_of(&log_of(&[YEAR.to_string() + &years]));
     let rows = |kind: &str| {
         let query = format!("[{{\"column\":\"year\",\"as\":\"{kind}\",\"op\":\"ge\",\"value\":\"10\"}}]");
         read(Ask::Latest, &query, &bundle).unwrap().rows

@@ -1,6 +1,7 @@
 //! Bundles against the format: each clause broken, and the largest ones that keep it.
 
 use super::dice::Dice;
+use super::foreign;
 use super::logs::{checkpoint_name, version_name, Log};
 use crate::bundle::{self, File};
 
@@ -84,19 +85,43 @@ pub fn largest(log: &Log, beyond: usize) -> Vec<u8> {
     bundle::write(&files)
 }
 
-/// A log in which 1,024 files come to live, then as many more as `beyond` says, or another
-/// add of one of them; `in_checkpoint` puts all of it into a checkpoint as well.
-pub fn full_of_files(dice: &mut Dice, beyond: usize, in_checkpoint: bool) -> Log {
+/// What stands behind 1,024 live files.
+pub enum Behind {
+    /// Another add of one of them, and a new one for one that goes.
+    NoMore,
+    /// So many new ones.
+    More(usize),
+    /// A foreign add: new or another of one of them, before or behind a new one, or malformed too.
+    Foreign,
+}
+
+/// A log in which 1,024 files come to live, then what is behind them; `in_checkpoint` puts all of it
+/// into a checkpoint as well.
+pub fn full_of_files(dice: &mut Dice, behind: Behind, in_checkpoint: bool) -> Log {
     let mut log = Log::grow(dice, 0);
-    let add = |number: usize| {
-        let fields = "\"modificationTime\":1,\"dataChange\":true,\"partitionValues\":{}";
+    let columns = log.states[0].columns();
+    let values = |keys: &[String]| {
+        let members: Vec<String> = keys.iter().map(|key| format!("{}:null", escaped(key))).collect();
+        format!("{{{}}}", members.join(","))
+    };
+    let foreign = values(&foreign::keys(dice, &columns, &[]));
+    let good = values(&columns);
+    let add_with = |number: usize, values: &str| {
+        let fields = format!("\"modificationTime\":1,\"dataChange\":true,\"partitionValues\":{values}");
         format!("{{\"add\":{{\"path\":\"{number:x}\",\"size\":{number},{fields}}}}}\n")
     };
+    let add = |number: usize| add_with(number, &good);
     let all: String = (0..1_024).map(add).collect();
-    let more: String = if beyond == 0 {
-        format!("{}{{\"remove\":{{\"path\":\"5\"}}}}\n{}", add(7), add(5_000))
-    } else {
-        (0..beyond).map(|number| add(2_000 + number)).collect()
+    let more: String = match behind {
+        Behind::NoMore => format!("{}{{\"remove\":{{\"path\":\"5\"}}}}\n{}", add(7), add(5_000)),
+        Behind::More(count) => (0..count).map(|number| add(2_000 + number)).collect(),
+        Behind::Foreign => match dice.below(5) {
+            0 => add_with(2_000, &foreign),
+            1 => add_with(7, &foreign),
+            2 => add(2_000) + &add_with(2_001, &foreign),
+            3 => add_with(2_000, &foreign) + &add(2_001),
+            _ => add_with(2_000, &foreign).replace("true", "1"),
+        },
     };
     log.put(dice, version_name(1), all.clone().into_bytes());
     log.put(dice, version_name(2), more.clone().into_bytes());
@@ -110,4 +135,9 @@ pub fn full_of_files(dice: &mut Dice, beyond: usize, in_checkpoint: bool) -> Log
         log.put_marker(2);
     }
     log
+}
+
+/// A name in quotes, with no more escapes than it needs.
+fn escaped(name: &str) -> String {
+    format!("\"{}\"", name.replace('\\', "\\\\").replace('"', "\\\""))
 }

@@ -1,12 +1,13 @@
 //! Requests to clean (`c`): true and false checkpoints, gates, ages, and nothing to name.
 
-use super::bundles;
+use super::bundles::{self, Behind};
 use super::dice::Dice;
+use super::foreign::foreign_add;
 use super::lines;
 use super::logs::{checkpoint_name, version_name, Log, MARKER};
 use super::markers::{odd_marker, put_odd_marker};
 use super::readings::{enough_room, odd_room};
-use super::twists::twist;
+use super::twists::{odd_line_somewhere, twist};
 use crate::request::Request;
 
 const NAMES: u64 = 1_024;
@@ -69,6 +70,30 @@ pub fn renamed(dice: &mut Dice) -> Request {
         state.protocol = lines::protocol_facts(dice, true);
     }
     log.put_checkpoint(dice, version, &state);
+    request(dice, &log.bundle())
+}
+
+/// Foreign adds on one of the ways to the checkpoint, in it, or behind it; the checkpoint may be false
+/// or stand at the gate's limits as well.
+pub fn foreign(dice: &mut Dice) -> Request {
+    let count = 1 + dice.below(3);
+    let log = Log::grow_renamed(dice, count, 5);
+    let (mut log, marked) = mark(dice, log);
+    for _ in 0..1 + dice.below(4) / 3 {
+        foreign_add(dice, &mut log);
+    }
+    if dice.one_in(3) {
+        let mut state = log.states[marked as usize].clone();
+        match dice.below(3) {
+            0 => state.falsify(dice),
+            1 => state.falsify_meta_data(dice),
+            _ => state.protocol = lines::protocol_facts(dice, true),
+        }
+        log.put_checkpoint(dice, marked, &state);
+    }
+    if dice.one_in(6) {
+        odd_line_somewhere(dice, &mut log);
+    }
     request(dice, &log.bundle())
 }
 
@@ -161,15 +186,15 @@ pub fn odd_rooms(dice: &mut Dice) -> Request {
 
 /// 1,024 files live at the checkpoint, or one more on one of the ways to it.
 pub fn full(dice: &mut Dice) -> Request {
-    let beyond = dice.below(2);
-    let log = bundles::full_of_files(dice, beyond, true);
+    let behind = if dice.one_in(2) { Behind::NoMore } else { Behind::More(1) };
+    let log = bundles::full_of_files(dice, behind, true);
     request(dice, &log.bundle())
 }
 
 /// One file too many: in the checkpoint, on the other way, or in both, where the way may be
 /// malformed as well.
 pub fn too_many_live(dice: &mut Dice) -> Request {
-    let mut log = bundles::full_of_files(dice, 1, true);
+    let mut log = bundles::full_of_files(dice, Behind::More(1), true);
     match dice.below(3) {
         0 => {
             let state = log.states[2].clone();
@@ -177,6 +202,16 @@ pub fn too_many_live(dice: &mut Dice) -> Request {
         }
         1 => log.put(dice, version_name(1), b"malformed".to_vec()),
         _ => (),
+    }
+    request(dice, &log.bundle())
+}
+
+/// A foreign add behind 1,024 live files, in the checkpoint as well or only on the way to it.
+pub fn foreign_when_full(dice: &mut Dice) -> Request {
+    let mut log = bundles::full_of_files(dice, Behind::Foreign, true);
+    if dice.one_in(2) {
+        let state = log.states[2].clone();
+        log.put_checkpoint(dice, 2, &state);
     }
     request(dice, &log.bundle())
 }

@@ -73,23 +73,26 @@ pub fn value(dice: &mut Dice) -> String {
     }
 }
 
-/// Up to three distinct column names.
+/// Up to three distinct column names, seldom as many as there may be.
 pub fn columns(dice: &mut Dice) -> Vec<String> {
     let mut names = COLUMNS.map(str::to_string).to_vec();
-    dice.shuffle(&mut names);
-    names.truncate(dice.below(4));
+    if dice.one_in(30) {
+        names.extend((names.len()..16).map(|number| format!("c{number}")));
+        dice.shuffle(&mut names);
+        names.truncate(15 + dice.below(2));
+    } else {
+        dice.shuffle(&mut names);
+        names.truncate(dice.below(4));
+    }
     names
 }
 
-/// Facts of a file at this path: a value, null or nothing for each column.
+/// Facts of a file at this path: a value or null for each column, and no other key.
 pub fn facts(dice: &mut Dice, path: &str, columns: &[String]) -> FileFacts {
     let mut values = Vec::new();
     for column in columns {
-        match dice.below(8) {
-            0 => (),
-            1 => values.push((column.clone(), None)),
-            _ => values.push((column.clone(), Some(value(dice)))),
-        }
+        let value = if dice.one_in(7) { None } else { Some(value(dice)) };
+        values.push((column.clone(), value));
     }
     FileFacts {
         path: path.to_string(),
@@ -100,7 +103,7 @@ pub fn facts(dice: &mut Dice, path: &str, columns: &[String]) -> FileFacts {
     }
 }
 
-fn partition_values(dice: &mut Dice, values: &[(String, Option<String>)]) -> String {
+pub fn partition_values(dice: &mut Dice, values: &[(String, Option<String>)]) -> String {
     let mut members = Members::new();
     for (column, value) in values {
         let written = match value {

@@ -39,7 +39,7 @@ impl Log {
     /// A well-formed log of version 0 and up to `most` versions more.
     pub fn grow(dice: &mut Dice, most: usize) -> Log {
         let count = dice.below(most + 1);
-        Log::grow_renamed(dice, count, 12)
+        Log::grow_renamed(dice, count, 8)
     }
 
     /// As `grow`, with `count` versions above 0, in which one line in `renaming` is a metaData.
@@ -109,8 +109,7 @@ impl Log {
             let path = dice.pick(&lines::PATHS[..]);
             lines.push(match dice.below(19) {
                 0..=11 => {
-                    let columns = if dice.one_in(3) { self.columns.clone() } else { state.columns() };
-                    let facts = lines::facts(dice, path, &columns);
+                    let facts = lines::facts(dice, path, &state.columns());
                     let line = lines::add(dice, &facts);
                     state.live.insert(path.to_string(), facts);
                     line
@@ -173,6 +172,13 @@ impl Log {
 
     pub fn take_out(&mut self, name: &[u8]) {
         self.files.retain(|file| file.name != name);
+    }
+
+    /// The columns in force at the end of a version file or checkpoint that the log grew with.
+    pub fn columns_of(&self, name: &[u8]) -> Vec<String> {
+        let version =
+            (0..=self.last()).find(|&version| name == version_name(version) || name == checkpoint_name(version));
+        version.map_or(Vec::new(), |version| self.states[version as usize].columns())
     }
 
     /// The files whose lines are read: version files and checkpoints.

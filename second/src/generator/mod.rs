@@ -4,6 +4,7 @@
 mod bundles;
 mod cleanings;
 mod dice;
+mod foreign;
 mod lines;
 mod logs;
 mod markers;
@@ -24,7 +25,7 @@ use dice::Dice;
 type Kind = fn(&mut Dice) -> Request;
 
 /// The kinds of requests, and how often each is made among the others.
-const KINDS: [(usize, Kind); 36] = [
+const KINDS: [(usize, Kind); 40] = [
     (1000, readings::plain),
     (2000, readings::twisted),
     (1600, readings::odd_line),
@@ -33,6 +34,7 @@ const KINDS: [(usize, Kind); 36] = [
     (150, readings::names),
     (900, readings::queried),
     (700, readings::renamed),
+    (900, readings::foreign),
     (300, readings::damaged_bundle),
     (150, readings::odd_rooms),
     (2, readings::most_entries),
@@ -42,6 +44,7 @@ const KINDS: [(usize, Kind); 36] = [
     (4, readings::all_live),
     (3, readings::too_many_live_at_version),
     (3, readings::too_many_live_at_latest),
+    (4, readings::foreign_when_full),
     (900, states::bounded),
     (60, states::many),
     (600, states::odd),
@@ -49,6 +52,7 @@ const KINDS: [(usize, Kind); 36] = [
     (400, cleanings::plain),
     (500, cleanings::disagreeing),
     (400, cleanings::renamed),
+    (400, cleanings::foreign),
     (700, cleanings::twisted),
     (300, cleanings::gate),
     (250, cleanings::nothing_to_name),
@@ -58,6 +62,7 @@ const KINDS: [(usize, Kind); 36] = [
     (80, cleanings::odd_rooms),
     (3, cleanings::full),
     (3, cleanings::too_many_live),
+    (3, cleanings::foreign_when_full),
     (200, showings::directory),
     (500, showings::path),
     (500, showings::records),
@@ -89,6 +94,39 @@ mod tests {
     fn true_checkpoints_are_true() {
         for number in 0..60 {
             let request = cleanings::plain(&mut Dice::new(11, number));
+            assert_eq!(crate::probe::answer(&request).reached, "0", "{number}");
+        }
+    }
+
+    /// How often a kind of request reaches each case.
+    fn reached(kind: Kind, count: u64) -> std::collections::BTreeMap<String, u64> {
+        let mut counts = std::collections::BTreeMap::new();
+        for number in 0..count {
+            *counts.entry(crate::probe::answer(&kind(&mut Dice::new(22, number))).reached).or_default() += 1;
+        }
+        counts
+    }
+
+    /// Foreign adds are refused often, and often stand where nothing is refused or another line is.
+    #[test]
+    fn foreign_adds_are_met_and_not_met() {
+        for kind in [readings::foreign, cleanings::foreign] {
+            let counts = reached(kind, 1_000);
+            assert!(counts["21"] > 200 && counts["0"] > 100 && counts["6"] > 20, "{counts:?}");
+        }
+        for kind in [readings::foreign_when_full, cleanings::foreign_when_full] {
+            let counts = reached(kind, 60);
+            assert!(["21", "7", "6"].iter().all(|number| counts.contains_key(*number)), "{counts:?}");
+        }
+    }
+
+    /// Logs within the rules have no foreign add.
+    #[test]
+    fn logs_within_the_rules_have_no_foreign_add() {
+        let mut dice = Dice::new(22, 0);
+        for number in 0..200 {
+            let log = logs::Log::grow_renamed(&mut dice, 4, 3);
+            let request = Request::new('r', &[4, 4_096], &[b"[]", &log.bundle()]);
             assert_eq!(crate::probe::answer(&request).reached, "0", "{number}");
         }
     }

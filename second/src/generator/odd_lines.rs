@@ -1,6 +1,7 @@
 //! Lines at the edge of a clause, on either side of it.
 
 use super::dice::Dice;
+use super::foreign;
 use super::lines::{self, FileFacts};
 use super::odd_texts::{odd_string_bytes, NUMBERS};
 use super::writing::{any_value, member, nested, object, quoted, Members};
@@ -21,25 +22,29 @@ fn string_of(dice: &mut Dice, length: usize) -> String {
     format!("\"{}{}\"", written.repeat(units), "y".repeat(length - units * unit.len()))
 }
 
-/// Any line: an action with one odd thing about it, or an odd form of the line itself.
-pub fn odd_line(dice: &mut Dice) -> Vec<u8> {
+/// Any line: an action with one odd thing about it, or an odd form of the line itself. Adds have
+/// these columns, most of them.
+pub fn odd_line(dice: &mut Dice, columns: &[String]) -> Vec<u8> {
     match dice.below(11) {
-        0..=3 => odd_add(dice),
+        0..=3 => odd_add(dice, columns),
         4 | 5 => odd_protocol(dice),
         6 | 7 => odd_meta_data(dice),
         8 => odd_remove(dice),
-        _ => odd_form(dice),
+        _ => odd_form(dice, columns),
     }
 }
 
-fn some_facts(dice: &mut Dice) -> FileFacts {
-    let columns = lines::columns(dice);
+fn some_facts(dice: &mut Dice, columns: &[String]) -> FileFacts {
     let path = dice.pick(&lines::PATHS);
-    lines::facts(dice, path, &columns)
+    if dice.one_in(12) {
+        let keys = foreign::keys(dice, columns, &[]);
+        return lines::facts(dice, path, &keys);
+    }
+    lines::facts(dice, path, columns)
 }
 
-pub fn odd_add(dice: &mut Dice) -> Vec<u8> {
-    let facts = some_facts(dice);
+pub fn odd_add(dice: &mut Dice, columns: &[String]) -> Vec<u8> {
+    let facts = some_facts(dice, columns);
     let mut fields = lines::add_fields(dice, &facts);
     match dice.below(8) {
         0 => {
@@ -57,9 +62,16 @@ pub fn odd_add(dice: &mut Dice) -> Vec<u8> {
                 }
             }
         }
-        2 => fields[4].1 = odd_partition_values(dice),
+        2 => fields[4].1 = odd_partition_values(dice, &facts),
         3 => fields[0].1 = "\"@@\"".to_string(),
-        4 => fields[4].1 = "{\"y\":\"@@\"}".to_string(),
+        4 => {
+            let mut values = facts.values.clone();
+            match values.first_mut() {
+                Some((_, value)) => *value = Some("@@".to_string()),
+                None => values.push(("y".to_string(), Some("@@".to_string()))),
+            }
+            fields[4].1 = lines::partition_values(dice, &values);
+        }
         5 => {
             let depth = [28, 29, 30, 31][dice.below(4)];
             let value = nested(dice, depth);
@@ -70,7 +82,19 @@ pub fn odd_add(dice: &mut Dice) -> Vec<u8> {
     finish(dice, "add", fields)
 }
 
-fn odd_partition_values(dice: &mut Dice) -> String {
+/// Partition values that are none, or those of a file with one key or value odd.
+fn odd_partition_values(dice: &mut Dice, facts: &FileFacts) -> String {
+    let mut members: Members = facts.values.iter().map(|(column, _)| member(column, "\"1\"")).collect();
+    if !members.is_empty() && !dice.one_in(4) {
+        let some = dice.below(members.len());
+        let value = dice.pick(&["null", "\"\"", "1", "true", "{}", "[]", "[null]", "\"\\u0000\""]);
+        match dice.below(4) {
+            0 => members.push(member(&facts.values[some].0, value)),
+            1 => members.push(member("beside", value)),
+            _ => members[some].1 = value.to_string(),
+        }
+        return object(dice, &members);
+    }
     dice.pick(&[
         "{}",
         "null",
@@ -183,8 +207,8 @@ fn finish(dice: &mut Dice, key: &str, fields: Members) -> Vec<u8> {
 }
 
 /// Odd forms of a line, whatever its action.
-fn odd_form(dice: &mut Dice) -> Vec<u8> {
-    let facts = some_facts(dice);
+fn odd_form(dice: &mut Dice, columns: &[String]) -> Vec<u8> {
+    let facts = some_facts(dice, columns);
     let good = lines::add(dice, &facts);
     let line = match dice.below(12) {
         0 => dice

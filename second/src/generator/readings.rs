@@ -1,7 +1,8 @@
 //! Requests to read: at a version (`r`) or at the latest one (`l`).
 
-use super::bundles;
+use super::bundles::{self, Behind};
 use super::dice::Dice;
+use super::foreign::foreign_add;
 use super::logs::{version_name, Log};
 use super::markers::put_odd_marker;
 use super::queries;
@@ -149,6 +150,32 @@ pub fn renamed(dice: &mut Dice) -> Request {
     }
 }
 
+/// Adds under other columns than those in force, or under those of another line, here and there in
+/// files that are read or not; other things may be wrong as well.
+pub fn foreign(dice: &mut Dice) -> Request {
+    let count = 1 + dice.below(3);
+    let renaming = 3 + dice.below(9);
+    let mut log = Log::grow_renamed(dice, count, renaming);
+    if dice.one_in(3) {
+        let version = dice.below(log.states.len());
+        let state = log.states[version].clone();
+        log.put_checkpoint(dice, version as u64, &state);
+    }
+    for _ in 0..1 + dice.below(4) / 3 {
+        foreign_add(dice, &mut log);
+    }
+    match dice.below(12) {
+        0..=2 => odd_line_somewhere(dice, &mut log),
+        3 => put_gate_edge(dice, &mut log),
+        4 => later_meta_data(dice, &mut log),
+        5 => log.take_out(&version_name(1 + dice.below(log.states.len()) as u64)),
+        _ => (),
+    }
+    let columns = log.some_columns(dice);
+    let query = queries::some(dice, &columns);
+    ask(dice, log.last(), &query, &log.bundle())
+}
+
 pub fn damaged_bundle(dice: &mut Dice) -> Request {
     let log = Log::grow_with_checkpoints(dice, 2);
     let bundle = bundles::damaged(dice, &log);
@@ -193,25 +220,32 @@ pub fn one_byte_too_many(dice: &mut Dice) -> Request {
     with_largest_file(dice, 1)
 }
 
-fn full(dice: &mut Dice, beyond: usize) -> Vec<u8> {
+fn full(dice: &mut Dice, behind: Behind) -> Vec<u8> {
     let in_checkpoint = dice.one_in(2);
-    bundles::full_of_files(dice, beyond, in_checkpoint).bundle()
+    bundles::full_of_files(dice, behind, in_checkpoint).bundle()
 }
 
 /// 1,024 files live: accepted.
 pub fn all_live(dice: &mut Dice) -> Request {
-    let bundle = full(dice, 0);
+    let bundle = full(dice, Behind::NoMore);
     ask(dice, 2, b"[]", &bundle)
 }
 
 /// The 1,025th file, at a version.
 pub fn too_many_live_at_version(dice: &mut Dice) -> Request {
-    let bundle = full(dice, 1);
+    let bundle = full(dice, Behind::More(1));
     Request::new('r', &[2, TABLE], &[b"[]", &bundle])
 }
 
 /// The 1,025th file, at the latest version.
 pub fn too_many_live_at_latest(dice: &mut Dice) -> Request {
-    let bundle = full(dice, 2);
+    let bundle = full(dice, Behind::More(2));
     Request::new('l', &[TABLE], &[b"[]", &bundle])
+}
+
+/// A foreign add behind 1,024 live files.
+pub fn foreign_when_full(dice: &mut Dice) -> Request {
+    let in_checkpoint = dice.one_in(4);
+    let bundle = bundles::full_of_files(dice, Behind::Foreign, in_checkpoint).bundle();
+    ask(dice, 2, b"[]", &bundle)
 }

@@ -36,9 +36,9 @@ fn some_line(dice: &mut Dice) -> Vec<u8> {
             let facts = lines::facts(dice, path, &columns);
             lines::add(dice, &facts).into_bytes()
         }
-        3..=6 => odd_add(dice),
+        3..=6 => odd_add(dice, &columns),
         7 => lines::remove(dice, path).into_bytes(),
-        _ => odd_line(dice),
+        _ => odd_line(dice, &columns),
     };
     if dice.one_in(10) {
         let at = dice.pick_number(&[0, 1, line.len() as u64]).min(line.len() as u64);

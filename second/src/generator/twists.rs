@@ -1,6 +1,7 @@
 //! Twists: one thing about a log made odd, within the rules or against them.
 
 use super::dice::Dice;
+use super::foreign::foreign_add;
 use super::lines;
 use super::logs::{checkpoint_name, version_name, Log};
 use super::markers::odd_marker;
@@ -10,7 +11,7 @@ use crate::bundle::File;
 
 type Twist = fn(&mut Dice, &mut Log);
 
-const TWISTS: [Twist; 18] = [
+const TWISTS: [Twist; 20] = [
     gap,
     files_missing,
     odd_line_somewhere,
@@ -21,6 +22,8 @@ const TWISTS: [Twist; 18] = [
     odd_checkpoint_meta_data,
     odd_checkpoint_meta_data,
     later_meta_data,
+    foreign_add,
+    foreign_add,
     odd_marker,
     odd_marker,
     odd_version_zero,
@@ -66,15 +69,20 @@ fn some_file<'a>(dice: &mut Dice, log: &'a mut Log) -> Option<&'a mut File> {
 }
 
 /// Puts a line into a body, before or after one of its lines.
-fn insert_line(dice: &mut Dice, body: &mut Vec<u8>, line: &[u8]) {
+pub fn insert_line(dice: &mut Dice, body: &mut Vec<u8>, line: &[u8]) {
     let mut lines: Vec<Vec<u8>> = body.split(|&byte| byte == b'\n').map(<[u8]>::to_vec).collect();
     lines.insert(dice.below(lines.len() + 1), line.to_vec());
     *body = lines.join(&b'\n');
 }
 
 pub fn odd_line_somewhere(dice: &mut Dice, log: &mut Log) {
-    let line = if dice.one_in(3) { odd_add(dice) } else { odd_line(dice) };
-    if let Some(file) = some_file(dice, log) {
+    let name = match some_file(dice, log) {
+        Some(file) => file.name.clone(),
+        None => return,
+    };
+    let columns = log.columns_of(&name);
+    let line = if dice.one_in(3) { odd_add(dice, &columns) } else { odd_line(dice, &columns) };
+    if let Some(file) = log.files.iter_mut().find(|file| file.name == name) {
         insert_line(dice, &mut file.body, &line);
     }
 }
@@ -87,7 +95,7 @@ fn bad_checkpoint(dice: &mut Dice, log: &mut Log) {
         log.put_marker(version as u64);
     }
     let name = checkpoint_name(version as u64);
-    let line = odd_line(dice);
+    let line = odd_line(dice, &state.columns());
     if let Some(file) = log.files.iter_mut().find(|file| file.name == name) {
         match dice.below(5) {
             0 => file.body.clear(),
@@ -274,7 +282,7 @@ fn highest_versions(dice: &mut Dice, log: &mut Log) {
     log.put_checkpoint(dice, first, &state);
     for version in first + 1..=highest {
         if !dice.one_in(5) {
-            let facts = lines::facts(dice, "high", &log.columns);
+            let facts = lines::facts(dice, "high", &state.columns());
             let line = lines::add(dice, &facts);
             log.put(dice, version_name(version), line.into_bytes());
         }

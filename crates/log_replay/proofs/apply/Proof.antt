@@ -37,6 +37,9 @@ take-out-requires c κs =
 enum-told : tie.Need-enum-told
 enum-told c = search needs
 
+enum-known-m : tie.Need-enum-known-m
+enum-known-m c = search needs
+
 enum-told-2 : tie.Need-enum-told-2
 enum-told-2 c = search needs
 
@@ -45,9 +48,6 @@ enum-told-3 c = search needs
 
 enum-told-4 : tie.Need-enum-told-4
 enum-told-4 c = search needs
-
-enum-told-5 : tie.Need-enum-told-5
-enum-told-5 c = search needs
 
 same-length : tie.Need-same-length
 same-length c = search needs
@@ -61,7 +61,7 @@ same-length-2 c = search needs
 returns-2 : tie.Need-returns-2
 returns-2 c =
     let s = c .before .before .before .before .before .before .before .before .before .before .before .before .before in
-    did-remove _ _ _ _ _ _ (s .pre .0) (s .pre .1) (s .pre .2) (s .args .entry) (s .args .number) _
+    did-remove _ _ _ _ _ _ (s .pre .0) (s .pre .1) (s .pre .2) (s .args .held) (s .args .entry) (s .args .number) _
     (subst (ActionIs _ _) (c .before .before .before .before .before .p .given .1)
     (c .before .before .before .before .before .before .before .classify .ensures))
     (c .before .before .take-out .ensures)
@@ -69,32 +69,32 @@ returns-2 c =
 returns-3 : tie.Need-returns-3
 returns-3 c =
     let s = c .before .before .before .before .before .before .before .before in
-    did-protocol _ _ _ _ _ _ (s .pre .0) (s .pre .1) (s .pre .2) (s .args .entry) (s .args .number)
+    did-protocol _ _ _ _ _ _ (s .pre .0) (s .pre .1) (s .pre .2) (s .args .held) (s .args .entry) (s .args .number)
     (subst (ActionIs _ _) (c .enum-told .given .1) (c .before .before .classify .ensures))
 
 returns-4 : tie.Need-returns-4
 returns-4 c =
-    let s = c .before .before .before .before .before .before .before .before in
-    did-metaData _ _ _ _ _ _ (s .pre .0) (s .pre .1) (s .pre .2) (s .args .entry) (s .args .number)
-    (subst (ActionIs _ _) (c .enum-told2 .given .1) (c .before .before .classify .ensures))
+    let s = c .before .before .before .before .before .before .before .before .before in
+    did-metaData _ _ _ _ _ _ (s .pre .0) (s .pre .1) (s .pre .2) (s .args .held) (s .args .entry) (s .args .number)
+    (subst (ActionIs _ _) (c .before .m .given .1) (c .before .before .before .classify .ensures))
 
 returns-5 : tie.Need-returns-5
 returns-5 c =
     let s = c .before .before .before .before .before .before .before .before in
-    did-mergeskip _ _ _ _ _ _ (s .pre .0) (s .pre .1) (s .pre .2) (s .args .entry) (s .args .number)
-    (subst (ActionIs _ _) (c .enum-told3 .given .1) (c .before .before .classify .ensures))
+    did-mergeskip _ _ _ _ _ _ (s .pre .0) (s .pre .1) (s .pre .2) (s .args .held) (s .args .entry) (s .args .number)
+    (subst (ActionIs _ _) (c .enum-told2 .given .1) (c .before .before .classify .ensures))
 
 returns-6 : tie.Need-returns-6
 returns-6 c =
     let s = c .before .before .before .before .before .before .before .before in
-    did-other _ _ _ _ _ _ (s .pre .0) (s .pre .1) (s .pre .2) (s .args .entry) (s .args .number)
-    (subst (ActionIs _ _) (c .enum-told4 .given .1) (c .before .before .classify .ensures))
+    did-other _ _ _ _ _ _ (s .pre .0) (s .pre .1) (s .pre .2) (s .args .held) (s .args .entry) (s .args .number)
+    (subst (ActionIs _ _) (c .enum-told3 .given .1) (c .before .before .classify .ensures))
 
 returns-7 : tie.Need-returns-7
 returns-7 c =
     let s = c .before .before .before .before .before .before .before .before in
-    did-malformed _ _ _ _ _ _ (s .pre .0) (s .pre .1) (s .pre .2) (s .args .entry) (s .args .number)
-    (subst (ActionIs _ _) (c .enum-told5 .given .1) (c .before .before .classify .ensures))
+    did-malformed _ _ _ _ _ _ (s .pre .0) (s .pre .1) (s .pre .2) (s .args .held) (s .args .entry) (s .args .number)
+    (subst (ActionIs _ _) (c .enum-told4 .given .1) (c .before .before .classify .ensures))
 
 pub apply-spec : {M : Type 1} → statement M
 apply-spec =
@@ -107,10 +107,10 @@ apply-spec =
     add-take-out
     take-out-requires
     enum-told
+    enum-known-m
     enum-told-2
     enum-told-3
     enum-told-4
-    enum-told-5
     same-length
     returns
     same-length-2

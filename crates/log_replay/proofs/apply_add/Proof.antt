@@ -1,7 +1,7 @@
--- `apply_add` puts the row of its line into the table.
-use mathlib.Core.Path.{subst}
+-- `apply_add` puts the row of its line into the table, where its keys fit.
+use mathlib.Core.Path.{sym, subst, _∙_}
 use Rattle.log_replay.specs.Answers.{PutIs}
-use Rattle.log_replay.proofs.Doing.{add-fits, add-placed, did-add, did-full}
+use Rattle.log_replay.proofs.Doing.{add-fits, add-placed, did-add, did-full, did-foreign}
 use native.Mathlib.Omega.{arith}
 use borrow.Author.Needs.{needs}
 use Rattle.log_replay.proofs.apply_add.Statement.{statement}
@@ -17,11 +17,16 @@ pack-requires c κs =
     let (p, q) = c .before .before .before .before .pre in
     (omega (arith, p .1 .within, p .0 .short), omega (arith, add-fits _ _ _ _ _ _ (p .0) (p .1) (p .2) q, p .0 .short))
 
+fits-requires : tie.Need-fits-requires
+fits-requires c κs =
+    let (p, q) = c .before .before .before .before .before .before .before .pre in
+    (record { ps = q .0 .partitionValues; pairing = q .2 .values }, p .0 .metaData, p .0 .told)
+
 put-row-requires : tie.Need-put-row-requires
 put-row-requires c κs =
-    let (p, q) = c .before .before .before .before .before .before .before .before .pre in
+    let (p, q) = c .before .before .before .before .before .before .before .before .before .before .pre in
     let w = p .0 in
-    let e = c .before .before .before .pack .ensures in
+    let e = c .before .before .before .before .before .pack .ensures in
     (w .table, rw (e .path) (add-placed _ _ _ _ _ _ w (p .1) (p .2) q .spelled), w .few, w .room)
 
 enum-known-r : tie.Need-enum-known-r
@@ -35,10 +40,16 @@ same-length c = search needs
 
 returns : tie.Need-returns
 returns c =
-    let s = c .before .before .before .before .before .before .before .before .before .before .before .before .before .before in
+    let b10 = c .before .before .before .before .before .before .before .before .before .before in
+    let fits2 = c .before .before .before .before .before .before .before .before .fits2 in
+    let s = b10 .before .before .before .before .before .before in
     let (p, q) = s .pre in
-    did-add _ _ _ _ _ _ (p .0) (p .1) (p .2) q _ (c .before .before .before .before .before .before .before .before .before .pack .ensures)
-    (s .args .entry) (s .args .number) _
+    did-add _ _ _ _ _ _ (p .0) (p .1) (p .2) q _ (b10 .before .pack .ensures)
+    (s .args .held)
+    (sym (fits2 .ensures (q .0) (q .2 .values)) ∙ c .before .before .before .before .before .before .before .if1 .taken)
+    (s .args .entry)
+    (s .args .number)
+    _
     (subst (PutIs _ _ _ _ _ _ _) (c .before .r .given .1) (c .before .before .before .before .before .put-row .ensures))
 
 same-length-2 : tie.Need-same-length-2
@@ -46,11 +57,23 @@ same-length-2 c = search needs
 
 returns-2 : tie.Need-returns-2
 returns-2 c =
-    let s = c .before .before .before .before .before .before .before .before .before .before .before .before .before in
+    let b10 = c .before .before .before .before .before .before .before .before .before .before in
+    let s = b10 .before .before .before .before .before in
     let (p, q) = s .pre in
-    did-full _ _ _ _ _ _ (p .0) (p .1) (p .2) q _ (c .before .before .before .before .before .before .before .before .pack .ensures)
-    (s .args .entry) (s .args .number)
+    did-full _ _ _ _ _ _ (p .0) (p .1) (p .2) q _ (b10 .pack .ensures)
+    (s .args .held)
+    (sym (c .before .before .before .before .before .before .before .fits2 .ensures (q .0) (q .2 .values))
+    ∙ c .before .before .before .before .before .before .if1 .taken)
+    (s .args .entry)
+    (s .args .number)
     (subst (PutIs _ _ _ _ _ _ _) (c .enum-told .given .1) (c .before .before .before .before .put-row .ensures))
+
+returns-3 : tie.Need-returns-3
+returns-3 c =
+    let s = c .before .before .before .before .before .before .before .before .before in
+    let (p, q) = s .pre in
+    did-foreign _ _ _ _ _ _ (p .0) (p .1) (p .2) q (s .args .held) (sym (c .before .fits2 .ensures (q .0) (q .2 .values)) ∙ c .if1 .left)
+    (s .args .entry) (s .args .number)
 
 pub apply-add-spec : {M : Type 1} → statement M
 apply-add-spec =
@@ -58,10 +81,12 @@ apply-add-spec =
     (tie.spec
     add-pack
     pack-requires
+    fits-requires
     put-row-requires
     enum-known-r
     enum-told
     same-length
     returns
     same-length-2
-    returns-2)
+    returns-2
+    returns-3)

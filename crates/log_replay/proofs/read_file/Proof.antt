@@ -6,7 +6,7 @@ use Rattle.facts.specs.Parts.{part}
 use Rattle.rules.specs.Refusals.{Answer}
 use Rattle.rules.specs.History.{State}
 use Rattle.log_replay.specs.Views.{stateOf}
-use Rattle.log_replay.specs.Answers.{OutcomeIs}
+use Rattle.log_replay.specs.Answers.{origin, OutcomeIs}
 use Rattle.log_replay.proofs.Lying.{part-lies}
 use Rattle.log_replay.proofs.Filing.{readFile-body}
 use borrow.Author.Needs.{needs}
@@ -42,7 +42,7 @@ returns c =
     let s = c .before .before .before .before .before .before .before .before .before in
     let r = c .before .before .read-lines in
     subst (λ (o : Answer State). OutcomeIs (now (s .args .src)) (s .args .limit) o (now (s .args .t)) (r .last .1 .1 .1 .1 .1 .0) (r .result))
-    (readFile-body (c .before .before .before .before .before .before .entry-at .ensures) (s .args .limit)
+    (readFile-body (c .before .before .before .before .before .before .entry-at .ensures) (s .args .limit) (origin (s .args .held))
     (stateOf (now (s .args .src)) (s .args .st) (now (s .args .t))))
     (r .ensures)
 

@@ -14,10 +14,10 @@ use Rattle.log_replay.proofs.read_lines.Statement.{statement}
 use Rattle.log_replay.proofs.read_lines.Tie as tie
 
 abbrev Inv-loop : tie.InvT-loop
-Inv-loop src body from entry t₀ limit at₀ state₀ met₀ line₀ t at state met line = Within src body entry from limit t₀ state₀ t at state met line
+Inv-loop src body from entry t₀ limit held at₀ state₀ met₀ line₀ t at state met line = Within src body entry from limit held t₀ state₀ t at state met line
 
 abbrev μ-loop : tie.MeasureT-loop
-μ-loop src body from entry t₀ limit at₀ state₀ met₀ line₀ t at state met line = length body + 1 - at
+μ-loop src body from entry t₀ limit held at₀ state₀ met₀ line₀ t at state met line = length body + 1 - at
 
 abbrev start : tie.In-loop Inv-loop μ-loop → tie.Start Inv-loop μ-loop
 start i = i .before .before .before .before .before
@@ -40,7 +40,7 @@ ends c =
 loop-holds : tie.Need-loop-holds Inv-loop μ-loop
 loop-holds c =
     let p = c .before .before .before .pre in
-    within-start _ _ _ (p .1) _ _ (p .0)
+    within-start _ _ _ _ (p .1) _ _ (p .0)
 
 line-end-requires : tie.Need-line-end-requires Inv-loop μ-loop
 line-end-requires c κs = (omega (arith, c .loop-test .taken), omega arith)
@@ -88,8 +88,8 @@ loop-again c =
     let if1 = c .before .before .before .before .before .before .before .before .if1 in
     let l = c .before .before .before .before .before .before .before .before .before in
     let i = l .before in
-    within-next _ _ _ (start i .pre .1) _ _ _ _ _ _ _ (i .before .loop .inv) _ (i .loop-test .taken) (l .line-end .ensures) (if1 .taken) _ _
-    (subst (LineIs _ _ _ _ _ _ _ _ _) (c .before .after .given .1) (c .before .before .before .before .before .apply .ensures))
+    within-next _ _ _ _ (start i .pre .1) _ _ _ _ _ _ _ (i .before .loop .inv) _ (i .loop-test .taken) (l .line-end .ensures) (if1 .taken) _ _
+    (subst (LineIs _ _ _ _ _ _ _ _ _ _) (c .before .after .given .1) (c .before .before .before .before .before .apply .ensures))
 
 enum-known-x : tie.Need-enum-known-x Inv-loop μ-loop
 enum-known-x c = search needs
@@ -104,9 +104,9 @@ unfolding part
 returns c =
     let l = c .before .before .before .before .before .before .before .before .before in
     let i = l .before in
-    within-refused _ _ _ (start i .pre .1) _ _ _ _ _ _ _ (i .before .loop .inv) _ (i .loop-test .taken) (l .line-end .ensures)
+    within-refused _ _ _ _ (start i .pre .1) _ _ _ _ _ _ _ (i .before .loop .inv) _ (i .loop-test .taken) (l .line-end .ensures)
     (c .before .before .before .before .before .before .before .before .if1 .taken) _ _
-    (subst (LineIs _ _ _ _ _ _ _ _ _) (c .before .x .given .1) (c .before .before .before .before .before .apply .ensures))
+    (subst (LineIs _ _ _ _ _ _ _ _ _ _) (c .before .x .given .1) (c .before .before .before .before .before .apply .ensures))
 
 add-line-2 : tie.Need-add-line-2 Inv-loop μ-loop
 add-line-2 c = omega (arith, ends (c .before))
@@ -118,14 +118,14 @@ loop-again-2 : tie.Need-loop-again-2 Inv-loop μ-loop
 loop-again-2 c =
     let l = c .before in
     let i = l .before in
-    within-empty _ _ _ (start i .pre .1) _ _ _ _ _ _ _ (i .before .loop .inv) _ (i .loop-test .taken) (l .line-end .ensures) (c .if1 .left)
+    within-empty _ _ _ _ (start i .pre .1) _ _ _ _ _ _ _ (i .before .loop .inv) _ (i .loop-test .taken) (l .line-end .ensures) (c .if1 .left)
 
 same-length-2 : tie.Need-same-length-2 Inv-loop μ-loop
 same-length-2 c = c .before .before .loop .inv .carried .left .length
 
 returns-2 : tie.Need-returns-2 Inv-loop μ-loop
 returns-2 c =
-    within-met _ _ _
+    within-met _ _ _ _
     (c .before .before .before .before .before .before .pre .1)
     _ _ _ _ _ _ _
     (c .before .before .loop .inv)
@@ -137,7 +137,7 @@ same-length-3 c = c .before .before .loop .inv .carried .left .length
 
 returns-3 : tie.Need-returns-3 Inv-loop μ-loop
 returns-3 c =
-    within-none _ _ _
+    within-none _ _ _ _
     (c .before .before .before .before .before .before .pre .1)
     _ _ _ _ _ _ _
     (c .before .before .loop .inv)

@@ -89,6 +89,39 @@ enum-told-13 c = search needs
 plain-requires-13 : tie.Need-plain-requires-13
 plain-requires-13 c κs = search needs
 
+enum-told-14 : tie.Need-enum-told-14
+enum-told-14 c = search needs
+
+plain-requires-14 : tie.Need-plain-requires-14
+plain-requires-14 c κs = search needs
+
+enum-told-15 : tie.Need-enum-told-15
+enum-told-15 c = search needs
+
+plain-requires-15 : tie.Need-plain-requires-15
+plain-requires-15 c κs = search needs
+
+enum-told-16 : tie.Need-enum-told-16
+enum-told-16 c = search needs
+
+plain-requires-16 : tie.Need-plain-requires-16
+plain-requires-16 c κs = search needs
+
+enum-told-17 : tie.Need-enum-told-17
+enum-told-17 c = search needs
+
+plain-requires-17 : tie.Need-plain-requires-17
+plain-requires-17 c κs = search needs
+
+enum-told-18 : tie.Need-enum-told-18
+enum-told-18 c = search needs
+
+plain-requires-18 : tie.Need-plain-requires-18
+plain-requires-18 c κs = search needs
+
+enum-known-x-3 : tie.Need-enum-known-x-3
+enum-known-x-3 c = search needs
+
 returns : tie.Need-returns
 unfolding numbered
 returns c = c .plain .ensures ∙ ap numbered (sym (c .before .enum-told .given .1))
@@ -149,6 +182,30 @@ returns-15 : tie.Need-returns-15
 unfolding numbered
 returns-15 c = c .plain13 .ensures ∙ ap numbered (sym (c .before .enum-told13 .given .1))
 
+returns-16 : tie.Need-returns-16
+unfolding numbered
+returns-16 c = c .plain14 .ensures ∙ ap numbered (sym (c .before .enum-told14 .given .1))
+
+returns-17 : tie.Need-returns-17
+unfolding numbered
+returns-17 c = c .plain15 .ensures ∙ ap numbered (sym (c .before .enum-told15 .given .1))
+
+returns-18 : tie.Need-returns-18
+unfolding numbered
+returns-18 c = c .plain16 .ensures ∙ ap numbered (sym (c .before .enum-told16 .given .1))
+
+returns-19 : tie.Need-returns-19
+unfolding numbered
+returns-19 c = c .plain17 .ensures ∙ ap numbered (sym (c .before .enum-told17 .given .1))
+
+returns-20 : tie.Need-returns-20
+unfolding numbered
+returns-20 c = c .plain18 .ensures ∙ ap numbered (sym (c .before .enum-told18 .given .1))
+
+returns-21 : tie.Need-returns-21
+unfolding numbered
+returns-21 c = ap numbered (sym (c .before .x3 .given .1))
+
 pub numbers-of-spec : {M : Type 1} → statement M
 numbers-of-spec =
     tie.close
@@ -181,6 +238,17 @@ numbers-of-spec =
     plain-requires-12
     enum-told-13
     plain-requires-13
+    enum-told-14
+    plain-requires-14
+    enum-told-15
+    plain-requires-15
+    enum-told-16
+    plain-requires-16
+    enum-told-17
+    plain-requires-17
+    enum-told-18
+    plain-requires-18
+    enum-known-x-3
     returns
     returns-2
     returns-3
@@ -195,4 +263,10 @@ numbers-of-spec =
     returns-12
     returns-13
     returns-14
-    returns-15)
+    returns-15
+    returns-16
+    returns-17
+    returns-18
+    returns-19
+    returns-20
+    returns-21)

@@ -34,23 +34,23 @@ returns c =
     said-protocol _ _ _ (s .args .entry) (s .args .number) _ (s .pre .0) (s .pre .1) (s .pre .2)
     (subst (ActionIs _ _) (c .before .before .enum-told3 .given .1) (c .before .before .before .before .classify .ensures)) (c .if1 .taken)
 
-enum-told-4 : tie.Need-enum-told-4
-enum-told-4 c = search needs
+enum-known-m : tie.Need-enum-known-m
+enum-known-m c = search needs
 
 returns-2 : tie.Need-returns-2
 returns-2 c =
-    let s = c .before .before .before .before .before .before .before .before .before in
+    let s = c .before .before .before .before .before .before .before .before .before .before in
     said-table _ _ _ (s .args .entry) (s .args .number) _ (s .pre .0) (s .pre .1) (s .pre .2)
-    (subst (ActionIs _ _) (c .before .before .enum-told4 .given .1) (c .before .before .before .before .classify .ensures)) (c .if2 .taken)
+    (subst (ActionIs _ _) (c .before .before .before .m .given .1) (c .before .before .before .before .before .classify .ensures)) (c .if2 .taken)
+
+enum-told-4 : tie.Need-enum-told-4
+enum-told-4 c = search needs
 
 enum-told-5 : tie.Need-enum-told-5
 enum-told-5 c = search needs
 
 enum-told-6 : tie.Need-enum-told-6
 enum-told-6 c = search needs
-
-enum-told-7 : tie.Need-enum-told-7
-enum-told-7 c = search needs
 
 returns-3 : tie.Need-returns-3
 returns-3 c =
@@ -72,27 +72,27 @@ returns-5 c =
 
 returns-6 : tie.Need-returns-6
 returns-6 c =
-    let s = c .before .before .before .before .before .before .before .before .before in
+    let s = c .before .before .before .before .before .before .before .before .before .before in
     said-table-twice _ _ _ (s .args .entry) (s .args .number) _ (s .pre .0) (s .pre .1) (s .pre .2)
-    (subst (ActionIs _ _) (c .before .before .enum-told4 .given .1) (c .before .before .before .before .classify .ensures)) (c .if2 .left)
+    (subst (ActionIs _ _) (c .before .before .before .m .given .1) (c .before .before .before .before .before .classify .ensures)) (c .if2 .left)
 
 returns-7 : tie.Need-returns-7
 returns-7 c =
     let s = c .before .before .before .before .before .before .before in
     said-mergeskip _ _ _ (s .args .entry) (s .args .number) _ (s .pre .0) (s .pre .1) (s .pre .2)
-    (subst (ActionIs _ _) (c .enum-told5 .given .1) (c .before .before .classify .ensures))
+    (subst (ActionIs _ _) (c .enum-told4 .given .1) (c .before .before .classify .ensures))
 
 returns-8 : tie.Need-returns-8
 returns-8 c =
     let s = c .before .before .before .before .before .before .before in
     said-other _ _ _ (s .args .entry) (s .args .number) _ (s .pre .0) (s .pre .1) (s .pre .2)
-    (subst (ActionIs _ _) (c .enum-told6 .given .1) (c .before .before .classify .ensures))
+    (subst (ActionIs _ _) (c .enum-told5 .given .1) (c .before .before .classify .ensures))
 
 returns-9 : tie.Need-returns-9
 returns-9 c =
     let s = c .before .before .before .before .before .before .before in
     said-malformed _ _ _ (s .args .entry) (s .args .number) _ (s .pre .0) (s .pre .1) (s .pre .2)
-    (subst (ActionIs _ _) (c .enum-told7 .given .1) (c .before .before .classify .ensures))
+    (subst (ActionIs _ _) (c .enum-told6 .given .1) (c .before .before .classify .ensures))
 
 pub say-spec : {M : Type 1} → statement M
 say-spec =
@@ -103,11 +103,11 @@ say-spec =
     enum-told-2
     enum-told-3
     returns
-    enum-told-4
+    enum-known-m
     returns-2
+    enum-told-4
     enum-told-5
     enum-told-6
-    enum-told-7
     returns-3
     returns-4
     returns-5
