@@ -1,9 +1,10 @@
 -- Partition values told by their first two members: what stands from one of them on, and what so few of them are.
-use mathlib.Core.Path.{_≡_, refl, sym, ap, _∙_}
+use mathlib.Core.Path.{_≡_, refl, sym, ap, subst, _∙_}
 use mathlib.Core.Bool.{Bool, true, false}
 use mathlib.Core.Option.{Option, none, some}
 use mathlib.Core.List.{List, [], _∷_}
-use Prim.Native.Nat.{ℕ, _+_, _-_}
+use Prim.Native.Nat.{ℕ, _+_, _-_, _≤_, _<_}
+use native.Mathlib.Omega.{arith}
 use lib.ListN.{take, drop}
 use Rattle.rules.specs.Actions.{inField, pairs}
 use Rattle.rules.specs.Bytes.{Bytes, _>>=_, guard, same, holds, distinct, firsts}
@@ -16,13 +17,25 @@ use Rattle.rules.proofs.Json.Steps.{list-closed, list-onward, list-neither, res
 use Rattle.rules.proofs.Json.ValueReads.{value-reads, member-reads}
 use Rattle.json_values.specs.Follows.{Follows}
 use Rattle.json_values.specs.declared.Tail.the-variants.{Closed, More, Neither}
-use Rattle.field_names.specs.Spelled.{nameIn}
+use Rattle.field_names.specs.Spelled.{nameIn, Quoted}
 use Rattle.field_names.specs.declared.keys.Spell.{Spell}
 use Rattle.field_objects.specs.Standing.{Stands}
 use Rattle.field_objects.proofs.Passing.{andThen-some, items-first}
 use Rattle.field_scalars.specs.Texts.{Told}
-use Rattle.field_containers.specs.Nested.{Opened, Second, valuesFrom}
+use Rattle.field_containers.specs.Nested.{Opened, Opens, UsualIs, Second, valuesFrom}
 use Rattle.field_containers.proofs.Partitions.{opened-list, guarded, pairs-none}
+
+-- ---- what is told of their names
+
+-- nothing
+pub usual-none : (s : Text) (at : ℕ) → UsualIs s at (record { end = 0; second = 0; close = 0 })
+usual-none s at = record { one = λ h _. absurd (omega (arith, h)); two = λ h _. absurd (omega (arith, h)) }
+
+-- the first name, where it is told to end
+pub told-opens : {o : Option (Member × Text)} {s : Text} {at i v e end : ℕ} {n : Spell} → Stands o s i n v e → (0 < end → (i ≡ at) × (n .end ≡ end))
+    → Opens s at n end
+told-opens {s = s} {n = n} m f h =
+    (subst (λ (k : ℕ). Quoted s k n) (f h .0) (record { quote = m .quote; from = m .first; named = m .named }), f h .1)
 
 -- ---- so few members
 
@@ -108,8 +121,22 @@ module _ (s : Text) (at : ℕ) (w : Opened s at) where
             let t = values-one (nameIn s n) (take (e - v) (drop v s)) (y .1) in
             (t .0, ap valuesFrom (left-closed s i all-left n v e m f) ∙ t .1)
 
+        -- it is told, where it is told to end
+        pub first-usual : {k end : ℕ} → Opens s at n end → Follows (closing 0x7D (drop e s)) s (e + 1) (Closed k)
+            → UsualIs s at (record { end = end; second = 0; close = 0 })
+        unfolding firsts
+        first-usual {end = end} o f = record {
+          one = λ h _. record {
+            n = n;
+            quoted = o h .0;
+            ends = o h .1;
+            object = record { ms = w .ms; left = w .left; all = w .all; each = ap firsts (left-closed s i all-left n v e m f) };
+          };
+          two = λ _ h. absurd (omega (arith, h));
+        }
+
         pub first-more : {k : ℕ} → Follows (closing 0x7D (drop e s)) s (e + 1) (More k) → Second s at n k
-        first-more f =
+        first-more {k} f =
             let (ns, p, q) = left-more s i all-left n v e m f in
             record {
               named = m .named;
@@ -118,6 +145,7 @@ module _ (s : Text) (at : ℕ) (w : Opened s at) where
               read = y .1;
               ms = ns;
               left = w .left;
+              from = let low : e + 1 ≤ k = f .1 in omega arith;
               within = f .2;
               all = w .all ∙ ap (λ (l : List Member). some (l, w .left)) p;
               more = q;
@@ -156,6 +184,28 @@ module _ (s : Text) (at : ℕ) (n : Spell) (i : ℕ) (g : Second s at n i) (w : 
     second-closed y d f =
         let t = values-two (nameIn s n) (g .first) (nameIn s k) (take (e - v) (drop v s)) (g .read) (y .1) d in
         (t .0, ap valuesFrom (both ∙ ap (λ (l : List Member). (nameIn s n, g .first) ∷ l) (left-closed s i (g .more) k v e m f)) ∙ t .1)
+
+    -- both are told
+    pub second-usual : {end j : ℕ} → Opens s at n end → Follows (closing 0x7D (drop e s)) s (e + 1) (Closed j)
+        → UsualIs s at (record { end = end; second = i; close = k .end })
+    unfolding firsts
+    second-usual {end} o f = record {
+      one = λ _ z. absurd (omega (arith, g .from, z));
+      two = λ h _. record {
+        n = n;
+        m = k;
+        quoted = o h .0;
+        ends = o h .1;
+        quoted-too = record { quote = m .quote; from = m .first; named = m .named };
+        closes = refl;
+        object = record {
+          ms = w .ms;
+          left = w .left;
+          all = w .all;
+          each = ap firsts (both ∙ ap (λ (l : List Member). (nameIn s n, g .first) ∷ l) (left-closed s i (g .more) k v e m f));
+        };
+      };
+    }
 
 -- ---- however many
 

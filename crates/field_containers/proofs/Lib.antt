@@ -12,3 +12,4 @@ pub mod Few
 pub mod Arrays
 pub mod Stated
 pub mod Pairs
+pub mod Telling

@@ -26,9 +26,10 @@ use Rattle.field_objects.specs.Standing.{Stands}
 use Rattle.field_names.specs.declared.keys.Spell.{Spell}
 use Rattle.field_objects.specs.declared.notes.Slot.{Slot}
 use Rattle.field_objects.proofs.Passing.{Passed, passed-start, passed-none, passed-neither, passed-closed, passed-more, items-first}
-use Rattle.field_containers.specs.Nested.{Opened, valuesFrom, valuesOf, valuesIn, ValuesIs}
+use Rattle.field_containers.specs.Nested.{Opened, UsualIs, valuesFrom, valuesOf, valuesIn, ValuesIs}
 use Rattle.field_scalars.specs.Inside.{Proper}
 use Rattle.field_scalars.specs.Texts.{Told}
+use Rattle.field_containers.specs.declared.nested.Usual.{Usual}
 use Rattle.field_containers.specs.declared.nested.Values.the-variants.{Behind}
 use Rattle.field_scalars.proofs.Single.{proper-single, text-single}
 use Rattle.field_scalars.proofs.Strings.{byte-text}
@@ -165,8 +166,8 @@ module _ (s : Text) (x : Slot) (p : Proper s x) (sole : x .seen ≡ 1) where
     pub values-refused : valuesFrom (values-opened .ms) ≡ none → valuesIn s x ≡ none
     values-refused n = values-are ∙ n
 
-    pub values-there : Told (valuesFrom (values-opened .ms)) true → ValuesIs (valuesIn s x) s (Behind i)
-    values-there t = bound (guard (distinct (firsts (values-opened .ms)))) (λ _. pairs (values-opened .ms)) (t .1) (λ _ d e. (
+    pub values-there : Told (valuesFrom (values-opened .ms)) true → {u : Usual} → UsualIs s i u → ValuesIs (valuesIn s x) s (Behind i u)
+    values-there t {u} told = bound (guard (distinct (firsts (values-opened .ms)))) (λ _. pairs (values-opened .ms)) (t .1) (λ _ d e. (
       t .0,
       values-are ∙ t .1,
       record {
@@ -177,4 +178,5 @@ module _ (s : Text) (x : Slot) (p : Proper s x) (sole : x .seen ≡ 1) where
         each = e;
         distinct = guard-some (distinct (firsts (values-opened .ms))) d;
       },
+      told,
     ))

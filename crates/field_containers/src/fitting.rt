@@ -1,6 +1,7 @@
 // Whether the names of partition values are the partition columns, in any order.
 use crate::lists;
 use crate::nested::IN_FIELD;
+use crate::nested::Usual;
 use field_names::Name;
 use field_objects::Found;
 use field_objects::Met;
@@ -17,8 +18,74 @@ ghost use Rattle.rules.specs.Bytes.{Bytes, holds, allAmong, sameSet, firsts};
 ghost use Rattle.json_strings.specs.Decoded.{decoded, WellSpelled};
 ghost use Rattle.field_objects.specs.Lookup.{Standing};
 ghost use Rattle.field_objects.specs.Namings.{Object, Members};
-ghost use Rattle.field_containers.specs.Nested.{Pairing, Paired};
+ghost use Rattle.field_containers.specs.Nested.{UsualIs, Pairing, Paired, Again, Ended};
 ghost use Rattle.field_containers.specs.Strung.{Listed, IsList, Onward};
+
+// ---- one or two, spelled as the columns are
+
+// Whether the bytes of s from i up to `end` stand in t from j on. So few are compared as one number, and told to differ where a text has no eight left.
+fn stands(s: &[u8], i: usize, end: usize, t: &[u8], j: usize) -> bool
+    requires { ⌜ (i ≤ end) × (end ≤ length (now s)) × (j ≤ length (now t)) ⌝ }
+    ensures { λ r. ⌜ (r ≡ true → Again (now (s .entry)) i end (now (t .entry)) j) ⌝ }
+{
+    let size = end - i;
+    if 8 < size {
+        return bytes_values::begins_with(&s[i..end], &t[j..]);
+    }
+    if s.len() - i < 8 {
+        return false;
+    }
+    if t.len() - j < 8 {
+        return false;
+    }
+    let alike = bytes_eights::common(s, i, t, j, 8);
+    if alike < size {
+        return false;
+    }
+    true
+}
+
+// `at` is behind an element of an array. Whether the array ends there.
+fn closed_at(t: &[u8], at: usize) -> bool
+    requires { ⌜ at ≤ length (now t) ⌝ }
+    ensures { λ r. ⌜ (r ≡ true → Ended (now (t .entry)) at) ⌝ }
+{
+    match json_values::closing(t, at, CLOSE_BRACKET) {
+        Tail::Neither => false,
+        Tail::Closed(_) => true,
+        Tail::More(_) => false,
+    }
+}
+
+// `values` is just after the brace of partition values in s, of whose names `usual` tells; `columns` is just after the bracket of an array of strings
+// in t. Whether one or two names are told, and are spelled as the strings are, one after the other; then they are the same. It is the quick way of
+// `keys_fit`, which is to be asked where this is not so.
+pub fn usual_fit(s: &[u8], values: usize, usual: Usual, t: &[u8], columns: usize) -> bool
+    requires { ⌜ UsualIs (now s) values usual × (columns ≤ length (now t)) ⌝ }
+    ensures { λ r. ⌜ (r ≡ true → (ps : Pairs) (cs : List Bytes) → Pairing (now (s .entry)) values ps → Listed (now (t .entry)) columns cs
+        → sameSet (firsts ps) cs ≡ true) ⌝ }
+{
+    let end = usual.end;
+    let second = usual.second;
+    let last = usual.close;
+    if end == 0 {
+        return false;
+    }
+    if stands(s, values, end, t, columns) {
+        let close = columns + (end - values);
+        if second == 0 {
+            return closed_at(t, close);
+        }
+        let Tail::More(k) = json_values::closing(t, close, CLOSE_BRACKET) else {
+            return false;
+        };
+        if stands(s, second, last, t, k) {
+            return closed_at(t, k + (last - second));
+        }
+        return false;
+    }
+    false
+}
 
 // ---- in step, as most writers put them
 

@@ -13,14 +13,14 @@ use json_values::Tail;
 ghost use mathlib.Core.Path.{_≡_};
 ghost use mathlib.Core.Option.{some};
 ghost use mathlib.Core.List.{[]};
-ghost use Prim.Native.Nat.{_≤_, _-_};
+ghost use Prim.Native.Nat.{_≤_, _<_, _-_};
 ghost use lib.ListN.{length, take, drop};
 ghost use Rattle.rules.specs.Actions.{inAction, inField, pairs};
 ghost use Rattle.rules.specs.Json.Values.{value as rValue};
 ghost use Rattle.rules.specs.Json.Fields.{stringOrNull, stringsOf};
 ghost use Rattle.field_scalars.specs.Inside.{Proper};
 ghost use Rattle.field_scalars.specs.Texts.{Told};
-ghost use Rattle.field_containers.specs.Nested.{Opened, Second, valuesFrom, valuesIn, ValuesIs, ArrayIs, columnsIn, ColumnsIs};
+ghost use Rattle.field_containers.specs.Nested.{Opened, Opens, Second, valuesFrom, JudgedIs, valuesIn, ValuesIs, ArrayIs, columnsIn, ColumnsIs};
 
 // How deep values may nest inside of a field of an action.
 pub const IN_FIELD: usize = 29;
@@ -80,56 +80,105 @@ fn many_values(s: &[u8], at: usize) -> bool
     false
 }
 
-// The same where the first of them has the name n, and the second begins at i: two are told at once.
-fn values_from(s: &[u8], at: usize, n: Spell, i: usize) -> bool
-    requires { ⌜ (at ≤ length (now s)) × Second (now s) at n i ⌝ }
-    ensures { λ r. ⌜ ((w : Opened (now (s .entry)) at) → Told (valuesFrom (w .ms)) r) ⌝ }
+// Where the names of partition values stand, where they are one or two, as usual: the first from just after the brace up to `end`, the second from
+// `second` up to `close`; `second` is 0 where there is none. Nothing is told of more, of none, and after white space: `end` is 0.
+pub struct Usual {
+    pub end: usize,
+    pub second: usize,
+    pub close: usize,
+}
+
+// Members that are partition values, and where their names stand; or that they are none.
+enum Judged {
+    Good(Usual),
+    NotGood,
+}
+
+// Where the first name n ends, which begins at `first`; 0 where that is not `at`.
+fn told_end(at: usize, first: usize, n: Spell) -> usize
+    ensures { λ r. ⌜ (0 < r → (first ≡ at) × (n .end ≡ r)) ⌝ }
+{
+    if first == at {
+        return n.end;
+    }
+    0
+}
+
+// The same where the first of them has the name n, which is told to end at `end`, and the second begins at i: two are told at once.
+fn values_from(s: &[u8], at: usize, n: Spell, end: usize, i: usize) -> Judged
+    requires { ⌜ (at ≤ length (now s)) × Second (now s) at n i × Opens (now s) at n end ⌝ }
+    ensures { λ r. ⌜ ((w : Opened (now (s .entry)) at) → JudgedIs (valuesFrom (w .ms)) (now (s .entry)) at r) ⌝ }
 {
     let Met::Member(m, v, e) = field_objects::read_member(s, i, IN_FIELD) else {
-        return true;
+        return Judged::NotGood;
     };
     if string_or_null(s, v, e) {
         if field_objects::same_names(s, n, m) {
-            return false;
+            return Judged::NotGood;
         }
         match json_values::closing(s, e, CLOSE_BRACE) {
-            Tail::Neither => true,
-            Tail::Closed(_) => true,
-            Tail::More(_) => many_values(s, at),
+            Tail::Neither => Judged::NotGood,
+            Tail::Closed(_) => {
+                let close = m.end;
+                Judged::Good(Usual {
+                    end,
+                    second: i,
+                    close,
+                })
+            }
+            Tail::More(_) => {
+                if many_values(s, at) {
+                    return Judged::Good(Usual {
+                        end: 0,
+                        second: 0,
+                        close: 0,
+                    });
+                }
+                Judged::NotGood
+            }
         }
     } else {
-        false
+        Judged::NotGood
     }
 }
 
 // `at` is just after an object's opening brace. Whether its members are partition values: strings or nulls under distinct names.
-fn are_values(s: &[u8], at: usize) -> bool
+fn are_values(s: &[u8], at: usize) -> Judged
     requires { ⌜ (at ≤ length (now s)) × Opened (now s) at ⌝ }
-    ensures { λ r. ⌜ ((w : Opened (now (s .entry)) at) → Told (valuesFrom (w .ms)) r) ⌝ }
+    ensures { λ r. ⌜ ((w : Opened (now (s .entry)) at) → JudgedIs (valuesFrom (w .ms)) (now (s .entry)) at r) ⌝ }
 {
     match json_values::opening(s, at, CLOSE_BRACE) {
-        Tail::Neither => true,
-        Tail::Closed(_) => true,
+        Tail::Neither => Judged::NotGood,
+        Tail::Closed(_) => Judged::Good(Usual {
+            end: 0,
+            second: 0,
+            close: 0,
+        }),
         Tail::More(first) => {
             let Met::Member(n, v, e) = field_objects::read_member(s, first, IN_FIELD) else {
-                return true;
+                return Judged::NotGood;
             };
             if string_or_null(s, v, e) {
+                let end = told_end(at, first, n);
                 match json_values::closing(s, e, CLOSE_BRACE) {
-                    Tail::Neither => true,
-                    Tail::Closed(_) => true,
-                    Tail::More(i) => values_from(s, at, n, i),
+                    Tail::Neither => Judged::NotGood,
+                    Tail::Closed(_) => Judged::Good(Usual {
+                        end,
+                        second: 0,
+                        close: 0,
+                    }),
+                    Tail::More(i) => values_from(s, at, n, end, i),
                 }
             } else {
-                false
+                Judged::NotGood
             }
         }
     }
 }
 
-// Partition values, by the position behind their brace; or none.
+// Partition values, by the position behind their brace and where their names stand; or none.
 pub enum Values {
-    Behind(usize),
+    Behind(usize, Usual),
     NoValues,
 }
 
@@ -145,10 +194,10 @@ pub fn values_in(s: &[u8], slot: Slot) -> Values
     let Next::At(at) = json_tokens::skip_byte(s, start, OPEN_BRACE) else {
         return Values::NoValues;
     };
-    if are_values(s, at) {
-        return Values::Behind(at);
-    }
-    Values::NoValues
+    let Judged::Good(usual) = are_values(s, at) else {
+        return Values::NoValues;
+    };
+    Values::Behind(at, usual)
 }
 
 // ---- arrays of strings

@@ -35,7 +35,8 @@ use Rattle.field_objects.proofs.Slots.{slot-once}
 use Rattle.line_actions.specs.Begun.{Lined}
 use Rattle.field_scalars.specs.Counts.{recordsIs, isKnown, isBool}
 use Rattle.field_scalars.specs.Inside.{Inside, wholeIn, boolIn, stringIn, optionalWholeIn}
-use Rattle.field_containers.specs.Nested.{Pairing, valuesIn, columnsOf, columnsIn, ColumnsIs}
+use Rattle.field_containers.specs.Nested.{Pairing, valuesIn, columnsOf, columnsIn, ColumnsIs, UsualIs}
+use Rattle.field_containers.specs.declared.nested.Usual.{Usual}
 use Rattle.field_containers.specs.Featured.{featuresIn, Known}
 use Rattle.line_actions.specs.Line.{ActionIs}
 use Rattle.field_scalars.specs.Texts.{Read, pathOf, idOf, Told, PathIs}
@@ -244,12 +245,13 @@ module _ (s : Text) {path size time change values records : Slot} (l : Lined s 0
   unfolding once namesOf
   add-starts o = l .starts 0 (omega arith) o
 
-  pub add-there : (y : Bytes) (a t at : ℕ) (b : Bool) (ps : Pairs) (n : Option ℕ) (r : Records)
+  pub add-there : (y : Bytes) (a t at : ℕ) (u : Usual) (b : Bool) (ps : Pairs) (n : Option ℕ) (r : Records)
       → pathOf (stringIn s path) ≡ some y → wholeIn s size ≡ some a → wholeIn s time ≡ some t
-      → boolIn s change ≡ some b → valuesIn s values ≡ some ps → Pairing s at ps → optionalWholeIn s records ≡ some n → r ≡ recordsIs (some n)
-      → ActionIs (action s) s (Add (record { path = path .start + 1; end = path .end - 1; size = a; time = t; records = r; values = at }))
+      → boolIn s change ≡ some b → valuesIn s values ≡ some ps → Pairing s at ps → UsualIs s at u → optionalWholeIn s records ≡ some n
+      → r ≡ recordsIs (some n)
+      → ActionIs (action s) s (Add (record { path = path .start + 1; end = path .end - 1; size = a; time = t; records = r; values = at; usual = u }))
   unfolding added
-  add-there y a t at b ps n r e1 e2 e3 e4 e5 q e6 e7 =
+  add-there y a t at u b ps n r e1 e2 e3 e4 e5 q told e6 e7 =
       let p = add-placed y e1 in
       let far : path .start + 2 ≤ path .end = p .further in
       let fits : path .end ≤ length s = p .within in (
@@ -266,6 +268,7 @@ module _ (s : Text) {path size time change values records : Slot} (l : Lined s 0
           time = refl;
           records = e7;
           values = q;
+          usual = told;
         },
       )
 

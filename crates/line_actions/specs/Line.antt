@@ -11,7 +11,7 @@ use Rattle.rules.specs.Gate.{readerNames, writerNames}
 use Rattle.rules.specs.Json.Text.{Text}
 use Rattle.json_strings.specs.Decoded.{decoded, WellSpelled}
 use Rattle.field_containers.specs.Strung.{Listed}
-use Rattle.field_containers.specs.Nested.{Pairing}
+use Rattle.field_containers.specs.Nested.{UsualIs, Pairing}
 use Rattle.field_containers.specs.Featured.{FeaturesAt}
 use Rattle.field_scalars.specs.Counts.{recordsIs}
 use Rattle.line_actions.specs.declared.line.Added.{Added}
@@ -31,6 +31,7 @@ pub record AddIs (s : Text) (f : Facts) (a : Added) : Type 0 where
   pub time : a .time ≡ f .modificationTime
   pub records : a .records ≡ recordsIs (some (f .numRecords))
   pub values : Pairing s (a .values) (f .partitionValues)
+  pub usual : UsualIs s (a .values) (a .usual)
 
 pub record ProtocolIs (s : Text) (p : rProtocol) (r : Stated) : Type 0 where
   pub reader : r .reader ≡ p .minReaderVersion

@@ -65,7 +65,7 @@ pub fn add_in(
     };
     let change = field_scalars::truth_in(s, change);
     if is_bool(change) {
-        let Values::Behind(values) = field_containers::values_in(s, values) else {
+        let Values::Behind(values, usual) = field_containers::values_in(s, values) else {
             return Action::Malformed;
         };
         let records = field_scalars::records_in(s, records);
@@ -77,6 +77,7 @@ pub fn add_in(
                 time,
                 records,
                 values,
+                usual,
             });
         }
         return Action::Malformed;

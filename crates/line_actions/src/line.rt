@@ -3,6 +3,7 @@ use crate::acts::add_in;
 use crate::acts::meta_data_in;
 use crate::acts::protocol_in;
 use crate::acts::remove_in;
+use field_containers::Usual;
 use field_names::Kind;
 use field_names::Name;
 use field_objects::Fields;
@@ -34,7 +35,7 @@ const PROTOCOL: usize = 2;
 const MERGESKIP: usize = 4;
 
 // An add: where its path is spelled in the line (behind the opening quote, and at the closing one), its numbers,
-// and where the members of its partition values begin (behind the brace).
+// where the members of its partition values begin (behind the brace), and where their names stand.
 pub struct Added {
     pub path: usize,
     pub end: usize,
@@ -42,6 +43,7 @@ pub struct Added {
     pub time: u64,
     pub records: Records,
     pub values: usize,
+    pub usual: Usual,
 }
 
 // A protocol: its numbers, whether its features are all known to readers and to writers, and where the strings of its

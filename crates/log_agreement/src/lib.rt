@@ -5,6 +5,7 @@ mod partitions;
 mod tables;
 
 use features::same_protocols;
+use field_containers::Usual;
 use field_scalars::Records;
 use line_actions::Added;
 use line_actions::SaidAdd;
@@ -81,6 +82,11 @@ fn add_of(src: &[u8], c: Cells) -> Added
 {
     let at = (c.head % row_live::PLACES) as usize;
     let end = at + c.len as usize;
+    let usual = Usual {
+        end: 0,
+        second: 0,
+        close: 0,
+    };
     let none = Added {
         path: 0,
         end: 0,
@@ -88,6 +94,7 @@ fn add_of(src: &[u8], c: Cells) -> Added
         time: 0,
         records: Records::Missing,
         values: 0,
+        usual,
     };
     match line_actions::add_of(&src[at..end]) {
         SaidAdd::Add(a) => a,

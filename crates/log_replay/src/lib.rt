@@ -4,6 +4,7 @@ mod begin;
 
 pub use begin::nothing_live;
 pub use begin::read_zero;
+use field_containers::Usual;
 use line_actions::Action;
 use line_actions::Added;
 use refusals::Refusal;
@@ -19,7 +20,7 @@ ghost use Rattle.json_strings.specs.Decoded.{WellSpelled};
 ghost use Rattle.file_bundle.specs.Files.{filesIn, fileIn};
 ghost use Rattle.row_table.specs.Table.{Room, behind};
 ghost use Rattle.row_live.specs.Live.{pathAt, Table};
-ghost use Rattle.field_containers.specs.Nested.{Pairing, Paired};
+ghost use Rattle.field_containers.specs.Nested.{UsualIs, Pairing, Paired};
 ghost use Rattle.line_actions.specs.Line.{ActionIs};
 ghost use Rattle.line_actions.specs.declared.line.Action.the-variants.{Add};
 ghost use Rattle.log_replay.specs.Views.{Lies, tableAt, orNoTable, Inside, TableSaid, stateOf, Carries};
@@ -76,10 +77,20 @@ pub enum Outcome {
     Refused(Refusal),
 }
 
-// Whether an add may stand where it is. Where adds are held, its partition keys, which begin at `values` of its line, are the partition
-// columns in force: they are listed from `columns` on in the line of the metaData, and where there is none there are no columns.
-fn fits(src: &[u8], line: &[u8], values: usize, table: Span, columns: usize, held: bool) -> bool
-    requires { ⌜ Paired (now line) values × Inside (now src) table × (0 < table .size → TableSaid (now src) table columns) ⌝ }
+// Whether an add may stand where it is. Where adds are held, its partition keys, which begin at `values` of its line and stand as `usual`
+// tells, are the partition columns in force: they are listed from `columns` on in the line of the metaData, and where there is none there
+// are no columns.
+fn fits(
+    src: &[u8],
+    line: &[u8],
+    values: usize,
+    usual: Usual,
+    table: Span,
+    columns: usize,
+    held: bool,
+) -> bool
+    requires { ⌜ Paired (now line) values × UsualIs (now line) values usual × Inside (now src) table ⌝ }
+    requires { ⌜ (0 < table .size → TableSaid (now src) table columns) ⌝ }
     ensures { λ r. ⌜ ((f : Facts) → Pairing (now (line .entry)) values (f .partitionValues)
         → r ≡ rFits (origin held) (add f) (orNoTable (tableAt (now (src .entry)) table))) ⌝ }
 {
@@ -89,6 +100,9 @@ fn fits(src: &[u8], line: &[u8], values: usize, table: Span, columns: usize, hel
         }
         let from = table.at;
         let to = from + table.size;
+        if field_containers::usual_fit(line, values, usual, &src[from..to], columns) {
+            return true;
+        }
         return field_containers::keys_fit(line, values, &src[from..to], columns);
     }
     true
@@ -123,7 +137,8 @@ fn apply_add(
     let table = st.table;
     let columns = st.columns;
     let protocol = st.protocol;
-    if fits(src, line, a.values, table, columns, held) {
+    let usual = a.usual;
+    if fits(src, line, a.values, usual, table, columns, held) {
         return match put_row(src, t, base, n, limit, c) {
             Put::Rows(r) => Outcome::Done(State {
                 table,

@@ -8,25 +8,21 @@ use Rattle.log_replay.proofs.apply_add.Statement.{statement}
 use Rattle.log_replay.proofs.apply_add.Tie as tie
 
 add-pack : tie.Need-add-pack
-add-pack c =
-    let (p, q) = c .before .before .before .before .pre in
+add-pack c = let (p, q) = c .before .before .before .before .pre in
     omega (arith, add-fits _ _ _ _ _ _ (p .0) (p .1) (p .2) q, p .0 .short)
 
 pack-requires : tie.Need-pack-requires
-pack-requires c κs =
-    let (p, q) = c .before .before .before .before .pre in
+pack-requires c κs = let (p, q) = c .before .before .before .before .pre in
     (omega (arith, p .1 .within, p .0 .short), omega (arith, add-fits _ _ _ _ _ _ (p .0) (p .1) (p .2) q, p .0 .short))
 
 fits-requires : tie.Need-fits-requires
-fits-requires c κs =
-    let (p, q) = c .before .before .before .before .before .before .before .pre in
-    (record { ps = q .0 .partitionValues; pairing = q .2 .values }, p .0 .metaData, p .0 .told)
+fits-requires c κs = let (p, q) = c .before .before .before .before .before .before .before .before .pre in
+    ((record { ps = q .0 .partitionValues; pairing = q .2 .values }, q .2 .usual, p .0 .metaData), p .0 .told)
 
 put-row-requires : tie.Need-put-row-requires
-put-row-requires c κs =
-    let (p, q) = c .before .before .before .before .before .before .before .before .before .before .pre in
+put-row-requires c κs = let (p, q) = c .before .before .before .before .before .before .before .before .before .before .before .pre in
     let w = p .0 in
-    let e = c .before .before .before .before .before .pack .ensures in
+    let e = c .before .before .before .before .before .before .pack .ensures in
     (w .table, rw (e .path) (add-placed _ _ _ _ _ _ w (p .1) (p .2) q .spelled), w .few, w .room)
 
 enum-known-r : tie.Need-enum-known-r
@@ -41,14 +37,14 @@ same-length c = search needs
 returns : tie.Need-returns
 returns c =
     let b10 = c .before .before .before .before .before .before .before .before .before .before in
+    let b17 = b10 .before .before .before .before .before .before .before in
     let fits2 = c .before .before .before .before .before .before .before .before .fits2 in
-    let s = b10 .before .before .before .before .before .before in
-    let (p, q) = s .pre in
-    did-add _ _ _ _ _ _ (p .0) (p .1) (p .2) q _ (b10 .before .pack .ensures)
-    (s .args .held)
+    let args = b17 .args in
+    let (p, q) = b17 .pre in
+    did-add _ _ _ _ _ _ (p .0) (p .1) (p .2) q _ (b10 .before .before .pack .ensures)
+    (args .held)
     (sym (fits2 .ensures (q .0) (q .2 .values)) ∙ c .before .before .before .before .before .before .before .if1 .taken)
-    (s .args .entry)
-    (s .args .number)
+    (args .entry) (args .number)
     _
     (subst (PutIs _ _ _ _ _ _ _) (c .before .r .given .1) (c .before .before .before .before .before .put-row .ensures))
 
@@ -58,22 +54,23 @@ same-length-2 c = search needs
 returns-2 : tie.Need-returns-2
 returns-2 c =
     let b10 = c .before .before .before .before .before .before .before .before .before .before in
-    let s = b10 .before .before .before .before .before in
-    let (p, q) = s .pre in
-    did-full _ _ _ _ _ _ (p .0) (p .1) (p .2) q _ (b10 .pack .ensures)
-    (s .args .held)
+    let b16 = b10 .before .before .before .before .before .before in
+    let args = b16 .args in
+    let (p, q) = b16 .pre in
+    did-full _ _ _ _ _ _ (p .0) (p .1) (p .2) q _ (b10 .before .pack .ensures)
+    (args .held)
     (sym (c .before .before .before .before .before .before .before .fits2 .ensures (q .0) (q .2 .values))
     ∙ c .before .before .before .before .before .before .if1 .taken)
-    (s .args .entry)
-    (s .args .number)
+    (args .entry) (args .number)
     (subst (PutIs _ _ _ _ _ _ _) (c .enum-told .given .1) (c .before .before .before .before .put-row .ensures))
 
 returns-3 : tie.Need-returns-3
 returns-3 c =
-    let s = c .before .before .before .before .before .before .before .before .before in
-    let (p, q) = s .pre in
-    did-foreign _ _ _ _ _ _ (p .0) (p .1) (p .2) q (s .args .held) (sym (c .before .fits2 .ensures (q .0) (q .2 .values)) ∙ c .if1 .left)
-    (s .args .entry) (s .args .number)
+    let b10 = c .before .before .before .before .before .before .before .before .before .before in
+    let args = b10 .args in
+    let (p, q) = b10 .pre in
+    did-foreign _ _ _ _ _ _ (p .0) (p .1) (p .2) q (args .held) (sym (c .before .fits2 .ensures (q .0) (q .2 .values)) ∙ c .if1 .left)
+    (args .entry) (args .number)
 
 pub apply-add-spec : {M : Type 1} → statement M
 apply-add-spec =

@@ -102,8 +102,8 @@ records-in-requires c κs =
 is-known-requires : tie.Need-is-known-requires
 is-known-requires c κs = search needs
 
-add-t21 : tie.Need-add-t21
-add-t21 c =
+add-t22 : tie.Need-add-t22
+add-t22 c =
     let b10 = c .before .before .before .before .before .before .before .before .before .before in
     let b22 = b10 .before .before .before .before .before .before .before .before .before .before .before .before in
     let enum-told18 = b10 .before .before .before .before .before .before .before .before .enum-told .given in
@@ -115,8 +115,8 @@ add-t21 c =
     let fits : args .path .end ≤ length (args .s .now) = p .within in
     search needs
 
-sub-t22 : tie.Need-sub-t22
-sub-t22 c =
+sub-t23 : tie.Need-sub-t23
+sub-t23 c =
     let b10 = c .before .before .before .before .before .before .before .before .before .before in
     let b22 = b10 .before .before .before .before .before .before .before .before .before .before .before .before in
     let enum-told18 = b10 .before .before .before .before .before .before .before .before .enum-told .given in
@@ -147,9 +147,9 @@ returns-5 c =
     let b = subst (Told _) (c .before .before .before .before .before .before .before .if1 .taken)
     (truth-told _ (asked .result) (asked .ensures ∙ ap isBool (truth-in .ensures))) in
     let n = subst (Told _) (c .if2 .taken) (records-told _ (known .result) (known .ensures ∙ ap isKnown (stated .ensures))) in
-    add-there (b22 .args .s .now) (b22 .pre) _ (size .0 .0) (time .0 .0) (values .0 .0) (b .0) (vs .0) (n .0) (stated .result) (r .0 .says)
+    add-there (b22 .args .s .now) (b22 .pre) _ (size .0 .0) (time .0 .0) (values .0 .0) (values .0 .1 .0) (b .0) (vs .0) (n .0) (stated .result) (r .0 .says)
     (whole-number _ (sym (size .1) ∙ whole-in .ensures)) (whole-number _ (sym (time .1) ∙ whole-in2 .ensures))
-    (b .1) (vs .1) (vs .2) (n .1) (stated .ensures ∙ ap recordsIs (n .1))
+    (b .1) (vs .1) (vs .2) (vs .3) (n .1) (stated .ensures ∙ ap recordsIs (n .1))
 
 returns-6 : tie.Need-returns-6
 returns-6 c =
@@ -199,8 +199,8 @@ add-in-spec =
     returns-4
     records-in-requires
     is-known-requires
-    add-t21
-    sub-t22
+    add-t22
+    sub-t23
     returns-5
     returns-6
     returns-7)
