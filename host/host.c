@@ -16,7 +16,7 @@
 #include <stdlib.h>
 #include <string.h>
 
-enum { MOST_NUMBERS = 5, MOST_STRINGS = 2, MOST_ROOMS = 3, MOST_REQUESTS = 1000000, ENTRIES = 7 };
+enum { MOST_NUMBERS = 5, MOST_STRINGS = 2, MOST_ROOMS = 3, MOST_REQUESTS = 1000000, ENTRIES = 8 };
 
 #define ANY UINT64_MAX
 
@@ -33,9 +33,10 @@ typedef struct {
 } shape;
 
 static const shape shapes[ENTRIES] = {
-    {'r', "kerumpase_read_at", 2, {ANY, 4200}, 2, {5000, 1100000}, 1, {8}},                        /* version, room; query, bundle */
-    {'l', "kerumpase_read_latest", 1, {4200}, 2, {5000, 1100000}, 1, {8}},                             /* room; query, bundle */
-    {'c', "kerumpase_clean", 5, {ANY, ANY, 1100, 4200, 4200}, 1, {1100000}, 3, {4, 8, 8}},       /* today, retention, rooms; bundle */
+    {'r', "kerumpase_read_at", 2, {ANY, 6300}, 2, {5000, 1100000}, 1, {8}},                        /* version, room; query, bundle */
+    {'l', "kerumpase_read_latest", 1, {6300}, 2, {5000, 1100000}, 1, {8}},                             /* room; query, bundle */
+    {'q', "kerumpase_read_due", 2, {ANY, 6300}, 1, {1100000}, 1, {8}},                                 /* time, room; bundle */
+    {'c', "kerumpase_clean", 5, {ANY, ANY, 1100, 6300, 6300}, 1, {1100000}, 3, {4, 8, 8}},       /* today, retention, rooms; bundle */
     {'m', "kerumpase_keep", 1, {1100}, 2, {5000, 1100000}, 1, {4}},                             /* room; query, state */
     {'d', "kerumpase_directory", 0, {0}, 2, {70000, 70000}, 0, {0}},                                 /* path, directory */
     {'p', "kerumpase_path_of", 0, {0}, 1, {70000}, 0, {0}},                                        /* line */
@@ -158,6 +159,9 @@ static void call(void *asked)
         r->answer.listed = kerumpase_read_latest(s[1].bytes, s[1].length, s[0].bytes, s[0].length,
                                                  m[0].numbers, m[0].length);
         break;
+    case 'q':
+        r->answer.listed = kerumpase_read_due(s[0].bytes, s[0].length, r->number[0], m[0].numbers, m[0].length);
+        break;
     case 'c':
         r->answer.counted = kerumpase_clean(s[0].bytes, s[0].length, r->number[0], r->number[1], m[0].numbers,
                                             m[0].length, m[1].numbers, m[1].length, m[2].numbers, m[2].length);
@@ -245,7 +249,8 @@ static void print(const request *r)
 {
     switch (r->letter) {
     case 'r':
-    case 'l': print_listed(r); break;
+    case 'l':
+    case 'q': print_listed(r); break;
     case 'c':
     case 'm': print_counted(r); break;
     case 'd': print_bytes(r->string[r->answer.directory.of_path ? 0 : 1].bytes, r->answer.directory.length); break;

@@ -39,6 +39,7 @@ static void no_bytes(const uint8_t *none)
     HOLD(refused(kerumpase_read_latest(none, 0, all, 2, rows, KERUMPASE_ROWS_ROOM).refused, KERUMPASE_BUNDLE_MALFORMED));
     HOLD(refused(kerumpase_read_latest(all, 2, none, 0, rows, KERUMPASE_ROWS_ROOM).refused, KERUMPASE_QUERY_MALFORMED));
     HOLD(refused(kerumpase_read_latest(empty, 4, all, 2, rows, KERUMPASE_ROWS_ROOM).refused, KERUMPASE_NO_VERSION_ZERO));
+    HOLD(refused(kerumpase_read_due(none, 0, 0, rows, KERUMPASE_ROWS_ROOM).refused, KERUMPASE_BUNDLE_MALFORMED));
     HOLD(refused(kerumpase_clean(none, 0, 0, 0, names, KERUMPASE_NAMES_ROOM, rows, KERUMPASE_ROWS_ROOM, table, KERUMPASE_ROWS_ROOM).refused,
                  KERUMPASE_BUNDLE_MALFORMED));
     HOLD(refused(kerumpase_keep(none, 0, all, 2, names, KERUMPASE_KEPT_ROOM).refused, KERUMPASE_STATE_MALFORMED));
@@ -57,6 +58,7 @@ static void no_room(uint64_t *none_64, uint64_t *none_other, uint32_t *none_32)
     memset(names, 0xA5, sizeof names);
     HOLD(refused(kerumpase_read_at(all, 2, all, 2, 0, none_64, 0).refused, KERUMPASE_ROOM_TOO_SHORT));
     HOLD(refused(kerumpase_read_latest(all, 2, all, 2, none_64, 0).refused, KERUMPASE_ROOM_TOO_SHORT));
+    HOLD(refused(kerumpase_read_due(all, 2, 0, none_64, 0).refused, KERUMPASE_ROOM_TOO_SHORT));
     HOLD(refused(kerumpase_clean(all, 2, 0, 0, none_32, 0, rows, KERUMPASE_ROWS_ROOM, table, KERUMPASE_ROWS_ROOM).refused,
                  KERUMPASE_ROOM_TOO_SHORT));
     HOLD(refused(kerumpase_clean(all, 2, 0, 0, names, KERUMPASE_NAMES_ROOM, none_64, 0, table, KERUMPASE_ROWS_ROOM).refused,
@@ -88,9 +90,9 @@ static void names_of_entries(void)
 
 static void rows_and_words(void)
 {
-    const uint64_t two[] = {1, 2, 3, 4, 5, 6, 7, 8};
+    const uint64_t two[] = {1, 2, 3, 4, 5, 6, 7, 8, 9, 10, 11, 12};
     kerumpase_row row = kerumpase_row_at(two, 1);
-    HOLD(row.place == 5 && row.length == 6 && row.size == 7 && row.time == 8);
+    HOLD(row.place == 7 && row.length == 8 && row.size == 9 && row.time == 10);
     HOLD(strcmp(kerumpase_refusal_text(KERUMPASE_FOREIGN_KEYS + 1), "unknown refusal") == 0);
     HOLD(strcmp(kerumpase_refusal_text(UINT32_MAX), "unknown refusal") == 0);
     for (uint32_t i = 0; i <= KERUMPASE_FOREIGN_KEYS; i++)

@@ -36,7 +36,7 @@
 #define KERUMPASE_VERSION_MAJOR 1
 #define KERUMPASE_VERSION_MINOR 0
 #define KERUMPASE_VERSION_PATCH 0
-#define KERUMPASE_VERSION "1.0.0"
+#define KERUMPASE_VERSION "2.0.0"
 
 #ifdef __cplusplus
 #define KERUMPASE_RESTRICT __restrict
@@ -60,12 +60,12 @@ extern "C" {
 #define KERUMPASE_NESTING_MOST 32        /* JSON objects and arrays within each other */
 
 /* Minimum lengths of the rooms, in elements. Elements past the minimum are never written. */
-#define KERUMPASE_ROWS_ROOM 4096         /* uint64_t, for rows */
+#define KERUMPASE_ROWS_ROOM 6144         /* uint64_t, for rows */
 #define KERUMPASE_NAMES_ROOM 1024        /* uint32_t, for the numbers of files that may go */
 #define KERUMPASE_KEPT_ROOM 256          /* uint32_t, for the numbers of manifests */
 
 /* Numbers per row. */
-#define KERUMPASE_ROW 4
+#define KERUMPASE_ROW 6
 
 /* Bytes of stack that are enough for any call; tools/stack holds the library to it. */
 #define KERUMPASE_STACK 8192
@@ -85,12 +85,12 @@ typedef enum kerumpase_refusal {
     KERUMPASE_QUERY_MALFORMED = 10,
     KERUMPASE_NO_SUCH_COLUMN = 11,       /* a condition on no partition column in force at the version */
     KERUMPASE_NOT_WRITABLE = 12,
-    KERUMPASE_CHECKPOINT_DISAGREES = 13, /* with the other start: files, protocol, id, partition columns */
+    KERUMPASE_CHECKPOINT_DISAGREES = 13, /* with the other start: files and their skips, protocol, id, partition columns */
     KERUMPASE_STATE_MALFORMED = 14,
     KERUMPASE_TOO_MANY_MANIFESTS = 15,   /* over 256 */
-    KERUMPASE_LIST_REFUSED = 16,         /* not given yet, as 17 to 20: for entries that are to come */
+    KERUMPASE_LIST_REFUSED = 16,         /* not given yet, as 17, 19 and 20: for entries that are to come */
     KERUMPASE_OUTPUT_TOO_SHORT = 17,
-    KERUMPASE_VALUE_OUT_OF_RANGE = 18,
+    KERUMPASE_VALUE_OUT_OF_RANGE = 18,   /* a value of a live file is a number out of range, under a number condition */
     KERUMPASE_CONTAINER_MALFORMED = 19,
     KERUMPASE_OTHER_SCHEMA = 20,
     KERUMPASE_FOREIGN_KEYS = 21          /* an add in a version file whose partition keys are not exactly the
@@ -117,7 +117,8 @@ typedef struct kerumpase_counted {
  * A log is read from a start: version file 0, or a checkpoint that is well formed and has a metaData
  * line. The last protocol line and the last metaData line on the way from there are in force. An add
  * in a version file must have exactly the partition columns in force at its line as keys; those in a
- * checkpoint need not.
+ * checkpoint need not. A mergeskip line notes how often merging has skipped a live file and when it may
+ * be tried again; the last one counts, and a later add of the file clears both.
  */
 
 /* The version listed, how many rows are in the room, the protocol in force and whether it may be
@@ -132,21 +133,26 @@ typedef struct kerumpase_listed {
 } kerumpase_listed;
 
 /* A row of the room: the place in the bundle and the length of the line that adds the file, then the
- * file's size and modificationTime as the line states them. */
+ * file's size and modificationTime as the line states them; last how often merging has skipped the file
+ * and from when on it may be tried again (both 0 where no mergeskip line says so). */
 typedef struct kerumpase_row {
     uint64_t place;
     uint64_t length;
     uint64_t size;
     uint64_t time;
+    uint64_t skip_count;
+    uint64_t retry_after;
 } kerumpase_row;
 
 /*
  * The files of the table at a version that a query (JSON, at most 4,096 bytes; `[]` picks all)
  * picks, by the partition columns in force at that version: the first `rows` rows of the room, in
- * the byte order of the decoded paths; the rest of the first 4,096 numbers are 0. kerumpase_path_of
+ * the byte order of the decoded paths; the rest of the first 6,144 numbers are 0. kerumpase_path_of
  * and kerumpase_records_of show more of a row's line.
  * Refusals 1, 10, 2, 3, 4, 5, then 6, 7 or 21 by the first line met (on one line 6, 21, 7), 8, 9, 11,
- * the first that holds; after all but 1 the first 4,096 numbers are 0.
+ * 18, the first that holds; after all but 1 the first 6,144 numbers are 0. 18 is given where a number
+ * condition reads a number beyond -2^63 to 2^63-1 (a minus or none, and at most 20 digits) as the value
+ * of any live file, even one that another condition does not pick.
  */
 kerumpase_listed kerumpase_read_at(const uint8_t *KERUMPASE_RESTRICT bundle, size_t bundle_length,
                                    const uint8_t *KERUMPASE_RESTRICT query, size_t query_length,
@@ -159,12 +165,22 @@ kerumpase_listed kerumpase_read_latest(const uint8_t *KERUMPASE_RESTRICT bundle,
                                        uint64_t *KERUMPASE_RESTRICT rows, size_t rows_length);
 
 /*
+ * The files of the latest version that are due for a second merge at `time` (milliseconds): skipped at
+ * least once, and not to be tried later than then. The answer and the room are those of
+ * kerumpase_read_latest under `[]`, with the rows of these files alone.
+ * Refusals 1, 2, 3, 4, then 6, 7 or 21 as in reading, 8, 9; after all but 1 the first 6,144 numbers are 0.
+ */
+kerumpase_listed kerumpase_read_due(const uint8_t *KERUMPASE_RESTRICT bundle, size_t bundle_length,
+                                    uint64_t time,
+                                    uint64_t *KERUMPASE_RESTRICT rows, size_t rows_length);
+
+/*
  * Which version files may go: those above version 0 and below the marker's checkpoint that were
  * modified more than `retention` before `today` (both in milliseconds), if another start reaches the
- * checkpoint and says the same: files, protocol, id and partition columns. The first `count` numbers
- * of the room are their places in the bundle's contents, from 0 and ascending; the rest of the first
- * 1,024 are 0. The two tables are lent for the work, at least KERUMPASE_ROWS_ROOM each: their first
- * 4,096 numbers are 0 at the end.
+ * checkpoint and says the same: files and their skips, protocol, id and partition columns. The first
+ * `count` numbers of the room are their places in the bundle's contents, from 0 and ascending; the rest
+ * of the first 1,024 are 0. The two tables are lent for the work, at least KERUMPASE_ROWS_ROOM each:
+ * their first 6,144 numbers are 0 at the end.
  * Refusals 1, 2, 3, 4, then 6, 7 or 21 as in reading, 8, 9, 12, 13; after all but 1 the rooms hold
  * zeros. 21 is given on the other start's way, never in the checkpoint.
  */
@@ -229,7 +245,7 @@ kerumpase_records kerumpase_records_of(const uint8_t *line, size_t line_length);
 static inline kerumpase_row kerumpase_row_at(const uint64_t *rows, size_t i)
 {
     const uint64_t *row = rows + KERUMPASE_ROW * i;
-    kerumpase_row r = {row[0], row[1], row[2], row[3]};
+    kerumpase_row r = {row[0], row[1], row[2], row[3], row[4], row[5]};
     return r;
 }
 
@@ -263,9 +279,10 @@ KERUMPASE_ASSERT(sizeof(kerumpase_listed) == 64 && offsetof(kerumpase_listed, re
                  && offsetof(kerumpase_listed, version) == 24 && offsetof(kerumpase_listed, rows) == 32
                  && offsetof(kerumpase_listed, reader) == 40 && offsetof(kerumpase_listed, writer) == 48
                  && offsetof(kerumpase_listed, writable) == 56, "layout of kerumpase_listed");
-KERUMPASE_ASSERT(sizeof(kerumpase_row) == 32 && offsetof(kerumpase_row, place) == 0
+KERUMPASE_ASSERT(sizeof(kerumpase_row) == 48 && offsetof(kerumpase_row, place) == 0
                  && offsetof(kerumpase_row, length) == 8 && offsetof(kerumpase_row, size) == 16
-                 && offsetof(kerumpase_row, time) == 24, "layout of kerumpase_row");
+                 && offsetof(kerumpase_row, time) == 24 && offsetof(kerumpase_row, skip_count) == 32
+                 && offsetof(kerumpase_row, retry_after) == 40, "layout of kerumpase_row");
 KERUMPASE_ASSERT(sizeof(kerumpase_directory_shown) == 16 && offsetof(kerumpase_directory_shown, of_path) == 0
                  && offsetof(kerumpase_directory_shown, length) == 8, "layout of kerumpase_directory_shown");
 KERUMPASE_ASSERT(sizeof(kerumpase_place) == 16 && offsetof(kerumpase_place, start) == 0

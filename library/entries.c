@@ -22,6 +22,8 @@ void *kerumpase_proved_read_at(kerumpase_listed *answer, const uint8_t *bundle, 
                                uint64_t *rows, size_t rows_length);
 void *kerumpase_proved_read_latest(kerumpase_listed *answer, const uint8_t *bundle, size_t bundle_length,
                                    const uint8_t *query, size_t query_length, uint64_t *rows, size_t rows_length);
+void *kerumpase_proved_read_due(kerumpase_listed *answer, const uint8_t *bundle, size_t bundle_length,
+                                uint64_t time, uint64_t *rows, size_t rows_length);
 void *kerumpase_proved_clean(kerumpase_counted *answer, const uint8_t *bundle, size_t bundle_length,
                              uint64_t today, uint64_t retention, uint32_t *names, size_t names_length,
                              uint64_t *table_one, size_t table_one_length,
@@ -68,6 +70,15 @@ ENTRY kerumpase_listed kerumpase_read_latest(const uint8_t *restrict bundle, siz
     kerumpase_listed answer;
     kerumpase_proved_read_latest(&answer, bytes(bundle, bundle_length), bundle_length, bytes(query, query_length),
                                  query_length, room_64(rows, rows_length), rows_length);
+    return answer;
+}
+
+ENTRY kerumpase_listed kerumpase_read_due(const uint8_t *restrict bundle, size_t bundle_length, uint64_t time,
+                                          uint64_t *restrict rows, size_t rows_length)
+{
+    kerumpase_listed answer;
+    kerumpase_proved_read_due(&answer, bytes(bundle, bundle_length), bundle_length, time, room_64(rows, rows_length),
+                              rows_length);
     return answer;
 }
 

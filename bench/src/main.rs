@@ -7,7 +7,7 @@ use std::hint::black_box;
 use std::process::ExitCode;
 use std::time::Duration;
 
-const ROOM: usize = 4_096;
+const ROOM: usize = 6_144;
 const QUERY: &[u8] = b"[]";
 
 /// What a reader answers, beside the rows in the room.

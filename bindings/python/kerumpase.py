@@ -14,12 +14,12 @@ import ctypes.util
 import os
 from typing import List, NamedTuple, Optional
 
-__all__ = ['Refused', 'LibraryMissing', 'Row', 'Listing', 'read_at', 'read_latest', 'clean', 'keep', 'directory', 'path_of', 'records_of',
-           'entry_name', 'refusal_text']
-__version__ = '1.0.0'
+__all__ = ['Refused', 'LibraryMissing', 'Row', 'Listing', 'read_at', 'read_latest', 'read_due', 'clean', 'keep', 'directory', 'path_of',
+           'records_of', 'entry_name', 'refusal_text']
+__version__ = '2.0.0'
 
-ROWS_ROOM, NAMES_ROOM, KEPT_ROOM = 4096, 1024, 256
-ROW, ENTRY, NAME, MOST = 4, 112, 96, 2**64 - 1
+ROWS_ROOM, NAMES_ROOM, KEPT_ROOM = 6144, 1024, 256
+ROW, ENTRY, NAME, MOST = 6, 112, 96, 2**64 - 1
 STATED, MISSING = 2, 1
 FILE = 'libkerumpase.so.' + __version__.split('.', maxsplit=1)[0]
 
@@ -57,11 +57,14 @@ class Refused(Exception):
 
 
 class Row(NamedTuple):
-    """A file of the table: where its add's line stands in the bundle, its size and modificationTime, its raw path and number of records."""
+    """A file of the table: where its add's line stands in the bundle, its size and modificationTime, how often merging has skipped it and from when
+    on it may be tried again (both 0 where no line says so), its raw path and number of records."""
     place: int
     length: int
     size: int
     time: int
+    skip_count: int
+    retry_after: int
     path: bytes
     records: Optional[int]
 
@@ -108,6 +111,7 @@ _ROOM_64 = [ctypes.POINTER(ctypes.c_uint64), ctypes.c_size_t]
 _FUNCTIONS = {
     'read_at': (_Listed, _BYTES + _BYTES + [ctypes.c_uint64] + _ROOM_64),
     'read_latest': (_Listed, _BYTES + _BYTES + _ROOM_64),
+    'read_due': (_Listed, _BYTES + [ctypes.c_uint64] + _ROOM_64),
     'clean': (_Counted, _BYTES + [ctypes.c_uint64, ctypes.c_uint64] + _ROOM_32 + _ROOM_64 + _ROOM_64),
     'keep': (_Counted, _BYTES + _BYTES + _ROOM_32),
     'directory': (_DirectoryShown, _BYTES + _BYTES),
@@ -201,14 +205,15 @@ def _listing(answer, room, bundle):
     _unless_refused(answer.refused, bundle)
     rows = []
     for at in range(0, ROW * answer.rows, ROW):
-        place, length, size, time = room[at:at + ROW]
+        place, length, *stated = room[at:at + ROW]
         line = bundle[place:place + length]
-        rows.append(Row(place, length, size, time, path_of(line), records_of(line)))
+        rows.append(Row(place, length, *stated, path_of(line), records_of(line)))
     return Listing(answer.version, answer.reader, answer.writer, answer.writable, rows)
 
 
 def read_at(bundle, version: int, query=b'[]') -> Listing:
-    """The files of the table at a version that a query picks; `[]` picks all."""
+    """The files of the table at a version that a query picks; `[]` picks all. Where a condition asks for numbers and a value of any live file is one
+    out of range, it is refused (18)."""
     bundle, query, room = _bytes(bundle, 'bundle'), _bytes(query, 'query'), _room_64(ROWS_ROOM)
     answer = _call('read_at', bundle, len(bundle), query, len(query), _number(version, 'version'), room, ROWS_ROOM)
     return _listing(answer, room, bundle)
@@ -218,6 +223,12 @@ def read_latest(bundle, query=b'[]') -> Listing:
     """The same at the latest version that the log reaches."""
     bundle, query, room = _bytes(bundle, 'bundle'), _bytes(query, 'query'), _room_64(ROWS_ROOM)
     return _listing(_call('read_latest', bundle, len(bundle), query, len(query), room, ROWS_ROOM), room, bundle)
+
+
+def read_due(bundle, time: int) -> Listing:
+    """The files of the latest version that are due for a second merge at a time (milliseconds): skipped at least once, and not to be tried later."""
+    bundle, room = _bytes(bundle, 'bundle'), _room_64(ROWS_ROOM)
+    return _listing(_call('read_due', bundle, len(bundle), _number(time, 'time'), room, ROWS_ROOM), room, bundle)
 
 
 def clean(bundle, now: int, retention: int) -> List[int]:

@@ -22,11 +22,11 @@ sys.dont_write_bytecode = True
 
 import kerumpase  # noqa: E402
 from kerumpase import Refused  # noqa: E402
-from layout import META, Log, add, room_sum, sum_of, version  # noqa: E402
+from layout import META, Log, add, condition, meta_data, room_sum, sum_of, version  # noqa: E402
 
 # Of each letter: how many numbers and how many byte strings; the widths of its rooms, whose lengths are its last numbers.
-SHAPES = {'r': (2, 2, [8]), 'l': (1, 2, [8]), 'c': (5, 1, [4, 8, 8]), 'm': (1, 2, [4]), 'd': (0, 2, []), 'p': (0, 1, []), 'n': (0, 1, [])}
-LEAST = {'r': [4096], 'l': [4096], 'c': [1024, 4096, 4096], 'm': [256], 'd': [], 'p': [], 'n': []}
+SHAPES = {'r': (2, 2, [8]), 'l': (1, 2, [8]), 'q': (2, 1, [8]), 'c': (5, 1, [4, 8, 8]), 'm': (1, 2, [4]), 'd': (0, 2, []), 'p': (0, 1, []), 'n': (0, 1, [])}
+LEAST = {'r': [6144], 'l': [6144], 'q': [6144], 'c': [1024, 6144, 6144], 'm': [256], 'd': [], 'p': [], 'n': []}
 
 
 class Request:
@@ -49,8 +49,9 @@ class Request:
 def cases():
     """All but those that are about the program `probe` itself."""
     for path in sorted(CASES.glob('*.request')):
-        if not path.stem.startswith('probe-'):
-            yield path.stem, Request(path.read_bytes()), path.with_suffix('.expected').read_text()
+        expected = path.with_suffix('.expected').read_text()
+        if not path.stem.startswith('probe-') and not expected.endswith('end\n'):
+            yield path.stem, Request(path.read_bytes()), expected
 
 
 def by_rooms(r):
@@ -61,8 +62,9 @@ def by_rooms(r):
     lent = [part for room in rooms for part in (room, len(room))]
     text = [part for s in reversed(r.strings) if r.letter != 'd' for part in (s, len(s))] or [part for s in r.strings for part in (s, len(s))]
     call, sums = kerumpase._call, lambda: ' '.join(str(sum_of(bytes(room))) for room in rooms)
-    if r.letter in 'rl':
-        a = call('read_at', *text, r.numbers[0], *lent) if r.letter == 'r' else call('read_latest', *text, *lent)
+    if r.letter in 'rlq':
+        name = {'r': 'read_at', 'l': 'read_latest', 'q': 'read_due'}[r.letter]
+        a = call(name, *text, *r.numbers[:-1], *lent)
         said = f'{a.refused.number} {a.refused.entry} {a.refused.line} {a.version} {a.rows} {a.reader} {a.writer}'
         return f'{said} {"yes" if a.writable else "no"} {sums()}\n'
     if r.letter == 'c':
@@ -75,26 +77,27 @@ def by_rooms(r):
 
 
 def flat(rows):
-    return [number for row in rows for number in row[:4]]
+    return [number for row in rows for number in row[:6]]
 
 
 def by_functions(r):
     """The same by the functions that people call; their rooms have the least length."""
-    if r.letter in 'rl':
-        query, bundle = r.strings
+    if r.letter in 'rlq':
+        *query, bundle = r.strings
+        reads = {'r': kerumpase.read_at, 'l': kerumpase.read_latest, 'q': kerumpase.read_due}[r.letter]
         try:
-            a = kerumpase.read_at(bundle, r.numbers[0], query) if r.letter == 'r' else kerumpase.read_latest(bundle, query)
+            a = reads(bundle, *r.numbers[:-1], *query)
         except Refused as x:
-            return f'{x.number} {x.entry} {x.line} 0 0 0 0 no {room_sum(r.lengths[0], 4096, 8)}\n'
+            return f'{x.number} {x.entry} {x.line} 0 0 0 0 no {room_sum(r.lengths[0], 6144, 8)}\n'
         writable = 'yes' if a.writable else 'no'
-        return f'0 0 0 {a.version} {len(a.rows)} {a.reader} {a.writer} {writable} {room_sum(r.lengths[0], 4096, 8, flat(a.rows))}\n'
+        return f'0 0 0 {a.version} {len(a.rows)} {a.reader} {a.writer} {writable} {room_sum(r.lengths[0], 6144, 8, flat(a.rows))}\n'
     if r.letter == 'c':
         number, entry, line, named = 0, 0, 0, []
         try:
             named = kerumpase.clean(r.strings[0], *r.numbers[:2])
         except Refused as x:
             number, entry, line = x.number, x.entry, x.line
-        sums = [room_sum(r.lengths[0], 1024, 4, named)] + [room_sum(length, 4096, 8) for length in r.lengths[1:]]
+        sums = [room_sum(r.lengths[0], 1024, 4, named)] + [room_sum(length, 6144, 8) for length in r.lengths[1:]]
         return f'{number} {entry} {line} {len(named)} {sums[0]} {sums[1]} {sums[2]}\n'
     if r.letter == 'm':
         number, kept = 0, []
@@ -138,9 +141,19 @@ class Functions(unittest.TestCase):
         listing = kerumpase.read_latest(BUNDLE)
         self.assertEqual((listing.version, listing.reader, listing.writer, listing.writable, len(listing.rows)), (1, 1, 1, True, 2))
         row = listing.rows[0]
-        self.assertEqual((row.size, row.time, row.path, row.records), (5, 6, b'a\\u002fb', 9))
+        self.assertEqual((row.size, row.time, row.path, row.records, row.skip_count, row.retry_after), (5, 6, b'a\\u002fb', 9, 0, 0))
         self.assertIsNone(listing.rows[1].records)
         self.assertEqual(BUNDLE[row.place:row.place + row.length], LOG.files[version(1)].split('\n')[0].encode())
+
+    def test_what_is_due(self):
+        noted = '{"mergeskip":{"path":"c"}}\n{"mergeskip":{"path":"a/b","skipCount":3,"retryAfter":100}}\n'
+        bundle = Log({**LOG.files, version(2): noted}).bundle()
+        self.assertEqual([(row.skip_count, row.retry_after) for row in kerumpase.read_latest(bundle).rows], [(3, 100), (1, 0)])
+        self.assertEqual([row.path for row in kerumpase.read_due(bundle, 99).rows], [b'c'])
+        due = kerumpase.read_due(bundle, 100)
+        self.assertEqual((due.version, [row.path for row in due.rows]), (2, [b'a\\u002fb', b'c']))
+        self.assertEqual(kerumpase.read_due(bundle, 2**64 - 1), due)
+        self.assertEqual(kerumpase.read_due(BUNDLE, 2**64 - 1).rows, [])
 
     def test_a_refusal_says_where(self):
         with self.assertRaises(Refused) as caught:
@@ -152,6 +165,14 @@ class Functions(unittest.TestCase):
         with self.assertRaises(Refused) as caught:
             kerumpase.read_latest(Log({version(1): add('a') + add('b', values='{"x":null}')}).bundle())
         self.assertEqual(str(caught.exception), f'refused 21: foreign partition keys, in {version(1)}, line 2')
+
+    def test_a_number_out_of_range(self):
+        log = Log({version(1): add('a', values='{"year":"9223372036854775808"}') + add('b', values='{"year":"1"}')}, zero=meta_data(['year']))
+        with self.assertRaises(Refused) as caught:
+            kerumpase.read_latest(log.bundle(), '[{}]'.format(condition('number', 'eq', '1')).encode())
+        self.assertEqual(str(caught.exception), 'refused 18: file value out of range')
+        rows = kerumpase.read_latest(log.bundle(), '[{}]'.format(condition('text', 'eq', '1')).encode()).rows
+        self.assertEqual([row.path for row in rows], [b'b'])
 
     def test_what_gives_its_bytes(self):
         expected = kerumpase.read_latest(BUNDLE)
@@ -168,7 +189,8 @@ class Functions(unittest.TestCase):
         self.assertEqual(bundle, BUNDLE)
 
     def test_empty(self):
-        for call in (lambda: kerumpase.read_latest(b''), lambda: kerumpase.read_at(b'', 0), lambda: kerumpase.clean(b'', 0, 0)):
+        for call in (lambda: kerumpase.read_latest(b''), lambda: kerumpase.read_at(b'', 0), lambda: kerumpase.read_due(b'', 0),
+                     lambda: kerumpase.clean(b'', 0, 0)):
             with self.assertRaises(Refused) as caught:
                 call()
             self.assertEqual(caught.exception.number, 2)
@@ -186,9 +208,11 @@ class Functions(unittest.TestCase):
     def test_wrong_arguments(self):
         for call in (lambda: kerumpase.read_latest('text'), lambda: kerumpase.read_latest(None), lambda: kerumpase.read_latest(5),
                      lambda: kerumpase.read_latest(BUNDLE, '[]'), lambda: kerumpase.read_at(BUNDLE, '1'), lambda: kerumpase.read_at(BUNDLE, 1.0),
-                     lambda: kerumpase.read_at(BUNDLE, True), lambda: kerumpase.clean(BUNDLE, None, 0), lambda: kerumpase.path_of([1])):
+                     lambda: kerumpase.read_at(BUNDLE, True), lambda: kerumpase.read_due(BUNDLE, 1.0), lambda: kerumpase.read_due(BUNDLE, None),
+                     lambda: kerumpase.clean(BUNDLE, None, 0), lambda: kerumpase.path_of([1])):
             self.assertRaises(TypeError, call)
-        for call in (lambda: kerumpase.read_at(BUNDLE, -1), lambda: kerumpase.read_at(BUNDLE, 2**64), lambda: kerumpase.clean(BUNDLE, 0, 2**64)):
+        for call in (lambda: kerumpase.read_at(BUNDLE, -1), lambda: kerumpase.read_at(BUNDLE, 2**64), lambda: kerumpase.read_due(BUNDLE, 2**64),
+                     lambda: kerumpase.clean(BUNDLE, 0, 2**64)):
             self.assertRaises(ValueError, call)
 
     def test_names_of_entries(self):

@@ -34,7 +34,7 @@ impl Ask {
                 return usage("--older-than is missing: how old a file must be to go, as in --older-than 30d")
             }
         };
-        let now = words.value("--now")?.map_or_else(now, |text| time(text, "the time of --now"))?;
+        let now = words.value("--now")?.map_or_else(|| now("--now"), |text| time(text, "the time of --now"))?;
         Ok(Ask { now, retention })
     }
 }

@@ -11,11 +11,11 @@ const DAY: u64 = 86_400_000;
 /// The first millisecond after the year 9999: times from there on are shown as numbers.
 const DATES_END: u64 = 253_402_300_800_000;
 
-/// The machine's clock.
-pub fn now() -> Result<u64, Fail> {
+/// The machine's clock; the option is the one that stands for it.
+pub fn now(option: &str) -> Result<u64, Fail> {
     match SystemTime::now().duration_since(UNIX_EPOCH) {
         Ok(since) => Ok(since.as_millis().min(u64::MAX.into()) as u64),
-        Err(_) => system("the machine's clock stands before 1970; say the time by --now"),
+        Err(_) => system(format!("the machine's clock stands before 1970; say the time by {option}")),
     }
 }
 

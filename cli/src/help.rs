@@ -10,6 +10,7 @@ const OVERVIEW: &str = "\
 kerumpase: reads the transaction log of an IndexTables table, by a proved library
 
   kerumpase files TABLE       the files that make up the table, at a version, picked by conditions
+  kerumpase due TABLE         the files that are due for a second merge, now or at a time
   kerumpase info TABLE        version, files, bytes, protocol, and what the log holds
   kerumpase versions TABLE    which versions can be read, and which not
   kerumpase check TABLE...    reads every version, compares the checkpoint, says what is wrong
@@ -35,7 +36,7 @@ Examples:
   kerumpase help clean
 ";
 
-const TEXTS: [(&str, &str); 11] = [
+const TEXTS: [(&str, &str); 12] = [
     (
         "files",
         "\
@@ -54,8 +55,10 @@ modificationTime, its number of records or -.
   --query JSON         the query as the rules have it, instead of the conditions above
   --json               one JSON object a line
 
-At most 8 conditions, one to a column; a file has to meet all. A missing, null or unreadable value
-meets none, so a condition on a renamed column picks no file from before the renaming.
+At most 8 conditions, one to a column; a file has to meet all. A missing or null value, or one that
+is not a number where numbers are compared, meets none, so a condition on a renamed column picks no
+file from before the renaming. Where --number meets a number that is too large or too small to be
+compared, in any file of the table, it is refused (18): ask for that column by --text.
 
 Examples:
   kerumpase files examples/school
@@ -63,6 +66,27 @@ Examples:
   kerumpase files examples/school --at 1 --text 'subject = art' --number 'year >= 2024'
   kerumpase files examples/renamed --text 'course = art'
   kerumpase files examples/school --json
+",
+    ),
+    (
+        "due",
+        "\
+kerumpase due TABLE [--at TIME] [--json]
+
+The files of the latest version that are due for a second merge: merging skipped them at least
+once, and the time from which on they may be tried again is not later than TIME. The first line
+gives version, number of files and TIME; each other line a file, in the byte order of the paths:
+its path as the log writes it, its size, how often it was skipped, and since when it is due (at
+once, where the log names no time). What the log notes of a file ends when the file is added anew.
+
+  --at TIME   instead of the machine's clock: 2024-04-03, 2024-04-03T08:00:00Z (UTC) or
+              milliseconds since 1970
+  --json      one JSON object a line
+
+Examples:
+  kerumpase due examples/skipped
+  kerumpase due examples/skipped --at 2024-04-03
+  kerumpase due examples/skipped --at 1712102399999 --json
 ",
     ),
     (
@@ -125,9 +149,9 @@ Examples:
 kerumpase clean TABLE --older-than SPAN [--now TIME] [--apply] [--time NAME=TIME]... [--json] [--progress]
 
 Which version files may go: those above version 0 and below the checkpoint that the marker names,
-older than SPAN, if another start reaches that checkpoint and says the same: files, protocol, id
-and partition columns. A start is version file 0, or a checkpoint that is well formed and has a
-metaData line. It is a dry run and removes nothing, unless --apply is given.
+older than SPAN, if another start reaches that checkpoint and says the same: files and what is
+noted of skipped ones, protocol, id and partition columns. A start is version file 0, or a
+checkpoint that is well formed and has a metaData line. It is a dry run and removes nothing, unless --apply is given.
 
   --older-than SPAN  a number and its unit: ms, s, m, h, d, w
   --now TIME         instead of the machine's clock: 2024-06-01, 2024-06-01T08:00:00Z (UTC) or
@@ -175,7 +199,7 @@ kerumpase report TABLE [--older-than SPAN] [--now TIME] [--time NAME=TIME]... [-
 
 One page in HTML for the help desk, with nothing fetched and no script: which versions can be read
 and which not and why, gaps, checkpoints and marker, live files and bytes over the versions as a
-picture, and what the cleaner would name and when.
+picture, what the cleaner would name and when, and which files wait for a second merge.
 
   --older-than SPAN  how old a file must be for the cleaner; 30d if it is not given
   --now TIME         instead of the machine's clock

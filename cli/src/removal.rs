@@ -26,18 +26,23 @@ pub fn may_apply(table: &Table) -> Result<(), Fail> {
     }
 }
 
+/// What is told of a file: its path, its size, its time, its records; how often it was skipped, and from when on it may be tried again.
+type FileTold = (Vec<u8>, u64, u64, Option<u64>, (u64, u64));
+
 /// What the latest version answers: all that is told of its files.
 #[derive(Debug, PartialEq, Eq)]
 struct Answer {
     version: u64,
     protocol: (u64, u64, bool),
-    files: Vec<(Vec<u8>, u64, u64, Option<u64>)>,
+    files: Vec<FileTold>,
 }
 
 impl Answer {
     fn of(listing: &kerumpase::Listing) -> Answer {
-        let files =
-            listing.files().map(|file| (file.path.to_vec(), file.size, file.modification_time, file.num_records));
+        let files = listing.files().map(|file| {
+            let skipped = (file.skip_count, file.retry_after);
+            (file.path.to_vec(), file.size, file.modification_time, file.num_records, skipped)
+        });
         Answer {
             version: listing.version,
             protocol: (listing.reader, listing.writer, listing.writable),

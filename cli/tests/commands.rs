@@ -31,6 +31,16 @@ fn wrong_words_are_said() {
         (&["files", "examples/school", "--json", "--json"], "--json is given twice"),
         (&["files", "examples/school", "--text", "year"], "a condition is a column"),
         (&["files", "examples/school", "--query", "[]", "--text", "year=1"], "--query stands alone"),
+        (&["due"], "TABLE is missing; see kerumpase due --help"),
+        (&["due", "a", "b"], "b is one word too many"),
+        (&["due", "examples/school", "--at"], "--at wants a value"),
+        (&["due", "examples/school", "--at", "1", "--at", "2"], "--at is given twice"),
+        (&["due", "examples/school", "--at", "tomorrow"], "the time of --at is 2024-03-01"),
+        (&["due", "examples/school", "--at", "0x10"], "\"0x10\" is not"),
+        (&["due", "examples/school", "--at", "-1"], "\"-1\" is not"),
+        (&["due", "examples/school", "--at", "2024-02-30"], "\"2024-02-30\" is not"),
+        (&["due", "examples/school", "--at", "18446744073709551616"], "18446744073709551616 is more"),
+        (&["due", "examples/school", "--text", "year=1"], "there is no option --text; see kerumpase due --help"),
         (&["check"], "TABLE is missing"),
         (&["check", "examples/school", "--jobs", "0"], "--jobs is 1 to 256"),
         (&["check", "examples/school", "--jobs", "257"], "--jobs is 1 to 256"),
@@ -82,7 +92,7 @@ fn what_cannot_be_read_is_said() {
         (folder.path("linked"), "00000000000000000000.json cannot be read: "),
         ("examples/school/listing/x".to_string(), "cannot be read: "),
     ] {
-        for command in ["files", "info", "versions", "contents", "report", "pack"] {
+        for command in ["files", "due", "info", "versions", "contents", "report", "pack"] {
             fails(kerumpase(&[command, &table]), line);
         }
         fails(kerumpase(&["clean", &table, "--older-than", "30d"]), line);
@@ -142,6 +152,7 @@ fn other_names_are_ignored_and_packed_only_if_asked_for() {
 fn outputs_that_cannot_be_written_are_said() {
     for command in [
         "files examples/school",
+        "due examples/skipped",
         "info examples/school",
         "versions examples/school",
         "check examples/school",
@@ -203,7 +214,14 @@ fn a_bundle_a_folder_and_standard_input_answer_alike() {
     let folder = Folder::new("alike");
     let bundle = folder.path("bundle");
     assert_eq!(shell(&format!("kerumpase pack examples/cleaner >{bundle}")).status, Some(0));
-    for words in ["files", "versions", "contents", "clean --older-than 30d --now 2024-06-01", "check --json"] {
+    for words in [
+        "files",
+        "due --at 2024-06-01",
+        "versions",
+        "contents",
+        "clean --older-than 30d --now 2024-06-01",
+        "check --json",
+    ] {
         let of_folder = shell(&format!("kerumpase {words} examples/cleaner"));
         let named = of_folder.out.replace("examples/cleaner", &bundle);
         assert_eq!(shell(&format!("kerumpase {words} {bundle}")).out, named, "{words}");
@@ -297,10 +315,15 @@ fn refusals_say_what_they_mean_and_what_to_do() {
         ("files examples/renamed --text 'subject = art'", 11),
         ("files examples/renamed --at 1 --text 'course = art'", 11),
         ("files examples/school --number 'year = x'", 10),
+        ("files examples/pupils --number 'pupil = 98765432109876543210'", 10),
+        ("files examples/pupils --number 'pupil = 1'", 18),
+        ("files examples/pupils --at 1 --number 'pupil = 1'", 18),
+        ("files examples/pupils --text 'no = 1' --number 'pupil = 1'", 11),
         ("files examples/school --query '{}'", 10),
         ("files examples/school --at 9", 5),
         ("files examples/README.md", 2),
         ("manifests examples/school/listing", 14),
+        ("due examples/README.md", 2),
         ("clean examples/README.md --older-than 1d", 2),
         ("contents examples/README.md", 2),
         ("info examples/README.md", 2),
@@ -310,6 +333,66 @@ fn refusals_say_what_they_mean_and_what_to_do() {
         let said = shell(&format!("kerumpase {words}"));
         assert_eq!(said.status, Some(1), "{words}: {said:?}");
         assert!(number == 0 || said.out == format!("refused {number} entry 0 line 0\n"), "{words}: {said:?}");
+    }
+}
+
+/// The example's file `due` was worked out by hand: the times, and what is due at each.
+#[test]
+fn what_is_due_is_told_in_the_order_of_the_paths() {
+    let worked_out = std::fs::read_to_string(format!("{TOP}/examples/skipped/due")).unwrap();
+    let mut times = 0;
+    for part in worked_out.split("at ").skip(1) {
+        let (head, files) = part.split_once('\n').unwrap();
+        let head: Vec<&str> = head.split(' ').collect();
+        let (at, version, count) = (head[0], head[2], head[4]);
+        let said = kerumpase(&["due", "examples/skipped", "--at", at, "--json"]);
+        assert_eq!((said.status, said.err.as_str()), (Some(0), ""), "{at}");
+        let mut lines = said.out.lines();
+        assert_eq!(lines.next(), Some(format!("{{\"version\":{version},\"due\":{count},\"at\":{at}}}").as_str()));
+        let told: String = lines
+            .map(|line| {
+                let number = |name| common::member(line, name).to_string();
+                format!("\"{}\" {} {}\n", number("path"), number("skipCount"), number("retryAfter"))
+            })
+            .collect();
+        assert_eq!(told, files, "at {at}");
+        times += 1;
+    }
+    assert_eq!(times, 2);
+    // A date is the first millisecond of its day, and zeros in front change nothing.
+    let said = kerumpase(&["due", "examples/skipped", "--at", "2024-04-03"]);
+    assert_eq!(said, kerumpase(&["due", "examples/skipped", "--at", "01712102400000"]));
+    assert_eq!(
+        said.out,
+        "version 3 due 2 at 2024-04-03T00:00:00Z\n\"year=2024/art-1.split\" 81920 skipped 1 due at once\n\
+         \"year=2024/music-1.split\" 20480 skipped 2 due since 2024-04-03T00:00:00Z\n"
+    );
+    assert_eq!(kerumpase(&["due", "examples/skipped", "--at", "0"]).out.lines().count(), 2);
+    let most = kerumpase(&["due", "examples/skipped", "--at", "18446744073709551615"]);
+    assert!(most.out.starts_with("version 3 due 2 at 18446744073709551615ms\n"), "{most:?}");
+    // Without a time it is the machine's clock, which is beyond the example's.
+    let now = kerumpase(&["due", "examples/skipped"]);
+    assert_eq!(now.out.split_once('\n').unwrap().1, said.out.split_once('\n').unwrap().1);
+}
+
+#[test]
+fn what_is_due_is_refused_as_a_reading_is() {
+    for table in ["examples/refused", "examples/foreign"] {
+        let (due, files) = (kerumpase(&["due", table]), kerumpase(&["files", table]));
+        assert_eq!((due.status, &due.out, &due.err), (Some(1), &files.out, &files.err), "{table}");
+        assert_eq!(kerumpase(&["due", table, "--json"]), kerumpase(&["files", table, "--json"]), "{table}");
+    }
+    // A table that may not be written is listed.
+    assert!(kerumpase(&["due", "examples/gap", "--at", "0"])
+        .out
+        .starts_with("version 1 due 0 at 1970-01-01T00:00:00Z\n"));
+    // A malformed mergeskip is a malformed line.
+    let folder = Folder::new("mergeskip");
+    folder.write("_transaction_log/00000000000000000000.json", br#"{"metaData":{"id":"t","partitionColumns":[]}}"#);
+    for lines in ["{\"mergeskip\":{}}", "{\"mergeskip\":{\"path\":\"a\",\"skipCount\":null}}", "{\"mergeskip\":null}"] {
+        folder.write("_transaction_log/00000000000000000001.json", lines.as_bytes());
+        let said = kerumpase(&["due", folder.0.to_str().unwrap()]);
+        assert_eq!((said.status, said.out.as_str()), (Some(1), "refused 6 entry 1 line 1\n"), "{lines}");
     }
 }
 

@@ -7,8 +7,20 @@ use std::process::Command;
 
 use common::{kerumpase, Folder, Said, KERUMPASE, TOP};
 
-const COMMANDS: [&str; 11] =
-    ["files", "info", "versions", "check", "clean", "manifests", "report", "pack", "unpack", "contents", "explain"];
+const COMMANDS: [&str; 12] = [
+    "files",
+    "due",
+    "info",
+    "versions",
+    "check",
+    "clean",
+    "manifests",
+    "report",
+    "pack",
+    "unpack",
+    "contents",
+    "explain",
+];
 
 fn examples(text: &str) -> Vec<String> {
     let lines = text.lines().skip_while(|line| *line != "Examples:").skip(1);

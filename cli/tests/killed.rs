@@ -109,7 +109,17 @@ fn checkpoint_at_the_end(table: &str) -> bool {
     let last = |key: &[u8]| *lines.iter().rev().find(|line| line.starts_with(key)).expect("version 0 has one");
     let (protocol, meta_data) = (last(b"{\"protocol\":"), last(b"{\"metaData\":"));
     let rows = listing.rows.iter().map(|row| &packed[row.place..row.place + row.length]);
-    let text = [protocol, meta_data].into_iter().chain(rows).collect::<Vec<_>>().join(&b'\n');
+    // Behind its add, what is noted of a skipped file.
+    let skips: Vec<Vec<u8>> = listing
+        .files()
+        .filter(|file| (file.skip_count, file.retry_after) != (0, 0))
+        .map(|file| {
+            let numbers = format!("\",\"skipCount\":{},\"retryAfter\":{}}}}}", file.skip_count, file.retry_after);
+            [b"{\"mergeskip\":{\"path\":\"", file.path, numbers.as_bytes()].concat()
+        })
+        .collect();
+    let skips = skips.iter().map(Vec::as_slice);
+    let text = [protocol, meta_data].into_iter().chain(rows).chain(skips).collect::<Vec<_>>().join(&b'\n');
     let log = Path::new(table).join("_transaction_log");
     std::fs::write(log.join(format!("{:020}.checkpoint.json", listing.version)), text).expect("it can be written");
     std::fs::write(log.join("_last_checkpoint"), format!("{{\"version\":{}}}", listing.version))
@@ -233,7 +243,7 @@ fn a_writer_may_be_at_work() {
                         break;
                     }
                     let new = log.join("new");
-                    std::fs::write(&new, "{\"mergeskip\":{}}\n").expect("it can be written");
+                    std::fs::write(&new, "{\"mergeskip\":{\"path\":\"none\"}}\n").expect("it can be written");
                     std::fs::rename(&new, log.join(format!("{version:020}.json"))).expect("it can be renamed");
                     std::thread::sleep(Duration::from_millis(2));
                 }

@@ -45,6 +45,7 @@ fn every_section_is_there_and_every_table_has_heads() {
         ("gaps", "Gaps"),
         ("checkpoints", "Checkpoints and marker"),
         ("cleaning", "Cleaning"),
+        ("waiting", "Files waiting for a second merge"),
         ("files", "Files of the latest version"),
         ("meaning", "What the words mean"),
     ] {
@@ -70,7 +71,7 @@ fn every_section_is_there_and_every_table_has_heads() {
 
 #[test]
 fn nothing_is_fetched_and_no_script_runs() {
-    for table in ["examples/cleaner", "examples/gap", "examples/refused", "examples/school"] {
+    for table in ["examples/cleaner", "examples/gap", "examples/refused", "examples/school", "examples/skipped"] {
         let page = report(table);
         let tags = tags(&page);
         for name in ["script", "link", "img", "iframe", "object", "embed", "form", "base"] {
@@ -142,6 +143,12 @@ fn it_says_what_the_other_commands_say() {
         } else {
             assert!(page.contains("class=\"verdict bad\""));
         }
+        let due = kerumpase(&["due", table, "--at", "2024-05-20", "--json"]);
+        if due.status == Some(0) {
+            let count = common::member(&due.out, "due").parse().unwrap();
+            assert_eq!(page.matches("<span class=\"tag note\">due</span>").count(), count, "{table}");
+            assert!(page.contains("are due</strong>") || count < 2, "{table}");
+        }
         let named = kerumpase(&["clean", table, "--older-than", "3d", "--now", "2024-05-20", "--json"]);
         if named.status == Some(0) {
             assert_eq!(page.matches("may go now").count(), named.out.matches("\"file\"").count(), "{table}");
@@ -164,4 +171,31 @@ fn long_tables_are_folded() {
     assert!(page.contains("<details><summary>Show all 301 versions</summary>"));
     assert!(page.contains("<details><summary>Show all 300 files</summary>"));
     assert!(page.contains("version 300: 300 live files"));
+}
+
+#[test]
+fn files_that_wait_for_a_second_merge() {
+    let said = kerumpase(&["report", "examples/skipped", "--now", "1712102399999"]);
+    assert_eq!(said.status, Some(0), "{said:?}");
+    tags(&said.out);
+    let section = said.out.split("<h2 id=\"waiting\">").nth(1).unwrap().split("</section>").next().unwrap();
+    assert!(
+        section.contains("Merging skipped 2 files that are still in the table; on 2024-04-02T23:59:59.999Z"),
+        "{section}"
+    );
+    assert!(section.contains("<strong>1 is due</strong>"), "{section}");
+    let number = |number: &str| format!("<td class=\"number\">{number}</td>");
+    let row = |path: &str, size: &str, skips: &str, from: &str, (class, now): (&str, &str)| {
+        let cells = number(size) + &number(skips);
+        format!("<code><bdi>{path}</bdi></code></th>{cells}<td>{from}</td><td><span class=\"tag {class}\">{now}</span></td></tr>")
+    };
+    for row in [
+        row("year=2024/art-1.split", "81,920", "1", "at once", ("note", "due")),
+        row("year=2024/music-1.split", "20,480", "2", "<time>2024-04-03T00:00:00Z</time>", ("good", "waits")),
+    ] {
+        assert!(section.contains(&row), "{row}: {section}");
+    }
+    assert!(report("examples/cleaner").contains("<p>None: merging skipped no file of the latest version.</p>"));
+    let refused = kerumpase(&["report", "examples/refused"]).out;
+    assert!(refused.contains("Files waiting for a second merge</h2>\n<p>The latest version cannot be read.</p>"));
 }

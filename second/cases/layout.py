@@ -6,7 +6,7 @@ the sums of rooms are worked out, from the layouts that the rules lay down.
 
 import struct
 
-TABLE, NAMES, MANIFESTS = 4096, 1024, 256
+TABLE, NAMES, MANIFESTS = 6144, 1024, 256     # a table has 1,024 rows of six numbers
 MARKER = "_last_checkpoint"
 CHECKPOINT = ".checkpoint.json"
 
@@ -28,6 +28,12 @@ def add(path, size=1, time=7, values="{}", more=""):
 
 def remove(path):
     return '{"remove":{"path":"%s"}}\n' % path
+
+
+def mergeskip(path, count=None, retry=None, more=""):
+    """A mergeskip line; a number that is not given is not written."""
+    fields = "".join(',"%s":%s' % (name, value) for name, value in [("skipCount", count), ("retryAfter", retry)] if value is not None)
+    return '{"mergeskip":{"path":"%s"%s%s}}\n' % (path, fields, more)
 
 
 def protocol(reader, writer, more=""):
@@ -87,11 +93,11 @@ class Log:
             data += name.encode().ljust(96, b"\0") + struct.pack("<IIQ", self.start(name), len(body), modified)
         return data + b"".join(self.bodies())
 
-    def row(self, name, line, size, time):
-        """The four numbers of a row: where this line stands, how long it is, size and time."""
+    def row(self, name, line, size, time, skips=0, retry=0):
+        """The six numbers of a row: where this line stands, how long it is, size, time, skip count and retry time."""
         lines = self.files[name].encode().split(b"\n")
         position = self.start(name) + sum(len(text) + 1 for text in lines[:line - 1])
-        return [position, len(lines[line - 1]), size, time]
+        return [position, len(lines[line - 1]), size, time, skips, retry]
 
 
 # Requests
@@ -115,6 +121,10 @@ def read(asked, log, query="[]", room=TABLE):
 
 def latest(log, query="[]", room=TABLE):
     return b"l" + number(room) + string(query) + string(bundle_of(log))
+
+
+def due(log, time, room=TABLE):
+    return b"q" + number(time) + number(room) + string(bundle_of(log))
 
 
 def manifests(query, state, room=MANIFESTS):

@@ -3,11 +3,12 @@
 use std::collections::{BTreeMap, BTreeSet};
 use std::ops::Range;
 
-use crate::fields::{keys_differ, missing_or_null, need};
+use crate::fields::{find, keys_differ, missing_or_null, need};
 use crate::json::{self, Member, Text, Value};
 
 const LONGEST_PATH: usize = 512;
 const HIGHEST_PROTOCOL: u64 = 2_147_483_647;
+const HIGHEST_SKIP_COUNT: u64 = 2_147_483_647;
 const MOST_COLUMNS: usize = 16;
 
 pub type PartitionValues = BTreeMap<Vec<u8>, Option<Vec<u8>>>;
@@ -21,6 +22,23 @@ pub struct Add {
     pub modification_time: u64,
     pub records: Option<u64>,
     pub values: PartitionValues,
+}
+
+/// How often a merge passed a file over, and from when on it may be tried again.
+#[derive(Clone, Copy, Debug, PartialEq, Eq)]
+pub struct Skip {
+    pub count: u64,
+    pub retry_after: u64,
+}
+
+impl Skip {
+    /// What a file has of which no line said anything since its add.
+    pub const NONE: Skip = Skip { count: 0, retry_after: 0 };
+
+    /// May the file be tried again at this time?
+    pub fn is_due_at(self, time: u64) -> bool {
+        self.count > 0 && self.retry_after <= time
+    }
 }
 
 #[derive(Clone, Debug, PartialEq, Eq)]
@@ -50,7 +68,7 @@ pub enum Action {
     MetaData(MetaData),
     Add(Add),
     Remove(Vec<u8>),
-    MergeSkip,
+    MergeSkip(Vec<u8>, Skip),
     Other,
 }
 
@@ -70,7 +88,7 @@ pub fn read(line: &[u8]) -> Option<Action> {
         b"metaData" => meta_data(value.as_object()?).map(Action::MetaData),
         b"add" => add(value.as_object()?).map(Action::Add),
         b"remove" => Some(Action::Remove(path(value.as_object()?)?.decoded.clone())),
-        b"mergeskip" => Some(Action::MergeSkip),
+        b"mergeskip" => merge_skip(value.as_object()?),
         _ => Some(Action::Other),
     }
 }
@@ -97,6 +115,20 @@ fn add(members: &[Member]) -> Option<Add> {
         records,
         values: partition_values(need(members, "partitionValues")?.as_object()?)?,
     })
+}
+
+/// A skip count that is missing is 1; a retry time that is missing or null is 0, at once.
+fn merge_skip(members: &[Member]) -> Option<Action> {
+    let path = path(members)?.decoded.clone();
+    let count = match find(members, "skipCount").ok()? {
+        Some(count) => count.as_whole_number().filter(|&count| count <= HIGHEST_SKIP_COUNT)?,
+        None => 1,
+    };
+    let retry_after = match missing_or_null(members, "retryAfter")? {
+        Some(time) => time.as_whole_number()?,
+        None => 0,
+    };
+    Some(Action::MergeSkip(path, Skip { count, retry_after }))
 }
 
 fn partition_values(members: &[Member]) -> Option<PartitionValues> {

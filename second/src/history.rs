@@ -2,14 +2,15 @@
 
 use std::collections::{BTreeMap, BTreeSet};
 
-use crate::actions::{self, Action, Add, MetaData, PartitionValues, Protocol};
+use crate::actions::{self, Action, Add, MetaData, PartitionValues, Protocol, Skip};
 use crate::lines;
 use crate::log::{Log, Start};
 use crate::refusal::{foreign_keys, malformed, too_many_live, Refusal};
 
 const MOST_LIVE: usize = 1_024;
 
-/// A live file: where its add's line stands in the bundle, and its facts.
+/// A live file: where its add's line stands in the bundle, its facts, and what mergeskip lines said
+/// of it since.
 #[derive(Clone, Debug)]
 pub struct LiveFile {
     pub position: u64,
@@ -18,6 +19,7 @@ pub struct LiveFile {
     pub modification_time: u64,
     pub records: Option<u64>,
     pub values: PartitionValues,
+    pub skip: Skip,
 }
 
 impl LiveFile {
@@ -26,6 +28,7 @@ impl LiveFile {
             && self.modification_time == other.modification_time
             && self.records == other.records
             && self.values == other.values
+            && self.skip == other.skip
     }
 }
 
@@ -95,13 +98,19 @@ impl State {
                         modification_time: add.modification_time,
                         records: add.records,
                         values: add.values,
+                        skip: Skip::NONE,
                     };
                     self.live.insert(add.path, live_file);
                 }
                 Action::Remove(path) => {
                     self.live.remove(&path);
                 }
-                Action::MergeSkip | Action::Other => (),
+                Action::MergeSkip(path, skip) => {
+                    if let Some(live_file) = self.live.get_mut(&path) {
+                        live_file.skip = skip;
+                    }
+                }
+                Action::Other => (),
             }
             if self.live.len() > MOST_LIVE {
                 return Err(too_many_live(entry, line.number));

@@ -1,7 +1,7 @@
 //! The listing program: the latest version of a bundle under the query `[]`.
 
 use crate::actions::{path_of, records_of, Records};
-use crate::reading::{self, Ask, TABLE};
+use crate::reading::{self, Ask, ROW, TABLE};
 use crate::refusal::{Refusal, BUNDLE_MALFORMED};
 
 pub const MOST_BYTES: usize = 65_536;
@@ -28,7 +28,7 @@ fn rows(bundle: &[u8]) -> Result<Vec<u8>, Refusal> {
         yes_or_no(answer.writable)
     )
     .into_bytes();
-    for row in room.chunks_exact(4).take(answer.rows as usize) {
+    for row in room.chunks_exact(ROW).take(answer.rows as usize) {
         let line = &bundle[row[0] as usize..(row[0] + row[1]) as usize];
         let records = match records_of(line) {
             Records::Number(number) => number.to_string(),

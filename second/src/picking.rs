@@ -11,6 +11,14 @@ pub fn is_picked(file: &LiveFile, conditions: &[Condition]) -> bool {
     })
 }
 
+/// Some condition reads a number of this file that is out of range, whether the others are met or not.
+pub fn is_out_of_range(file: &LiveFile, conditions: &[Condition]) -> bool {
+    conditions.iter().any(|condition| match file.values.get(&condition.column) {
+        Some(Some(value)) => condition.is_out_of_range(value),
+        Some(None) | None => false,
+    })
+}
+
 /// Every condition is on one of the partition columns in force.
 pub fn conditions_fit(conditions: &[Condition], columns: &[Vec<u8>]) -> bool {
     conditions.iter().all(|condition| columns.contains(&condition.column))

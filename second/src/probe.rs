@@ -35,6 +35,7 @@ pub fn answer(request: &Request) -> Answer {
     match (request.letter, &request.numbers[..], &strings[..]) {
         ('r', &[version, room], &[query, bundle]) => read(Ask::Version(version), room, query, bundle),
         ('l', &[room], &[query, bundle]) => read(Ask::Latest, room, query, bundle),
+        ('q', &[time, room], &[bundle]) => listed(room, |room| reading::read_due(time, bundle, room)),
         ('m', &[room], &[query, state]) => keep(room, query, state),
         ('c', &[now, retention, room, one, two], &[bundle]) => clean(now, retention, [room, one, two], bundle),
         ('d', _, &[path, directory]) => match manifests::directory(path, directory) {
@@ -58,8 +59,12 @@ pub fn answer(request: &Request) -> Answer {
 }
 
 fn read(ask: Ask, room: u64, query: &[u8], bundle: &[u8]) -> Answer {
+    listed(room, |room| reading::read(ask, query, bundle, room))
+}
+
+fn listed(room: u64, read: impl FnOnce(&mut [u64]) -> Result<Reading, Refusal>) -> Answer {
     let mut room = room::table(room);
-    let result = reading::read(ask, query, bundle, &mut room);
+    let result = read(&mut room);
     let nothing = Reading { version: 0, rows: 0, reader: 0, writer: 0, writable: false };
     let (refusal, reading) = match result {
         Ok(reading) => (ACCEPTED, reading),

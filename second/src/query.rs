@@ -47,17 +47,25 @@ impl Condition {
     pub fn is_met_by(&self, value: &[u8]) -> bool {
         match &self.operand {
             Operand::Text(text) => self.op.is_met_by(value.cmp(&text[..])),
-            Operand::Number(number) => read_number(value).map_or(false, |value| self.op.is_met_by(value.cmp(number))),
+            Operand::Number(number) => match read_number(value) {
+                Number::InRange(value) => self.op.is_met_by(value.cmp(number)),
+                Number::OutOfRange | Number::None => false,
+            },
         }
     }
 
+    /// Does the condition read a number of this value that is out of range?
+    pub fn is_out_of_range(&self, value: &[u8]) -> bool {
+        matches!(self.operand, Operand::Number(_)) && read_number(value) == Number::OutOfRange
+    }
+
     /// Do the bounds show that no value from `min` to `max` meets the condition?
-    /// Bounds that are unreadable or the wrong way round show nothing.
+    /// Bounds that are no numbers, out of range or the wrong way round show nothing.
     pub fn is_ruled_out_by(&self, min: &[u8], max: &[u8]) -> bool {
         match &self.operand {
             Operand::Text(text) => none_between(self.op, &text[..], min, max),
             Operand::Number(number) => match (read_number(min), read_number(max)) {
-                (Some(min), Some(max)) => none_between(self.op, *number, min, max),
+                (Number::InRange(min), Number::InRange(max)) => none_between(self.op, *number, min, max),
                 _ => false,
             },
         }
@@ -76,17 +84,27 @@ fn none_between<T: Ord>(op: Op, operand: T, min: T, max: T) -> bool {
         }
 }
 
-/// An optional minus and 1 to 20 decimal digits, from -2^63 to 2^63-1.
-pub fn read_number(text: &[u8]) -> Option<i64> {
+/// What a text says as a number.
+#[derive(Clone, Copy, Debug, PartialEq, Eq)]
+pub enum Number {
+    InRange(i64),
+    /// Of a number's shape, but below -2^63 or above 2^63-1.
+    OutOfRange,
+    /// Not of the shape: no number.
+    None,
+}
+
+/// An optional minus and 1 to 20 decimal digits, in the range from -2^63 to 2^63-1 or out of it.
+pub fn read_number(text: &[u8]) -> Number {
     let (negative, digits) = match text.strip_prefix(b"-") {
         Some(digits) => (true, digits),
         None => (false, text),
     };
     if !(1..=MOST_DIGITS).contains(&digits.len()) || !digits.iter().all(u8::is_ascii_digit) {
-        return None;
+        return Number::None;
     }
     let amount = digits.iter().fold(0i128, |number, digit| number * 10 + i128::from(digit - b'0'));
-    i64::try_from(if negative { -amount } else { amount }).ok()
+    i64::try_from(if negative { -amount } else { amount }).map_or(Number::OutOfRange, Number::InRange)
 }
 
 /// Reads a query; `None` if it is malformed.
@@ -134,7 +152,11 @@ fn read_condition(item: &Value) -> Option<Condition> {
                 })
             }
             b"value" if operand.is_none() => {
-                operand = Some(if number? { Operand::Number(read_number(text)?) } else { Operand::Text(text.clone()) })
+                operand = Some(match (number?, read_number(text)) {
+                    (false, _) => Operand::Text(text.clone()),
+                    (true, Number::InRange(number)) => Operand::Number(number),
+                    (true, Number::OutOfRange | Number::None) => return None,
+                })
             }
             _ => return None,
         }

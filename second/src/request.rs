@@ -11,15 +11,16 @@ pub struct Shape {
 }
 
 const ANY: u64 = u64::MAX;
-const TABLE: u64 = 4_200;
+const TABLE: u64 = 6_300;
 const NUMBERS: u64 = 1_100;
 const QUERY: (&str, u64) = ("query", 5_000);
 const BUNDLE: (&str, u64) = ("bundle", 1_100_000);
 const SHORT: u64 = 70_000;
 
-pub const SHAPES: [Shape; 7] = [
+pub const SHAPES: [Shape; 8] = [
     Shape { letter: 'r', numbers: &[("version", ANY), ("room", TABLE)], strings: &[QUERY, BUNDLE] },
     Shape { letter: 'l', numbers: &[("room", TABLE)], strings: &[QUERY, BUNDLE] },
+    Shape { letter: 'q', numbers: &[("time", ANY), ("room", TABLE)], strings: &[BUNDLE] },
     Shape { letter: 'm', numbers: &[("room", NUMBERS)], strings: &[QUERY, ("state", 1_100_000)] },
     Shape {
         letter: 'c',

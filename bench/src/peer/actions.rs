@@ -9,6 +9,7 @@ use serde::Deserialize;
 use super::Answer;
 
 const MOST_PATH: usize = 512;
+const MOST_SKIPS: u32 = 2_147_483_647;
 const MOST_VERSION: u64 = 3;
 const FEATURES: [&str; 6] =
     ["skippedFiles", "extendedMetadata", "footerOffsets", "schemaDeduplication", "checkpoint", "optimizeWrite"];
@@ -17,6 +18,7 @@ const READER_FEATURES: usize = 4;
 pub enum Action<'a> {
     Add(Add<'a>),
     Remove(Remove<'a>),
+    Mergeskip(Mergeskip<'a>),
     Protocol(Protocol<'a>),
     MetaData(MetaData<'a>),
     Other,
@@ -27,6 +29,7 @@ pub enum Action<'a> {
 enum Key {
     Add,
     Remove,
+    Mergeskip,
     Protocol,
     MetaData,
     #[serde(other)]
@@ -37,11 +40,14 @@ impl<'a> Action<'a> {
     pub fn read(line: &'a str) -> Answer<Action<'a>> {
         let action = serde_json::from_str(line).map_err(|error| error.to_string())?;
         match &action {
-            Action::Add(Add { path, .. }) | Action::Remove(Remove { path })
+            Action::Add(Add { path, .. })
+            | Action::Remove(Remove { path })
+            | Action::Mergeskip(Mergeskip { path, .. })
                 if path.is_empty() || path.len() > MOST_PATH =>
             {
                 Err("path".to_string())
             }
+            Action::Mergeskip(Mergeskip { skip_count, .. }) if *skip_count > MOST_SKIPS => Err("skipCount".to_string()),
             _ => Ok(action),
         }
     }
@@ -62,6 +68,7 @@ impl<'de: 'a, 'a> Deserialize<'de> for Action<'a> {
                 let action = match from.next_key()? {
                     Some(Key::Add) => Action::Add(from.next_value()?),
                     Some(Key::Remove) => Action::Remove(from.next_value()?),
+                    Some(Key::Mergeskip) => Action::Mergeskip(from.next_value()?),
                     Some(Key::Protocol) => Action::Protocol(from.next_value()?),
                     Some(Key::MetaData) => Action::MetaData(from.next_value()?),
                     Some(Key::Other) => from.next_value::<IgnoredAny>().map(|_| Action::Other)?,
@@ -96,6 +103,21 @@ pub struct Add<'a> {
 pub struct Remove<'a> {
     #[serde(borrow)]
     pub path: Cow<'a, str>,
+}
+
+/// A missing skipCount is 1, and null is none; a missing retryAfter is as null.
+#[derive(Deserialize)]
+#[serde(rename_all = "camelCase")]
+pub struct Mergeskip<'a> {
+    #[serde(borrow)]
+    pub path: Cow<'a, str>,
+    #[serde(default = "once")]
+    pub skip_count: u32,
+    pub retry_after: Option<u64>,
+}
+
+fn once() -> u32 {
+    1
 }
 
 #[derive(Deserialize)]

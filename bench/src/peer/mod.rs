@@ -15,7 +15,8 @@ use log::{Body, Log};
 use query::Condition;
 
 const MOST_LIVE: usize = 1_024;
-const ROOM: usize = 4_096;
+const ROW: usize = 6;
+const ROOM: usize = MOST_LIVE * ROW;
 
 /// A live file, with where its line stands in the bundle.
 struct Row<'a> {
@@ -23,6 +24,9 @@ struct Row<'a> {
     length: u64,
     size: u64,
     time: u64,
+    /// How often merging has skipped the file, and from when on it may be tried again.
+    skip_count: u64,
+    retry_after: u64,
     values: Pairs<'a>,
 }
 
@@ -60,6 +64,8 @@ impl<'a> State<'a> {
                     length: line.len() as u64,
                     size: add.size,
                     time: add.modification_time,
+                    skip_count: 0,
+                    retry_after: 0,
                     values: add.partition_values,
                 };
                 self.live.insert(add.path, row);
@@ -69,6 +75,12 @@ impl<'a> State<'a> {
             }
             Action::Remove(remove) => {
                 self.live.remove(&remove.path);
+            }
+            Action::Mergeskip(skip) => {
+                if let Some(row) = self.live.get_mut(&skip.path) {
+                    row.skip_count = skip.skip_count.into();
+                    row.retry_after = skip.retry_after.unwrap_or(0);
+                }
             }
             Action::Protocol(protocol) => self.protocol = protocol,
             Action::MetaData(table) => self.columns = Some(table.partition_columns),
@@ -160,13 +172,14 @@ pub fn read_latest(bundle: &[u8], query: &[u8], rows: &mut [u64]) -> Answer<List
     })
 }
 
-/// The picked files in path order, four numbers each, and zeros behind them.
+/// The picked files in path order, six numbers each, and zeros behind them.
 fn write(state: &State, conditions: &[Condition], rows: &mut [u64]) -> usize {
     let mut count = 0;
     for row in state.live.values().filter(|row| conditions.iter().all(|c| c.is_met(&row.values))) {
-        rows[4 * count..4 * count + 4].copy_from_slice(&[row.place, row.length, row.size, row.time]);
+        let numbers = [row.place, row.length, row.size, row.time, row.skip_count, row.retry_after];
+        rows[ROW * count..ROW * count + ROW].copy_from_slice(&numbers);
         count += 1;
     }
-    rows[4 * count..ROOM].fill(0);
+    rows[ROW * count..ROOM].fill(0);
     count
 }

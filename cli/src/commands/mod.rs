@@ -2,6 +2,7 @@
 
 mod check;
 mod contents;
+mod due;
 mod explain;
 mod files;
 mod info;
@@ -32,8 +33,9 @@ const OLDER_THAN: Opt = Opt::Value("--older-than");
 const NOW: Opt = Opt::Value("--now");
 
 /// In the order in which help lists them.
-pub const ALL: [Command; 12] = [
+pub const ALL: [Command; 13] = [
     Command { name: "files", options: &[AT, TEXT, NUMBER, QUERY, JSON], run: files::run },
+    Command { name: "due", options: &[AT, JSON], run: due::run },
     Command { name: "info", options: &[AT, JSON], run: info::run },
     Command { name: "versions", options: &[TIME, JSON, PROGRESS], run: versions::run },
     Command { name: "check", options: &[Opt::Value("--jobs"), JSON, PROGRESS], run: check::run },

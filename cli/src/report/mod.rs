@@ -4,6 +4,7 @@ mod html;
 mod picture;
 mod sections;
 mod through;
+mod waiting;
 
 use std::io::Write;
 

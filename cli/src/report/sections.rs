@@ -5,6 +5,7 @@ use kerumpase::bundle;
 use super::html::{code, folded, prose, table, text, time};
 use super::picture::picture;
 use super::through::{checkpoints, cleaning, gaps, versions};
+use super::waiting::waiting;
 use super::Facts;
 use crate::log::ALL as ALL_FILES;
 use crate::refusals::{explained, Told};
@@ -16,7 +17,7 @@ pub struct Section {
     pub made: fn(&Facts) -> String,
 }
 
-pub const ALL: [Section; 9] = [
+pub const ALL: [Section; 10] = [
     Section { id: "summary", title: "Summary", made: summary },
     Section { id: "wrong", title: "What is wrong", made: wrong },
     Section { id: "picture", title: "Files and bytes over the versions", made: picture_of },
@@ -24,6 +25,7 @@ pub const ALL: [Section; 9] = [
     Section { id: "gaps", title: "Gaps", made: gaps },
     Section { id: "checkpoints", title: "Checkpoints and marker", made: checkpoints },
     Section { id: "cleaning", title: "Cleaning", made: cleaning },
+    Section { id: "waiting", title: "Files waiting for a second merge", made: waiting },
     Section { id: "files", title: "Files of the latest version", made: files },
     Section { id: "meaning", title: "What the words mean", made: meaning },
 ];
@@ -178,6 +180,7 @@ fn meaning(_: &Facts) -> String {
         ("Marker", "The small file _last_checkpoint, which names a checkpoint. The latest version is looked for from there."),
         ("Gap", "A version file that is missing between two that are there."),
         ("Not kept", "A version that can no longer be read, because its files were cleaned or lost. Later versions are not touched by that."),
+        ("Second merge", "Merging skips a damaged or locked file. It stays in the table, and the log notes how often it was skipped, and until when."),
         ("Cleaning", "Removing old version files below the checkpoint. Versions from the checkpoint on answer as before."),
     ];
     let items: String =

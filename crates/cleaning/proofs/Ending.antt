@@ -34,31 +34,31 @@ cleaning-short l src today retention e = rw e
 module _ (room one two : Room) where
   short-names : length room < 1024 → enough (lent room one two) ≡ false
   unfolding enough namesRoom rowsRoom
-  short-names h = and-fails-left (leb 4096 (length one) && leb 4096 (length two)) (lt-leb 1024 (length room) h)
+  short-names h = and-fails-left (leb 6144 (length one) && leb 6144 (length two)) (lt-leb 1024 (length room) h)
 
-  short-one : length one < 4096 → enough (lent room one two) ≡ false
+  short-one : length one < 6144 → enough (lent room one two) ≡ false
   unfolding enough namesRoom rowsRoom
-  short-one h = and-fails-right (leb 1024 (length room)) (and-fails-left (leb 4096 (length two)) (lt-leb 4096 (length one) h))
+  short-one h = and-fails-right (leb 1024 (length room)) (and-fails-left (leb 6144 (length two)) (lt-leb 6144 (length one) h))
 
-  short-two : length two < 4096 → enough (lent room one two) ≡ false
+  short-two : length two < 6144 → enough (lent room one two) ≡ false
   unfolding enough namesRoom rowsRoom
-  short-two h = and-fails-right (leb 1024 (length room)) (and-fails-right (leb 4096 (length one)) (lt-leb 4096 (length two) h))
+  short-two h = and-fails-right (leb 1024 (length room)) (and-fails-right (leb 6144 (length one)) (lt-leb 6144 (length two) h))
 
-  cleaning-long : 1024 ≤ length room → 4096 ≤ length one → 4096 ≤ length two → (src : Bytes) (today retention : ℕ)
+  cleaning-long : 1024 ≤ length room → 6144 ≤ length one → 6144 ≤ length two → (src : Bytes) (today retention : ℕ)
       → cleaning (lent room one two) src today retention ≡ ruled src today retention
   unfolding cleaning ruled enough namesRoom rowsRoom
-  cleaning-long h k l src today retention = rw (le-leb 1024 (length room) h, le-leb 4096 (length one) k, le-leb 4096 (length two) l)
+  cleaning-long h k l src today retention = rw (le-leb 1024 (length room) h, le-leb 6144 (length one) k, le-leb 6144 (length two) l)
 
--- ---- a table, which holds anything in its first 4,096 numbers, after zeros are written over them
+-- ---- a table, which holds anything in its first 6,144 numbers, after zeros are written over them
 
-left-drop : {t t′ : Room} → Left mostLive t t′ → drop 4096 t′ ≡ drop 4096 t
+left-drop : {t t′ : Room} → Left mostLive t t′ → drop 6144 t′ ≡ drop 6144 t
 unfolding mostLive
 left-drop w = w .rest
 
-table-zeros : (o : Answer (List ℕ)) (t t′ : Room) → (numberOf o ≡ 1 → ⊥) → 4096 ≤ length t → Left mostLive t t′ → zeroed 0 4096 t′ ≡ tableAfterCleaning o t
+table-zeros : (o : Answer (List ℕ)) (t t′ : Room) → (numberOf o ≡ 1 → ⊥) → 6144 ≤ length t → Left mostLive t t′ → zeroed 0 6144 t′ ≡ tableAfterCleaning o t
 unfolding tableAfterCleaning numberOf rowsRoom
-table-zeros (accepted es) t t′ n l w = zeroed-none-filled 4096 t′ t (omega (arith, w .length)) (left-drop w) ∙ sym (leaves-accepted 4096 (λ es. []) t es)
-table-zeros (refused x) t t′ n l w = zeroed-none-filled 4096 t′ t (omega (arith, w .length)) (left-drop w) ∙ sym (leaves-zeros 4096 (λ es. []) t x n)
+table-zeros (accepted es) t t′ n l w = zeroed-none-filled 6144 t′ t (omega (arith, w .length)) (left-drop w) ∙ sym (leaves-accepted 6144 (λ es. []) t es)
+table-zeros (refused x) t t′ n l w = zeroed-none-filled 6144 t′ t (omega (arith, w .length)) (left-drop w) ∙ sym (leaves-zeros 6144 (λ es. []) t x n)
 
 -- ---- the answer
 
@@ -77,21 +77,21 @@ module _ (src : Bytes) (today retention : ℕ) (room one two : Room) where
   pub clean-names-short : length room < 1024 → CleanIs src today retention room room one one two two (Refused RoomTooShort)
   clean-names-short h = untouched (short-names room one two h)
 
-  pub clean-one-short : length one < 4096 → CleanIs src today retention room room one one two two (Refused RoomTooShort)
+  pub clean-one-short : length one < 6144 → CleanIs src today retention room room one one two two (Refused RoomTooShort)
   clean-one-short h = untouched (short-one room one two h)
 
-  pub clean-two-short : length two < 4096 → CleanIs src today retention room room one one two two (Refused RoomTooShort)
+  pub clean-two-short : length two < 6144 → CleanIs src today retention room room one one two two (Refused RoomTooShort)
   clean-two-short h = untouched (short-two room one two h)
 
   module _
       (h : 1024 ≤ length room)
-      (k : 4096 ≤ length one)
-      (l : 4096 ≤ length two)
+      (k : 6144 ≤ length one)
+      (l : 6144 ≤ length two)
       (one₁ two₁ : Room)
       (v : Left mostLive one one₁)
       (w : Left mostLive two two₁)
       (one′ two′ : Room)
-      (a : one′ ≡ zeroed 0 4096 one₁) (b : two′ ≡ zeroed 0 4096 two₁) (room′ : Room) where
+      (a : one′ ≡ zeroed 0 6144 one₁) (b : two′ ≡ zeroed 0 6144 two₁) (room′ : Room) where
     long : cleaning (lent room one two) src today retention ≡ ruled src today retention
     long = cleaning-long room one two h k l src today retention
 

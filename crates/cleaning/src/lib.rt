@@ -92,7 +92,7 @@ pub enum Cleaned {
 }
 
 // The numbers, from 0 and ascending, of the entries that may go, into a room of at least 1,024; the rest of the 1,024 are
-// zero, and any beyond stay. Of the two lent tables, of at least 4,096 each, the first 4,096 are zero at the end.
+// zero, and any beyond stay. Of the two lent tables, of at least 6,144 each, the first 6,144 are zero at the end.
 pub fn clean(
     src: &[u8],
     today: Millis,

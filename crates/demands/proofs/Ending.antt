@@ -20,6 +20,7 @@ use Rattle.rules.specs.Starts.{Log, logOf, startAt, Way, fromZero, fromCheckpoi
 use Rattle.rules.specs.Marker.{marked}
 use Rattle.rules.specs.Gate.{knownReader, readerNames, gate, writable}
 use Rattle.rules.specs.Query.{Condition, columnOf, query}
+use Rattle.rules.specs.Picking.{inRangeAll}
 use Rattle.rules.specs.Manifests.{manifests, mostManifests}
 use Rattle.rules.specs.Rooms.{rowsRoom, keptRoom, counted}
 use Rattle.rules.specs.Reading.{versionAsked, Listing, told, stateBy, listing, listingAt, reading, stateWithin, listingWithin}
@@ -28,6 +29,7 @@ use Rattle.rules.specs.Agreement.{agree}
 use Rattle.rules.specs.Cleaning.{named, compared, cleanedBy, cleanedAt, enough, cleaning}
 use Rattle.rules.specs.Refusals.{Refusal, Answer, accepted, refused, _>>=_, orRefuse, require, plain, roomTooShort, bundleMalformed, versionTooLarge}
 use Rattle.rules.specs.Refusals.{noVersionZero, notKept, malformed, foreignKeys, tooManyLive, readerTooHigh, unknownFeature, queryMalformed, noSuchColumn}
+use Rattle.rules.specs.Refusals.{valueOutOfRange}
 use Rattle.rules.specs.Refusals.{notWritable, checkpointDisagrees, stateMalformed, tooManyManifests}
 use Rattle.rules.proofs.Tests.{apart, true-not-false}
 use Rattle.rules.proofs.Answers.{refused-number}
@@ -168,14 +170,15 @@ module _ (numbers : List ℕ) where
 -- ---- reading
 
 forReading : List ℕ
-forReading = 1 ∷ 10 ∷ 2 ∷ 3 ∷ 4 ∷ 5 ∷ 6 ∷ 21 ∷ 7 ∷ 8 ∷ 9 ∷ 11 ∷ []
+forReading = 1 ∷ 10 ∷ 2 ∷ 3 ∷ 4 ∷ 5 ∷ 6 ∷ 21 ∷ 7 ∷ 8 ∷ 9 ∷ 11 ∷ 18 ∷ []
 
 listing-ends : (cs : List Condition) (v : ℕ) (st : State) → Ends forReading (listing cs v st)
 unfolding listing isIn forReading
 listing-ends cs v st =
     ends-bind forReading _ (gate-ends forReading refl refl (st .inForce))
     (λ _. ends-bind forReading _
-    (ends-require forReading noSuchColumn (allAmong (st .table .partitionColumns) (map columnOf cs)) (plain-listed forReading 11 refl)) (λ _. answered _))
+    (ends-require forReading noSuchColumn (allAmong (st .table .partitionColumns) (map columnOf cs)) (plain-listed forReading 11 refl))
+    (λ _. ends-bind forReading _ (ends-require forReading valueOutOfRange (inRangeAll cs (st .live)) (plain-listed forReading 18 refl)) (λ _. answered _)))
 
 stateBy-ends : (log : Log) (way : Option Way) → Ends forReading (stateBy log way)
 unfolding stateWithin isIn forReading

@@ -13,20 +13,24 @@ use Rattle.rules.specs.History.{State}
 use Rattle.rules.specs.Starts.{Way, wayTo}
 use Rattle.rules.specs.Gate.{knownReader, readerNames, gate}
 use Rattle.rules.specs.Query.{Condition, query}
+use Rattle.rules.specs.Picking.{inRangeAll}
 use Rattle.rules.specs.Rooms.{rowsRoom}
 use Rattle.rules.specs.Reading.{Asked, Listing, listing, listingAt, reading, stateWithin, listingWithin}
 use Rattle.rules.specs.Refusals.{Refusal, Answer, accepted, refused, roomTooShort, bundleMalformed, versionTooLarge, noVersionZero}
 use Rattle.rules.specs.Refusals.{notKept, malformed, foreignKeys, tooManyLive, readerTooHigh, unknownFeature, queryMalformed, noSuchColumn}
+use Rattle.rules.specs.Refusals.{valueOutOfRange}
 use Rattle.rules.proofs.Tests.{true-not-false}
 use Rattle.rules.proofs.Readings.{reading-is}
 use Rattle.demands.specs.Reaching.{There, NoStart}
 use Rattle.demands.specs.Met.{Unknown, Met}
-use Rattle.demands.specs.Exactly.{SomeTooLarge, Readable, Opened, logIn, versionIn, Reached, Read, columnsAsked, answerOf, ReadingRefusesExactly}
+use Rattle.demands.specs.Exactly.{SomeTooLarge, Readable, SomeOutOf, Opened, logIn, versionIn}
+use Rattle.demands.specs.Exactly.{Reached, Read, columnsAsked, answerOf, ReadingRefusesExactly}
 use Rattle.demands.proofs.Starts.{no-way-no-start, way-some-start}
 use Rattle.demands.proofs.Readable.{stateBy-is}
 use Rattle.demands.proofs.WayMet.{OfALine, number-6, number-21, number-7, met-number, fromZeroOn, way-met, met-way}
 use Rattle.demands.proofs.Words.{anyTooLarge-some, some-anyTooLarge, none-anyTooLarge}
 use Rattle.demands.proofs.Words.{allAmong-unknown, unknown-allAmong, known-allAmong, allAmong-known}
+use Rattle.demands.proofs.Words.{inRangeAll-words, words-inRangeAll, none-inRangeAll, inRangeAll-none}
 
 -- ---- the conditions of reading, each with its answer
 
@@ -46,8 +50,10 @@ module _ (room : ℕ) (s q : Bytes) (asked : Asked) where
         → Says (refused unknownFeature)
     no-column : (r : Read room s q asked) → Readable (r .state .inForce) → Unknown (r .state .table .partitionColumns) (columnsAsked r)
         → Says (refused noSuchColumn)
+    beyond : (r : Read room s q asked) → Readable (r .state .inForce) → (Unknown (r .state .table .partitionColumns) (columnsAsked r) → ⊥)
+        → SomeOutOf (r .opened .cs) (r .state .live) → Says (refused valueOutOfRange)
     answer : (r : Read room s q asked) → Readable (r .state .inForce) → (Unknown (r .state .table .partitionColumns) (columnsAsked r) → ⊥)
-        → Says (accepted (answerOf r))
+        → (SomeOutOf (r .opened .cs) (r .state .live) → ⊥) → Says (accepted (answerOf r))
 
   -- ---- each gives its answer
 
@@ -93,12 +99,21 @@ module _ (room : ℕ) (s q : Bytes) (asked : Asked) where
         known-allAmong readerNames (r .state .inForce .readerFeatures) (p .1),
         unknown-allAmong (r .state .table .partitionColumns) (columnsAsked r) u,
       )
-  says-reading _ (answer r p k) =
+  says-reading _ (beyond r p k o) =
       read-is r
       ∙ rw (
         le-leb (r .state .inForce .minReaderVersion) knownReader (p .0),
         known-allAmong readerNames (r .state .inForce .readerFeatures) (p .1),
         known-allAmong (r .state .table .partitionColumns) (columnsAsked r) k,
+        words-inRangeAll (r .opened .cs) (r .state .live) o,
+      )
+  says-reading _ (answer r p k n) =
+      read-is r
+      ∙ rw (
+        le-leb (r .state .inForce .minReaderVersion) knownReader (p .0),
+        known-allAmong readerNames (r .state .inForce .readerFeatures) (p .1),
+        known-allAmong (r .state .table .partitionColumns) (columnsAsked r) k,
+        none-inRangeAll (r .opened .cs) (r .state .live) n,
       )
 
   -- ---- one holds for every input
@@ -112,23 +127,34 @@ module _ (room : ℕ) (s q : Bytes) (asked : Asked) where
       refl
       (allAmong (r .state .table .partitionColumns) (columnsAsked r))
       refl
+      (inRangeAll (r .opened .cs) (r .state .live))
+      refl
     where
       go : (a : Bool) → leb (r .state .inForce .minReaderVersion) knownReader ≡ a → (b : Bool) → allAmong readerNames (r .state .inForce .readerFeatures) ≡ b
-          → (c : Bool) → allAmong (r .state .table .partitionColumns) (columnsAsked r) ≡ c → (x : Answer Listing) × Says x
-      go false e b f c g = (_, high r (leb-false (r .state .inForce .minReaderVersion) knownReader e))
-      go true e false f c g =
+          → (c : Bool) → allAmong (r .state .table .partitionColumns) (columnsAsked r) ≡ c
+          → (d : Bool) → inRangeAll (r .opened .cs) (r .state .live) ≡ d → (x : Answer Listing) × Says x
+      go false e b f c g d h = (_, high r (leb-false (r .state .inForce .minReaderVersion) knownReader e))
+      go true e false f c g d h =
           (_, unknown r (leb-true (r .state .inForce .minReaderVersion) knownReader e) (allAmong-unknown readerNames (r .state .inForce .readerFeatures) f))
-      go true e true f false g = (
+      go true e true f false g d h = (
         _,
         no-column r
             (leb-true (r .state .inForce .minReaderVersion) knownReader e, allAmong-known readerNames (r .state .inForce .readerFeatures) f)
             (allAmong-unknown (r .state .table .partitionColumns) (columnsAsked r) g),
       )
-      go true e true f true g = (
+      go true e true f true g false h = (
+        _,
+        beyond r
+            (leb-true (r .state .inForce .minReaderVersion) knownReader e, allAmong-known readerNames (r .state .inForce .readerFeatures) f)
+            (allAmong-known (r .state .table .partitionColumns) (columnsAsked r) g)
+            (inRangeAll-words (r .opened .cs) (r .state .live) h),
+      )
+      go true e true f true g true h = (
         _,
         answer r
             (leb-true (r .state .inForce .minReaderVersion) knownReader e, allAmong-known readerNames (r .state .inForce .readerFeatures) f)
-            (allAmong-known (r .state .table .partitionColumns) (columnsAsked r) g),
+            (allAmong-known (r .state .table .partitionColumns) (columnsAsked r) g)
+            (inRangeAll-none (r .opened .cs) (r .state .live) h),
       )
 
   said-reached : (r : Reached room s q asked) → (a : Answer Listing) × Says a
@@ -193,7 +219,8 @@ reading-exactly room s q asked = record {
   no-8 = ((λ e. f8 (given (refused readerTooHigh) e)), λ c. says-reading room s q asked _ (high (c .0) (c .1)));
   no-9 = ((λ e. f9 (given (refused unknownFeature) e)), λ c. says-reading room s q asked _ (unknown (c .0) (c .1) (c .2)));
   no-11 = ((λ e. f11 (given (refused noSuchColumn) e)), λ c. says-reading room s q asked _ (no-column (c .0) (c .1) (c .2)));
-  no-0 = λ l. ((λ h. f0 l (given (accepted l) h)), λ c. says-reading room s q asked _ (answer (c .0) (c .1) (c .2)) ∙ ap accepted (c .3));
+  no-18 = ((λ e. f18 (given (refused valueOutOfRange) e)), λ c. says-reading room s q asked _ (beyond (c .0) (c .1) (c .2) (c .3)));
+  no-0 = λ l. ((λ h. f0 l (given (accepted l) h)), λ c. says-reading room s q asked _ (answer (c .0) (c .1) (c .2) (c .3)) ∙ ap accepted (c .4));
 }
   where
     given : (a : Answer Listing) → reading room s q asked ≡ a → Says room s q asked a
@@ -237,6 +264,12 @@ reading-exactly room s q asked = record {
         → (r : Read room s q asked) × Readable (r .state .inForce) × Unknown (r .state .table .partitionColumns) (columnsAsked r)
     f11 (no-column r p u) = (r, p, u)
 
+    f18 : Says room s q asked (refused valueOutOfRange)
+        → (r : Read room s q asked) × Readable (r .state .inForce) × (Unknown (r .state .table .partitionColumns) (columnsAsked r) → ⊥)
+        × SomeOutOf (r .opened .cs) (r .state .live)
+    f18 (beyond r p k o) = (r, p, k, o)
+
     f0 : (l : Listing) → Says room s q asked (accepted l)
-        → (r : Read room s q asked) × Readable (r .state .inForce) × (Unknown (r .state .table .partitionColumns) (columnsAsked r) → ⊥) × (answerOf r ≡ l)
-    f0 l (answer r p k) = (r, p, k, refl)
+        → (r : Read room s q asked) × Readable (r .state .inForce) × (Unknown (r .state .table .partitionColumns) (columnsAsked r) → ⊥)
+        × (SomeOutOf (r .opened .cs) (r .state .live) → ⊥) × (answerOf r ≡ l)
+    f0 l (answer r p k n) = (r, p, k, n, refl)

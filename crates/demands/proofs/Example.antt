@@ -26,7 +26,7 @@ use Rattle.demands.specs.Example.{whole, ExampleIsFull, answers}
 
 pub answers-hold : Holds answers
 unfolding rules answers whole Example.zero Example.one Example.checkpointAtOne Example.untrueAtOne Example.two
-answers-hold = (refl, (refl, (refl, (refl, (refl, tt)))))
+answers-hold = (refl, (refl, (refl, (refl, (refl, (refl, (refl, tt)))))))
 
 -- ---- its files
 

@@ -15,10 +15,10 @@ use Rattle.rules.specs.History.{State, ofVersion, ofCheckpoint, readFile, readZ
 use Rattle.rules.specs.Starts.{Log, logOf, startAt, Way, fromZero, fromCheckpoint, onwardBy, byFile, byStart, wayTo, historyTo, nothingLive, follow}
 use Rattle.rules.specs.Gate.{knownReader, readerNames, gate, writable}
 use Rattle.rules.specs.Query.{Condition, columnOf}
-use Rattle.rules.specs.Picking.{picked}
+use Rattle.rules.specs.Picking.{picked, inRangeAll}
 use Rattle.rules.specs.Reading.{theVersion, versionAsked, Listing, stateBy, listing, listingAt, historyListing, reading, stateWithin, listingWithin}
 use Rattle.rules.specs.Same.{SameState, SameListing, SameAnswer, both-accepted, both-refused}
-use Rattle.rules.specs.Refusals.{_>>=_, Answer, accepted, refused, require, notKept, readerTooHigh, unknownFeature, noSuchColumn}
+use Rattle.rules.specs.Refusals.{_>>=_, Answer, accepted, refused, require, notKept, readerTooHigh, unknownFeature, noSuchColumn, valueOutOfRange}
 use Rattle.rules.proofs.Tests.{apart}
 use Rattle.rules.proofs.Replaying.{bind-accepted}
 use Rattle.rules.proofs.Sameness.{same-state-sym, same-state-trans, same-answer-trans}
@@ -119,7 +119,7 @@ module _ (fs gs : List File) (n : ℕ) (full : FullHistory fs n)
 
 -- ---- reading
 
--- the gate and the columns refuse by 8, 9 and 11
+-- the gate, the columns and the values refuse by 8, 9, 11 and 18
 listing-kept : (cs : List Condition) (v : ℕ) (st : State) → listing cs v st ≡ refused notKept → ⊥
 unfolding listing gate
 listing-kept cs v st e =
@@ -127,17 +127,20 @@ listing-kept cs v st e =
     (leb (st .inForce .minReaderVersion) knownReader)
     (allAmong readerNames (st .inForce .readerFeatures))
     (allAmong (st .table .partitionColumns) (map columnOf cs))
+    (inRangeAll cs (st .live))
     listed e
   where
     listed : Listing
     listed = record { version = v; table = st .table; inForce = st .inForce; canWrite = writable (st .inForce); rows = picked cs (st .live) }
 
-    go : (a b c : Bool) (l : Listing)
-        → ((require readerTooHigh a >>= (λ _. require unknownFeature b)) >>= (λ _. require noSuchColumn c >>= (λ _. accepted l))) ≡ refused notKept → ⊥
-    go false b c l e = let q : _≡_ {A = ℕ} 8 5 = refused-number e in omega arith
-    go true false c l e = let q : _≡_ {A = ℕ} 9 5 = refused-number e in omega arith
-    go true true false l e = let q : _≡_ {A = ℕ} 11 5 = refused-number e in omega arith
-    go true true true l e = apart (cc)
+    go : (a b c d : Bool) (l : Listing)
+        → ((require readerTooHigh a >>= (λ _. require unknownFeature b))
+        >>= (λ _. require noSuchColumn c >>= (λ _. require valueOutOfRange d >>= (λ _. accepted l)))) ≡ refused notKept → ⊥
+    go false b c d l e = let q : _≡_ {A = ℕ} 8 5 = refused-number e in omega arith
+    go true false c d l e = let q : _≡_ {A = ℕ} 9 5 = refused-number e in omega arith
+    go true true false d l e = let q : _≡_ {A = ℕ} 11 5 = refused-number e in omega arith
+    go true true true false l e = let q : _≡_ {A = ℕ} 18 5 = refused-number e in omega arith
+    go true true true true l e = apart (cc)
 
 same-accepted : {A : Type 0} {Same : A → A → Type 0} {x y : Answer A} (a : A) → SameAnswer Same x y → x ≡ accepted a → (b : A) × (y ≡ accepted b)
 same-accepted a (both-accepted {b = b} r) e = (b, refl)

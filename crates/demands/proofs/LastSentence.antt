@@ -8,7 +8,7 @@ use Prim.Native.Nat.{ℕ, suc, _≤_, _<_}
 use native.Mathlib.Omega.{arith}
 use lib.Dec.{leb, ltb}
 use borrow.Author.Tests.{ltb-true, ne-eqb}
-use Rattle.rules.specs.Bytes.{Bytes, keepIf}
+use Rattle.rules.specs.Bytes.{Bytes, ascii, keepIf}
 use Rattle.rules.specs.Bundle.{File, bundle}
 use Rattle.rules.specs.Names.{Name, version, checkpoint, marker, other, tooLarge, nameOf, versionIn, checkpointIn, isMarker, isTooLarge, is, anyTooLarge}
 use Rattle.rules.specs.Starts.{logOf, Way, startAt, otherWayTo}
@@ -23,6 +23,7 @@ use Rattle.rules.proofs.Tests.{apart, and-left, and-right}
 use Rattle.rules.proofs.Replaying.{bind-accepted}
 use Rattle.rules.proofs.Sameness.{same-listing-refl, same-listing-trans, same-answer-refl, same-answer-trans}
 use Rattle.rules.proofs.Answers.{same-require, same-orRefuse}
+use Rattle.rules.proofs.Due.{due-same}
 use Rattle.rules.proofs.Bundles.{Numbered, bundle-sound}
 use Rattle.demands.specs.Removed.{Without, end, keep, remove, In, Named}
 use Rattle.demands.specs.LastSentence.{KeepsAnswers, checkpointOf, Run, LastSentence, not-run, once-more, StoppedHalfway}
@@ -180,32 +181,39 @@ run-same s t fs gs r =
     (λ n l h. cleaning-names (r .lent) s (r .now) (r .retention) fs (r .es) (r .before) (r .names) n h) (r .removed)) in
     (without-same c fs gs w, without-large c fs gs w)
 
+-- the due files are those of the latest listing
+keeps-by : (c : ℕ) (s t : Bytes)
+    → ((room : ℕ) (q : Bytes) (v : ℕ) → c ≤ v → SameAnswer SameListing (reading room s q (theVersion v)) (reading room t q (theVersion v)))
+    → ((room : ℕ) (q : Bytes) → SameAnswer SameListing (reading room s q theLatest) (reading room t q theLatest))
+    → KeepsAnswers c s t
+keeps-by c s t numbered last =
+    record { by-number = numbered; the-latest = last; due = λ room time. due-same room s t theLatest theLatest time (last room (ascii "[]")) }
+
 pub last-sentence : LastSentence
 unfolding versionAsked
 last-sentence s t fs gs r =
     let p = run-same s t fs gs r in
     let at = listing-same-upward (logOf fs) (logOf gs) (p .0) in
-    record {
-      by-number = λ room q v l. reading-same room s t q (theVersion v) fs gs (r .before) (r .after) (p .1) (λ cs. at cs v l);
-      the-latest = λ room q. reading-same room s t q theLatest fs gs (r .before) (r .after) (p .1)
-          (λ cs. subst (λ (v : ℕ). SameAnswer SameListing (listingAt cs (logOf fs) (latest (logOf fs))) (listingAt cs (logOf gs) v)) (latest-same (logOf fs)
-          (logOf gs) (p .0))
-          (at cs (latest (logOf fs)) (latest-above (logOf fs))));
-    }
+    keeps-by (checkpointOf fs) s t
+    (λ room q v l. reading-same room s t q (theVersion v) fs gs (r .before) (r .after) (p .1) (λ cs. at cs v l))
+    (λ room q. reading-same room s t q theLatest fs gs (r .before) (r .after) (p .1)
+    (λ cs. subst (λ (v : ℕ). SameAnswer SameListing (listingAt cs (logOf fs) (latest (logOf fs))) (listingAt cs (logOf gs) v)) (latest-same (logOf fs)
+    (logOf gs) (p .0))
+    (at cs (latest (logOf fs)) (latest-above (logOf fs)))))
 
 -- ---- any number of runs
 
 keeps-trans : (c : ℕ) (s t u : Bytes) → KeepsAnswers c s t → KeepsAnswers c t u → KeepsAnswers c s u
-keeps-trans c s t u h k = record {
-  by-number = λ room q v l. same-answer-trans (λ a b d. same-listing-trans) (h .by-number room q v l) (k .by-number room q v l);
-  the-latest = λ room q. same-answer-trans (λ a b d. same-listing-trans) (h .the-latest room q) (k .the-latest room q);
-}
+keeps-trans c s t u h k =
+    keeps-by c s u
+    (λ room q v l. same-answer-trans (λ a b d. same-listing-trans) (h .by-number room q v l) (k .by-number room q v l))
+    (λ room q. same-answer-trans (λ a b d. same-listing-trans) (h .the-latest room q) (k .the-latest room q))
 
 pub stopped-halfway : StoppedHalfway
-stopped-halfway s _ fs e not-run = record {
-  by-number = λ room q v l. same-answer-refl same-listing-refl (reading room s q (theVersion v));
-  the-latest = λ room q. same-answer-refl same-listing-refl (reading room s q theLatest);
-}
+stopped-halfway s _ fs e not-run =
+    keeps-by (checkpointOf fs) s s
+    (λ room q v l. same-answer-refl same-listing-refl (reading room s q (theVersion v)))
+    (λ room q. same-answer-refl same-listing-refl (reading room s q theLatest))
 stopped-halfway s u fs e (once-more {t = t} {fs = hs} {gs = gs} r more) =
     let p : some hs ≡ some fs = sym (r .before) ∙ e in
     let q : hs ≡ fs = cc in

@@ -10,7 +10,7 @@ use lib.Dec.{leb}
 use lib.ListN.{length, take, drop, replicate, length-append, length-replicate}
 use lib.Seq.{take-at, drop-at, drop-append-add}
 use borrow.Author.Tests.{leb-true}
-use Rattle.rules.specs.Bytes.{Bytes, allAmong, keepIf}
+use Rattle.rules.specs.Bytes.{Bytes, ascii, allAmong, keepIf}
 use Rattle.rules.specs.Bundle.{File, mostEntries, bundle}
 use Rattle.rules.specs.Names.{anyTooLarge}
 use Rattle.rules.specs.Live.{mostLive, Row}
@@ -19,21 +19,23 @@ use Rattle.rules.specs.Starts.{Log, logOf, startAt, Way, wayTo, otherWayTo}
 use Rattle.rules.specs.Marker.{marked}
 use Rattle.rules.specs.Gate.{gate, writable}
 use Rattle.rules.specs.Query.{Condition, columnOf, query}
-use Rattle.rules.specs.Picking.{meetsAll, picked}
+use Rattle.rules.specs.Picking.{meetsAll, picked, inRangeAll}
 use Rattle.rules.specs.Manifests.{Manifest, manifests, mostManifests, dropped, keptFrom}
 use Rattle.rules.specs.Rooms.{Room, rowsRoom, keptRoom, namesRoom, filled, leaves, rowNumbers, rowsNumbers}
 use Rattle.rules.specs.Reading.{Asked, versionAsked, Listing, stateBy, listing, listingAt, reading, roomAfterReading, listingWithin}
+use Rattle.rules.specs.Due.{dueRows, dueListing, due}
 use Rattle.rules.specs.Keeping.{keeping, roomAfterKeeping}
 use Rattle.rules.specs.Cleaning.{mayGo, named, compared, cleanedBy, cleanedAt, Lent, enough, cleaning, namesAfterCleaning, tableAfterCleaning}
 use Rattle.rules.specs.Refusals.{Refusal, Answer, accepted, refused, _>>=_, orRefuse, require, roomTooShort, bundleMalformed, versionTooLarge}
-use Rattle.rules.specs.Refusals.{noVersionZero, queryMalformed, noSuchColumn, stateMalformed, tooManyManifests}
+use Rattle.rules.specs.Refusals.{noVersionZero, queryMalformed, noSuchColumn, valueOutOfRange, stateMalformed, tooManyManifests}
 use Rattle.rules.proofs.Tests.{apart}
 use Rattle.rules.proofs.Replaying.{bind-accepted, require-accepted, stateBy-live}
 use Rattle.rules.proofs.Rooms.{length-filled, leaves-accepted, leaves-untouched, leaves-zeros}
 use Rattle.rules.proofs.Answers.{numberOf, refused-number}
+use Rattle.rules.proofs.Due.{dueRows-few}
 use Rattle.rules.proofs.Bundles.{bundle-sound}
 use Rattle.demands.specs.CleaningExactly.{Enough}
-use Rattle.demands.specs.Ending.{RoomEnds, ReadingRoomEnds, KeepingRoomEnds, lengths, CleaningRoomsEnd}
+use Rattle.demands.specs.Ending.{RoomEnds, ReadingRoomEnds, DueRoomEnds, KeepingRoomEnds, lengths, CleaningRoomsEnd}
 use Rattle.demands.proofs.CleaningWords.{true-enough}
 
 -- ---- a room that is filled
@@ -133,11 +135,11 @@ cleaning-long lent s now retention h = true-enough lent (long-enough (enough len
 
 -- ---- reading
 
-pub length-rowsNumbers : (rs : List Row) → length (rowsNumbers rs) ≡ length rs * 4
+pub length-rowsNumbers : (rs : List Row) → length (rowsNumbers rs) ≡ length rs * 6
 unfolding rowsNumbers rowNumbers
 length-rowsNumbers [] = refl
 length-rowsNumbers (r ∷ rs) =
-    let e : length (rowsNumbers rs) ≡ length rs * 4 = length-rowsNumbers rs in omega (arith, length-append (rowNumbers r) (rowsNumbers rs))
+    let e : length (rowsNumbers rs) ≡ length rs * 6 = length-rowsNumbers rs in omega (arith, length-append (rowNumbers r) (rowsNumbers rs))
 
 length-keepIf : {A : Type 0} (b : Bool) (x : A) (xs : List A) → length (keepIf b x xs) ≤ suc (length xs)
 unfolding keepIf
@@ -152,15 +154,18 @@ length-picked cs (r ∷ rs) = omega (arith, length-keepIf (meetsAll cs (r .facts
 listing-rows : (cs : List Condition) (v : ℕ) (st : State) (l : Listing) → listing cs v st ≡ accepted l → l .rows ≡ picked cs (st .live)
 unfolding listing
 listing-rows cs v st l h =
-    let a =
-    bind-accepted (gate (st .inForce)) (λ _. require noSuchColumn (allAmong (st .table .partitionColumns) (map columnOf cs)) >>= (λ _. accepted listed)) h in
-    let b = bind-accepted (require noSuchColumn (allAmong (st .table .partitionColumns) (map columnOf cs))) (λ _. accepted listed) (a .2) in
-    let c : accepted listed ≡ accepted l = b .2 in
-    let d : listed ≡ l = cc in
-    sym (ap (λ (x : Listing). x .rows) d)
+    let a = bind-accepted (gate (st .inForce)) (λ _. require noSuchColumn (allAmong (st .table .partitionColumns) (map columnOf cs)) >>= (λ _. ranged)) h in
+    let b = bind-accepted (require noSuchColumn (allAmong (st .table .partitionColumns) (map columnOf cs))) (λ _. ranged) (a .2) in
+    let c = bind-accepted (require valueOutOfRange (inRangeAll cs (st .live))) (λ _. accepted listed) (b .2) in
+    let d : accepted listed ≡ accepted l = c .2 in
+    let e : listed ≡ l = cc in
+    sym (ap (λ (x : Listing). x .rows) e)
   where
     listed : Listing
     listed = record { version = v; table = st .table; inForce = st .inForce; canWrite = writable (st .inForce); rows = picked cs (st .live) }
+
+    ranged : Answer Listing
+    ranged = require valueOutOfRange (inRangeAll cs (st .live)) >>= (λ _. accepted listed)
 
 listingAt-few : (cs : List Condition) (log : Log) (v : ℕ) (l : Listing) → listingAt cs log v ≡ accepted l → length (rowsNumbers (l .rows)) ≤ rowsRoom
 unfolding listingAt listingWithin mostLive rowsRoom
@@ -200,6 +205,43 @@ reading-room-ends room s q asked =
     room
     (reading-long (length room) s q asked)
     (reading-few (length room) s q asked)
+
+-- ---- the due files
+
+due-few : (room : ℕ) (s : Bytes) (asked : Asked) (time : ℕ) (l : Listing) → due room s asked time ≡ accepted l → length (rowsNumbers (l .rows)) ≤ rowsRoom
+unfolding due dueListing
+due-few room s asked time l h =
+    let a = bind-accepted (reading room s (ascii "[]") asked) (λ m. accepted (dueListing time m)) h in
+    let e : accepted (dueListing time (a .0)) ≡ accepted l = a .2 in
+    let q : dueListing time (a .0) ≡ l = cc in
+    let r : dueRows time (a .0 .rows) ≡ l .rows = ap (λ (x : Listing). x .rows) q in
+    let n : length (dueRows time (a .0 .rows)) ≡ length (l .rows) = ap length r in
+    omega (
+      arith,
+      n,
+      dueRows-few time (a .0 .rows),
+      length-rowsNumbers (l .rows),
+      length-rowsNumbers (a .0 .rows),
+      reading-few room s (ascii "[]") asked (a .0) (a .1),
+    )
+
+due-long : (room : ℕ) (s : Bytes) (asked : Asked) (time : ℕ) → (numberOf (due room s asked time) ≡ 1 → ⊥) → rowsRoom ≤ room
+unfolding due numberOf
+due-long room s asked time h = go (reading room s (ascii "[]") asked) refl h
+  where
+    go : (o : Answer Listing) → reading room s (ascii "[]") asked ≡ o → (numberOf (o >>= (λ m. accepted (dueListing time m))) ≡ 1 → ⊥) → rowsRoom ≤ room
+    go (accepted m) e h = reading-long room s (ascii "[]") asked (λ q. let z : _≡_ {A = ℕ} 0 1 = sym (ap numberOf e) ∙ q in absurd (omega arith))
+    go (refused r) e h = reading-long room s (ascii "[]") asked (λ q. h (sym (ap numberOf e) ∙ q))
+
+pub due-room-ends : DueRoomEnds
+unfolding roomAfterReading
+due-room-ends room s asked time =
+    leaves-ends rowsRoom
+    (λ (l : Listing). rowsNumbers (l .rows))
+    (due (length room) s asked time)
+    room
+    (due-long (length room) s asked time)
+    (due-few (length room) s asked time)
 
 -- ---- keeping
 

@@ -16,6 +16,7 @@ pub mod FirstMet
 pub mod WayMet
 pub mod Words
 pub mod Exactly
+pub mod Due
 pub mod KeepingExactly
 pub mod CleaningWords
 pub mod CleaningExactly
@@ -25,4 +26,5 @@ pub mod Choosing
 pub mod Skipping
 pub mod Showing
 pub mod WrongPrograms
+pub mod WrongListings
 pub mod Demands

@@ -11,26 +11,28 @@ use lib.Seq.{length-take-le}
 use borrow.Author.Tests.{eqb-true, leb-true}
 use Rattle.facts.specs.Lists.{All}
 use Rattle.facts.proofs.Lists.{All-append, All-weaken}
-use Rattle.rules.specs.Bytes.{Bytes, less, order, same, guard, among, isEmpty, keepIf}
+use Rattle.rules.specs.Bytes.{Bytes, ascii, less, order, same, guard, among, isEmpty, keepIf}
 use Rattle.rules.specs.Numbers.{little}
 use Rattle.rules.specs.Bundle.{Entry, File, mostBytes, mostEntries, entryBytes, entries, nameIn, ascending, filesFrom, filesOf, bundle}
 use Rattle.rules.specs.Names.{Name, nameOf, versionIn, checkpointIn, is}
 use Rattle.rules.specs.Lines.{onto, lines}
-use Rattle.rules.specs.Actions.{Facts, Action, add, remove, protocol, metaData, mergeskip, other, action, isLine}
+use Rattle.rules.specs.Actions.{Facts, Skip, noSkip, Action, add, remove, protocol, metaData, mergeskip, other, action, isLine}
 use Rattle.rules.specs.Live.{Row, pathOf}
 use Rattle.rules.specs.History.{State}
 use Rattle.rules.specs.Starts.{find, logOf, isStart, ifStart, startAt, Way, wayTo}
 use Rattle.rules.specs.Query.{Condition}
 use Rattle.rules.specs.Picking.{meetsAll, picked}
-use Rattle.rules.specs.Reading.{Listing, stateBy}
+use Rattle.rules.specs.Reading.{Listing, stateBy, reading}
+use Rattle.rules.specs.Due.{isDue, dueRows, dueListing, due}
 use Rattle.rules.specs.Refusals.{accepted}
+use Rattle.rules.proofs.Replaying.{bind-accepted}
 use Rattle.rules.proofs.Tests.{apart}
 use Rattle.rules.proofs.Order.{same-refl, ne-same, order-less-ne}
 use Rattle.rules.proofs.Choices.{guard-some}
 use Rattle.rules.proofs.Json.Suffix.{some-same, bound}
 use Rattle.demands.specs.Reaching.{From, at-checkpoint, at-zero, and-then}
-use Rattle.demands.specs.Replayed.{Line, linesFrom, linesIn, linesOn, after, afterAll, liveAt, InPathOrder}
-use Rattle.demands.specs.Places.{StandsIn, RowsStandInTheBundle}
+use Rattle.demands.specs.Replayed.{Line, linesFrom, linesIn, linesOn, withSkip, after, afterAll, liveAt, InPathOrder}
+use Rattle.demands.specs.Places.{StandsIn, RowsStandInTheBundle, DueRowsStandInTheBundle}
 use Rattle.demands.proofs.Starts.{read-from-the-highest}
 use Rattle.demands.proofs.Ordered.{all-both}
 use Rattle.demands.proofs.Exactly.{reading-exactly}
@@ -208,7 +210,7 @@ from-stand s fs a t _ _ (and-then {v = v} {w = w} {g = g} h e) =
 
 -- ---- rows from lines
 
-line-row : (s : Bytes) (l : Line) (f : Facts) → LineIn s l → l .does ≡ add f → StandsIn s (record { at = l .at; size = l .size; facts = f })
+line-row : (s : Bytes) (l : Line) (f : Facts) → LineIn s l → l .does ≡ add f → StandsIn s (record { at = l .at; size = l .size; facts = f; skip = noSkip })
 line-row s l f p e =
     record {
       before = p .before;
@@ -220,7 +222,16 @@ line-row s l f p e =
       says = (p .is-line, p .says ∙ ap some e);
     }
 
-after-stand : (s p : Bytes) (l : Line) (was : Option Row) (r : Row) → LineIn s l → (was ≡ some r → StandsIn s r)
+-- a skip moves no line
+withSkip-stand : (s : Bytes) (y : Skip) (was : Option Row) (r : Row) → ((x : Row) → was ≡ some x → StandsIn s x) → withSkip y was ≡ some r → StandsIn s r
+unfolding withSkip
+withSkip-stand s y none r k e = apart (cc)
+withSkip-stand s y (some x) r k e =
+    let p = k x refl in
+    subst (StandsIn s) (some-same e)
+    (record { before = p .before; line = p .line; behind = p .behind; parts = p .parts; place = p .place; long = p .long; says = p .says })
+
+after-stand : (s p : Bytes) (l : Line) (was : Option Row) (r : Row) → LineIn s l → ((x : Row) → was ≡ some x → StandsIn s x)
     → after (l .at) (l .size) p (l .does) was ≡ some r → StandsIn s r
 unfolding after
 after-stand s p l was r i k e = go (l .does) refl e
@@ -228,25 +239,31 @@ after-stand s p l was r i k e = go (l .does) refl e
     go : (a : Action) → l .does ≡ a → after (l .at) (l .size) p a was ≡ some r → StandsIn s r
     go (add f) q e = added (same p (f .path)) e
       where
-        added : (b : Bool) → _≡_ {A = Option Row} (elim b [ true ↦ some (record { at = l .at; size = l .size; facts = f }) | false ↦ was ]) (some r)
+        added : (b : Bool)
+            → _≡_ {A = Option Row} (elim b [ true ↦ some (record { at = l .at; size = l .size; facts = f; skip = noSkip }) | false ↦ was ]) (some r)
             → StandsIn s r
         added true e = subst (StandsIn s) (some-same e) (line-row s l f i q)
-        added false e = k e
+        added false e = k r e
     go (remove x) q e = removed (same p x) e
       where
         removed : (b : Bool) → _≡_ {A = Option Row} (elim b [ true ↦ none | false ↦ was ]) (some r) → StandsIn s r
         removed true e = apart (cc)
-        removed false e = k e
-    go (protocol x) q e = k e
-    go (metaData m) q e = k e
-    go mergeskip q e = k e
-    go other q e = k e
+        removed false e = k r e
+    go (protocol x) q e = k r e
+    go (metaData m) q e = k r e
+    go (mergeskip x y) q e = marked (same p x) e
+      where
+        marked : (b : Bool) → _≡_ {A = Option Row} (elim b [ true ↦ withSkip y was | false ↦ was ]) (some r) → StandsIn s r
+        marked true e = withSkip-stand s y was r k e
+        marked false e = k r e
+    go other q e = k r e
 
-afterAll-stand : (s p : Bytes) (ls : List Line) (was : Option Row) (r : Row) → All (LineIn s) ls → (was ≡ some r → StandsIn s r)
+afterAll-stand : (s p : Bytes) (ls : List Line) (was : Option Row) (r : Row) → All (LineIn s) ls → ((x : Row) → was ≡ some x → StandsIn s x)
     → afterAll p ls was ≡ some r → StandsIn s r
 unfolding afterAll All
-afterAll-stand s p [] was r a k e = k e
-afterAll-stand s p (l ∷ ls) was r a k e = afterAll-stand s p ls (after (l .at) (l .size) p (l .does) was) r (a .1) (after-stand s p l was r (a .0) k) e
+afterAll-stand s p [] was r a k e = k r e
+afterAll-stand s p (l ∷ ls) was r a k e =
+    afterAll-stand s p ls (after (l .at) (l .size) p (l .does) was) r (a .1) (λ x. after-stand s p l was x (a .0) k) e
 
 -- in path order, each row is the one at its path
 rows-at : (rs : List Row) → InPathOrder rs → All (λ (r : Row). liveAt (pathOf r) rs ≡ some r) rs
@@ -282,11 +299,31 @@ state-stand s fs v st eb h =
     let q = read-from-the-highest (logOf fs) v (p .w) .0 (p .way-there) in
     let ls : All (LineIn s) (linesOn (p .w)) = from-stand s fs (bundle-stand s fs eb) (q .s) v (p .w) (q .begins) in
     All-weaken (λ (r : Row). liveAt (pathOf r) (st .live) ≡ some r) (StandsIn s) (st .live)
-    (λ r e. afterAll-stand s (pathOf r) (linesOn (p .w)) none r ls (λ n. apart (cc)) (sym (p .live (pathOf r)) ∙ e)) (rows-at (st .live) (p .in-order))
+    (λ r e. afterAll-stand s (pathOf r) (linesOn (p .w)) none r ls (λ x n. apart (cc)) (sym (p .live (pathOf r)) ∙ e)) (rows-at (st .live) (p .in-order))
 
 pub rows-stand-in-the-bundle : RowsStandInTheBundle
 rows-stand-in-the-bundle room s q asked l h =
     let a = reading-exactly room s q asked .no-0 l .0 h in
     let r = a .0 in
-    subst (λ (x : Listing). All (StandsIn s) (x .rows)) (a .3)
+    subst (λ (x : Listing). All (StandsIn s) (x .rows)) (a .4)
     (picked-all (StandsIn s) (r .opened .cs) (r .state .live) (state-stand s (r .opened .fs) _ (r .state) (r .opened .bundle-read) (r .state-read)))
+
+-- ---- the due files
+
+dueRows-all : (P : Row → Type 0) (time : ℕ) (rs : List Row) → All P rs → All P (dueRows time rs)
+unfolding dueRows keepIf All
+dueRows-all P time [] a = tt
+dueRows-all P time (r ∷ rs) a = go (isDue time (r .skip)) (dueRows-all P time rs (a .1))
+  where
+    go : (b : Bool) → All P (dueRows time rs) → All P (keepIf b r (dueRows time rs))
+    go true ih = (a .0, ih)
+    go false ih = ih
+
+pub due-rows-stand-in-the-bundle : DueRowsStandInTheBundle
+unfolding due dueListing
+due-rows-stand-in-the-bundle room s asked time l h =
+    let a = bind-accepted (reading room s (ascii "[]") asked) (λ m. accepted (dueListing time m)) h in
+    let e : accepted (dueListing time (a .0)) ≡ accepted l = a .2 in
+    let q : dueListing time (a .0) ≡ l = cc in
+    subst (λ (x : Listing). All (StandsIn s) (x .rows)) q
+    (dueRows-all (StandsIn s) time (a .0 .rows) (rows-stand-in-the-bundle room s (ascii "[]") asked (a .0) (a .1)))

@@ -9,9 +9,9 @@ use lib.ListN.{length}
 use Rattle.rules.specs.Bytes.{Bytes, same}
 use Rattle.rules.specs.Bundle.{File}
 use Rattle.rules.specs.Lines.{lines, anyObject}
-use Rattle.rules.specs.Actions.{Facts, MetaData, Protocol, Action, add, remove, protocol, metaData, mergeskip, other, action}
-use Rattle.rules.specs.Live.{mostLive, Row, pathOf, put, takeOut}
-use Rattle.rules.specs.History.{State, Origin, ofVersion, ofCheckpoint, Said, effect, act, readLine, readLines, readFile}
+use Rattle.rules.specs.Actions.{Facts, MetaData, Protocol, Skip, Action, add, remove, protocol, metaData, mergeskip, other, action}
+use Rattle.rules.specs.Live.{mostLive, Row, pathOf, skipped, put, takeOut, change}
+use Rattle.rules.specs.History.{State, Origin, ofVersion, ofCheckpoint, Said, added, effect, act, readLine, readLines, readFile}
 use Rattle.rules.specs.History.{saidNothing, sayTable, sayProtocol, say, zeroLines, orUnstated, readZero}
 use Rattle.rules.specs.Starts.{Way, fromZero, fromCheckpoint, andThen, nothingLive, follow}
 use Rattle.rules.specs.Reading.{stateWithin}
@@ -19,11 +19,12 @@ use Rattle.rules.specs.Refusals.{accepted, _>>=_, orRefuse, require, malformed,
 use Rattle.rules.proofs.Tests.{apart, by}
 use Rattle.rules.proofs.Order.{same-true, same-false}
 use Rattle.rules.specs.Keyed.{Ascends, lookup}
-use Rattle.rules.proofs.Live.{lookup-put, lookup-put-other, lookup-takeOut, lookup-takeOut-other}
+use Rattle.rules.proofs.Live.{lookup-put, lookup-put-other, lookup-takeOut, lookup-takeOut-other, none-lookup}
+use Rattle.rules.proofs.Changing.{change-none, lookup-change, lookup-change-other}
 use Rattle.rules.proofs.Replaying.{bind-accepted, withinLimit-accepted, act-accepted, effect-ascends, Ordered, stateBy-live}
 use Rattle.rules.proofs.Answers.{orRefuse-accepted}
 use Rattle.rules.proofs.Json.Suffix.{some-same}
-use Rattle.demands.specs.Replayed.{Line, linesFrom, linesIn, linesOn, actions, after, afterAll, liveAt, lastProtocol}
+use Rattle.demands.specs.Replayed.{Line, linesFrom, linesIn, linesOn, actions, withSkip, after, afterAll, liveAt, lastProtocol}
 use Rattle.demands.specs.Replayed.{protocolBefore, lastTable, tableBefore, tablesIn, ZeroSays, ReplaysExactly}
 
 -- ---- the live file at a path
@@ -39,12 +40,12 @@ liveAt-lookup p (r ∷ rs) = go (same p (pathOf r)) (liveAt-lookup p rs)
     go false ih = ih
 
 liveAt-put : (p : Bytes) (at size : ℕ) (f : Facts) (rs : List Row)
-    → liveAt p (put pathOf (record { at = at; size = size; facts = f }) rs) ≡ after at size p (add f) (liveAt p rs)
-unfolding after pathOf
+    → liveAt p (put pathOf (added at size f) rs) ≡ after at size p (add f) (liveAt p rs)
+unfolding after pathOf added
 liveAt-put p at size f rs = by (same p (f .path)) here there
   where
     r : Row
-    r = record { at = at; size = size; facts = f }
+    r = added at size f
 
     here : same p (f .path) ≡ true → liveAt p (put pathOf r rs) ≡ after at size p (add f) (liveAt p rs)
     here e =
@@ -71,13 +72,36 @@ liveAt-takeOut p at size q rs s = by (same p q) here there
     there : same p q ≡ false → liveAt p (takeOut pathOf q rs) ≡ after at size p (remove q) (liveAt p rs)
     there e = rw (after, e) (liveAt-lookup p (takeOut pathOf q rs) ∙ lookup-takeOut-other pathOf p q rs (same-false p q e) ∙ sym (liveAt-lookup p rs))
 
+liveAt-change : (p : Bytes) (at size : ℕ) (q : Bytes) (k : Skip) (rs : List Row)
+    → liveAt p (change pathOf q (skipped k) rs) ≡ after at size p (mergeskip q k) (liveAt p rs)
+unfolding after withSkip pathOf skipped
+liveAt-change p at size q k rs = by (same p q) here there
+  where
+    found : (o : Option Row) → lookup pathOf q rs ≡ o → lookup pathOf q (change pathOf q (skipped k) rs) ≡ withSkip k o
+    found none e = ap (lookup pathOf q) (change-none pathOf q (skipped k) rs (none-lookup pathOf q rs e)) ∙ e
+    found (some r) e = lookup-change pathOf q (skipped k) (λ x. refl) rs r e
+
+    here : same p q ≡ true → liveAt p (change pathOf q (skipped k) rs) ≡ after at size p (mergeskip q k) (liveAt p rs)
+    here e =
+        let f : p ≡ q = same-true p q e in
+        let there : lookup pathOf p (change pathOf q (skipped k) rs) ≡ withSkip k (lookup pathOf p rs) =
+        subst (λ (x : Bytes). lookup pathOf x (change pathOf q (skipped k) rs) ≡ withSkip k (lookup pathOf x rs)) (sym f) (found (lookup pathOf q rs) refl) in
+        rw (after, e) (liveAt-lookup p (change pathOf q (skipped k) rs) ∙ there ∙ ap (withSkip k) (sym (liveAt-lookup p rs)))
+
+    there : same p q ≡ false → liveAt p (change pathOf q (skipped k) rs) ≡ after at size p (mergeskip q k) (liveAt p rs)
+    there e =
+        rw (after, e)
+        (liveAt-lookup p (change pathOf q (skipped k) rs)
+        ∙ lookup-change-other pathOf q (skipped k) (λ x. refl) p rs (same-false p q e)
+        ∙ sym (liveAt-lookup p rs))
+
 effect-live : (p : Bytes) (at size : ℕ) (a : Action) (st : State) → Ordered st → liveAt p (effect at size a st .live) ≡ after at size p a (liveAt p (st .live))
 unfolding effect after
 effect-live p at size (add f) st s = liveAt-put p at size f (st .live)
 effect-live p at size (remove q) st s = liveAt-takeOut p at size q (st .live) s
 effect-live p at size (protocol x) st s = refl
 effect-live p at size (metaData m) st s = refl
-effect-live p at size mergeskip st s = refl
+effect-live p at size (mergeskip q k) st s = liveAt-change p at size q k (st .live)
 effect-live p at size other st s = refl
 
 effect-protocol : (at size : ℕ) (a : Action) (acts : List Action) (st : State)
@@ -87,7 +111,7 @@ effect-protocol at size (add f) acts st = refl
 effect-protocol at size (remove q) acts st = refl
 effect-protocol at size (protocol x) acts st = refl
 effect-protocol at size (metaData m) acts st = refl
-effect-protocol at size mergeskip acts st = refl
+effect-protocol at size (mergeskip q k) acts st = refl
 effect-protocol at size other acts st = refl
 
 effect-table : (at size : ℕ) (a : Action) (acts : List Action) (st : State) → lastTable acts (effect at size a st .table) ≡ lastTable (a ∷ acts) (st .table)
@@ -96,7 +120,7 @@ effect-table at size (add f) acts st = refl
 effect-table at size (remove q) acts st = refl
 effect-table at size (protocol x) acts st = refl
 effect-table at size (metaData m) acts st = refl
-effect-table at size mergeskip acts st = refl
+effect-table at size (mergeskip q k) acts st = refl
 effect-table at size other acts st = refl
 
 -- ---- lines, files and ways
@@ -172,7 +196,7 @@ lastProtocol-append (add f ∷ acts) bs was = lastProtocol-append acts bs was
 lastProtocol-append (remove q ∷ acts) bs was = lastProtocol-append acts bs was
 lastProtocol-append (protocol p ∷ acts) bs was = lastProtocol-append acts bs p
 lastProtocol-append (metaData m ∷ acts) bs was = lastProtocol-append acts bs was
-lastProtocol-append (mergeskip ∷ acts) bs was = lastProtocol-append acts bs was
+lastProtocol-append (mergeskip q k ∷ acts) bs was = lastProtocol-append acts bs was
 lastProtocol-append (other ∷ acts) bs was = lastProtocol-append acts bs was
 
 lastTable-append : (acts bs : List Action) (was : MetaData) → lastTable (acts ++ bs) was ≡ lastTable bs (lastTable acts was)
@@ -182,7 +206,7 @@ lastTable-append (add f ∷ acts) bs was = lastTable-append acts bs was
 lastTable-append (remove q ∷ acts) bs was = lastTable-append acts bs was
 lastTable-append (protocol p ∷ acts) bs was = lastTable-append acts bs was
 lastTable-append (metaData m ∷ acts) bs was = lastTable-append acts bs m
-lastTable-append (mergeskip ∷ acts) bs was = lastTable-append acts bs was
+lastTable-append (mergeskip q k ∷ acts) bs was = lastTable-append acts bs was
 lastTable-append (other ∷ acts) bs was = lastTable-append acts bs was
 
 -- along a way, from where nothing is live
@@ -258,7 +282,7 @@ say-goes (metaData m) left s next e = go (s .ofTable) e
         (some-same e)
         (refl, refl)
     go (some n) e = apart (cc)
-say-goes mergeskip left s next e = apart (cc)
+say-goes (mergeskip q k) left s next e = apart (cc)
 say-goes other left s next e =
     subst
     (λ (n : Said). (listOf (n .ofTable) ++ tablesIn left ≡ listOf (s .ofTable) ++ tablesIn left)

@@ -80,9 +80,10 @@ kind line = go (isLine line) refl (action line) refl
       where
         differ : {f : Facts} → _≡_ {A = Option Action} (some (metaData m)) (some (add f)) → ⊥
         differ q = apart (cc)
-    go true l (some mergeskip) e = no-add (λ f h. differ (sym e ∙ h .1)) (shown-by line (some mergeskip) l e .0) (shown-by line (some mergeskip) l e .1)
+    go true l (some (mergeskip p k)) e =
+        no-add (λ f h. differ (sym e ∙ h .1)) (shown-by line (some (mergeskip p k)) l e .0) (shown-by line (some (mergeskip p k)) l e .1)
       where
-        differ : {f : Facts} → _≡_ {A = Option Action} (some mergeskip) (some (add f)) → ⊥
+        differ : {f : Facts} → _≡_ {A = Option Action} (some (mergeskip p k)) (some (add f)) → ⊥
         differ q = apart (cc)
     go true l (some other) e = no-add (λ f h. differ (sym e ∙ h .1)) (shown-by line (some other) l e .0) (shown-by line (some other) l e .1)
       where

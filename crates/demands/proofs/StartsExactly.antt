@@ -22,7 +22,7 @@ isTable-said (some (add f)) e = apart (cc)
 isTable-said (some (remove p)) e = apart (cc)
 isTable-said (some (protocol p)) e = apart (cc)
 isTable-said (some (metaData m)) e = (m, refl)
-isTable-said (some mergeskip) e = apart (cc)
+isTable-said (some (mergeskip p k)) e = apart (cc)
 isTable-said (some other) e = apart (cc)
 
 record Among (ls : List Bytes) : Type 0 where

@@ -1,17 +1,21 @@
--- The paper's words and the rules' tests: too large, unknown, foreign.
-use mathlib.Core.Path.{_≡_, refl}
+-- The paper's words and the rules' tests: too large, unknown, foreign, out of range.
+use mathlib.Core.Path.{_≡_, refl, ap, _∙_}
 use mathlib.Core.Logic.{inl, inr}
 use mathlib.Core.Bool.{Bool, true, false, _&&_}
+use mathlib.Core.Option.{Option, none, some}
 use mathlib.Core.List.{List, [], _∷_}
 use Rattle.rules.specs.Bytes.{Bytes, holds, allAmong, sameSet, firsts}
 use Rattle.rules.specs.Bundle.{File}
 use Rattle.rules.specs.Names.{Name, version, checkpoint, marker, other, tooLarge, nameOf, isTooLarge, anyTooLarge}
-use Rattle.rules.specs.Actions.{MetaData, Action, add, remove, protocol, metaData, mergeskip, other as another}
+use Rattle.rules.specs.Actions.{Facts, MetaData, Action, add, remove, protocol, metaData, mergeskip, other as another}
+use Rattle.rules.specs.Live.{Row}
+use Rattle.rules.specs.Query.{Number, number, outOfRange, notNumber, numberOf, isOutOfRange, As, asText, asNumber, Condition}
+use Rattle.rules.specs.Picking.{valueAt, outOfAs, outOf, anyOutOf, inRangeAll}
 use Rattle.rules.specs.History.{Origin, ofVersion, ofCheckpoint, fits}
 use Rattle.rules.proofs.Tests.{apart, true-not-false, true-of, false-of, and-left, and-right}
 use Rattle.rules.proofs.Holding.{holds-head, holds-tail, allAmong-holds}
 use Rattle.demands.specs.Met.{Unknown, Foreign, other-key, missing-key}
-use Rattle.demands.specs.Exactly.{SomeTooLarge}
+use Rattle.demands.specs.Exactly.{SomeTooLarge, OutOf, AnyOutOf, SomeOutOf}
 
 -- ---- a version in a name is too large
 
@@ -82,7 +86,7 @@ fits-foreign ofVersion (add f) m h =
 fits-foreign ofVersion (remove p) m h = apart (cc)
 fits-foreign ofVersion (protocol p) m h = apart (cc)
 fits-foreign ofVersion (metaData n) m h = apart (cc)
-fits-foreign ofVersion mergeskip m h = apart (cc)
+fits-foreign ofVersion (mergeskip p k) m h = apart (cc)
 fits-foreign ofVersion another m h = apart (cc)
 fits-foreign ofCheckpoint a m h = apart (cc)
 
@@ -102,3 +106,75 @@ none-foreign-fits of a m h = true-of (fits of a m) (λ e. h (fits-foreign of a m
 
 pub fits-none-foreign : (of : Origin) (a : Action) (m : MetaData) → fits of a m ≡ true → Foreign of a m → ⊥
 fits-none-foreign of a m e h = true-not-false e (foreign-fits of a m h)
+
+-- ---- a value out of range
+
+isOutOfRange-true : (n : Number) → isOutOfRange n ≡ true → n ≡ outOfRange
+unfolding isOutOfRange
+isOutOfRange-true (number z) e = apart (cc)
+isOutOfRange-true outOfRange e = refl
+isOutOfRange-true notNumber e = apart (cc)
+
+outOfAs-true : (k : As) (x : Bytes) → outOfAs k x ≡ true → (k ≡ asNumber) × (numberOf x ≡ outOfRange)
+unfolding outOfAs
+outOfAs-true asText x e = apart (cc)
+outOfAs-true asNumber x e = (refl, isOutOfRange-true (numberOf x) e)
+
+outOf-words : (c : Condition) (f : Facts) → outOf c (valueAt (c .column) (f .partitionValues)) ≡ true → OutOf c f
+unfolding outOf
+outOf-words c f h = go (valueAt (c .column) (f .partitionValues)) refl h
+  where
+    go : (o : Option (Option Bytes)) → valueAt (c .column) (f .partitionValues) ≡ o → outOf c o ≡ true → OutOf c f
+    go none e h = apart (cc)
+    go (some none) e h = apart (cc)
+    go (some (some x)) e h = let p = outOfAs-true (c .kind) x h in (p .0, (x, e, p .1))
+
+words-outOf : (c : Condition) (f : Facts) → OutOf c f → outOf c (valueAt (c .column) (f .partitionValues)) ≡ true
+unfolding outOf outOfAs isOutOfRange
+words-outOf c f (k, (x, e, n)) = ap (outOf c) e ∙ ap (λ (y : As). outOfAs y x) k ∙ ap isOutOfRange n
+
+anyOutOf-words : (cs : List Condition) (f : Facts) → anyOutOf cs f ≡ true → AnyOutOf cs f
+unfolding anyOutOf
+anyOutOf-words [] f h = apart (cc)
+anyOutOf-words (c ∷ cs) f h = go (outOf c (valueAt (c .column) (f .partitionValues))) refl h (anyOutOf-words cs f)
+  where
+    go : (b : Bool) → outOf c (valueAt (c .column) (f .partitionValues)) ≡ b → elim b [ true ↦ true | false ↦ anyOutOf cs f ] ≡ true
+        → (anyOutOf cs f ≡ true → AnyOutOf cs f) → AnyOutOf (c ∷ cs) f
+    go true e h ih = inl (outOf-words c f e)
+    go false e h ih = inr (ih h)
+
+words-anyOutOf : (cs : List Condition) (f : Facts) → AnyOutOf cs f → anyOutOf cs f ≡ true
+unfolding anyOutOf
+words-anyOutOf [] f h = absurd h
+words-anyOutOf (c ∷ cs) f (inl e) = rw (anyOutOf, words-outOf c f e)
+words-anyOutOf (c ∷ cs) f (inr h) = go (outOf c (valueAt (c .column) (f .partitionValues))) (words-anyOutOf cs f h)
+  where
+    go : (b : Bool) → anyOutOf cs f ≡ true → elim b [ true ↦ true | false ↦ anyOutOf cs f ] ≡ true
+    go true e = refl
+    go false e = e
+
+pub inRangeAll-words : (cs : List Condition) (rs : List Row) → inRangeAll cs rs ≡ false → SomeOutOf cs rs
+unfolding inRangeAll
+inRangeAll-words cs [] h = apart (cc)
+inRangeAll-words cs (r ∷ rs) h = go (anyOutOf cs (r .facts)) refl h (inRangeAll-words cs rs)
+  where
+    go : (b : Bool) → anyOutOf cs (r .facts) ≡ b → elim b [ true ↦ false | false ↦ inRangeAll cs rs ] ≡ false
+        → (inRangeAll cs rs ≡ false → SomeOutOf cs rs) → SomeOutOf cs (r ∷ rs)
+    go true e h ih = inl (anyOutOf-words cs (r .facts) e)
+    go false e h ih = inr (ih h)
+
+pub words-inRangeAll : (cs : List Condition) (rs : List Row) → SomeOutOf cs rs → inRangeAll cs rs ≡ false
+unfolding inRangeAll
+words-inRangeAll cs [] h = absurd h
+words-inRangeAll cs (r ∷ rs) (inl h) = rw (inRangeAll, words-anyOutOf cs (r .facts) h)
+words-inRangeAll cs (r ∷ rs) (inr h) = go (anyOutOf cs (r .facts)) (words-inRangeAll cs rs h)
+  where
+    go : (b : Bool) → inRangeAll cs rs ≡ false → elim b [ true ↦ false | false ↦ inRangeAll cs rs ] ≡ false
+    go true e = refl
+    go false e = e
+
+pub none-inRangeAll : (cs : List Condition) (rs : List Row) → (SomeOutOf cs rs → ⊥) → inRangeAll cs rs ≡ true
+none-inRangeAll cs rs h = true-of (inRangeAll cs rs) (λ e. h (inRangeAll-words cs rs e))
+
+pub inRangeAll-none : (cs : List Condition) (rs : List Row) → inRangeAll cs rs ≡ true → SomeOutOf cs rs → ⊥
+inRangeAll-none cs rs e h = true-not-false e (words-inRangeAll cs rs h)

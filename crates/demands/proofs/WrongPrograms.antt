@@ -20,7 +20,7 @@ use Rattle.demands.specs.WrongPrograms.{NoneKeepsThePromise, removedAndA
 
 -- ---- what is looked at
 
-countIn : Answer Told → Option ℕ
+unfoldable pub countIn : Answer Told → Option ℕ
 countIn (accepted t) = some (t .count)
 countIn (refused r) = none
 
@@ -82,7 +82,7 @@ size-sevens = refl
 
 -- ---- a program that keeps the promise, in that room
 
-length-sevens : length sevens ≡ rowsRoom
+pub length-sevens : length sevens ≡ rowsRoom
 unfolding sevens
 length-sevens = length-replicate rowsRoom 7
 

@@ -7,7 +7,8 @@ use Prim.Native.Nat.{ℕ, _-_}
 use lib.ListN.{length, take, drop, replicate}
 use Rattle.rules.specs.Bytes.{Bytes}
 use Rattle.rules.specs.Rooms.{Room, rowsRoom, keptRoom, namesRoom, rowsNumbers}
-use Rattle.rules.specs.Reading.{Asked, Listing, reading, roomAfterReading}
+use Rattle.rules.specs.Reading.{Asked, theLatest, Listing, reading, roomAfterReading}
+use Rattle.rules.specs.Due.{due}
 use Rattle.rules.specs.Keeping.{keeping, roomAfterKeeping}
 use Rattle.rules.specs.Cleaning.{Lent, cleaning, namesAfterCleaning, tableAfterCleaning}
 use Rattle.rules.specs.Refusals.{Refusal, Answer, accepted, refused}
@@ -26,7 +27,11 @@ pub data Ends {A : Type 0} (numbers : List ℕ) : Answer A → Type 0 where
 
 -- by number and the latest
 abbrev pub ReadingEnds : Type 0
-ReadingEnds = (room : ℕ) (s q : Bytes) (asked : Asked) → Ends (1 ∷ 10 ∷ 2 ∷ 3 ∷ 4 ∷ 5 ∷ 6 ∷ 21 ∷ 7 ∷ 8 ∷ 9 ∷ 11 ∷ []) (reading room s q asked)
+ReadingEnds = (room : ℕ) (s q : Bytes) (asked : Asked) → Ends (1 ∷ 10 ∷ 2 ∷ 3 ∷ 4 ∷ 5 ∷ 6 ∷ 21 ∷ 7 ∷ 8 ∷ 9 ∷ 11 ∷ 18 ∷ []) (reading room s q asked)
+
+-- the files due for a second merge, at the latest version; it has no query, and the latest is always kept
+abbrev pub DueEnds : Type 0
+DueEnds = (room : ℕ) (s : Bytes) (time : ℕ) → Ends (1 ∷ 2 ∷ 3 ∷ 4 ∷ 6 ∷ 21 ∷ 7 ∷ 8 ∷ 9 ∷ []) (due room s theLatest time)
 
 abbrev pub KeepingEnds : Type 0
 KeepingEnds = (room : ℕ) (state q : Bytes) → Ends (1 ∷ 10 ∷ 14 ∷ 15 ∷ []) (keeping room state q)
@@ -49,6 +54,12 @@ ReadingRoomEnds =
     (room : Room) (s q : Bytes) (asked : Asked)
     → RoomEnds rowsRoom (λ (l : Listing). rowsNumbers (l .rows)) (reading (length room) s q asked) room
     (roomAfterReading (reading (length room) s q asked) room)
+
+abbrev pub DueRoomEnds : Type 0
+DueRoomEnds =
+    (room : Room) (s : Bytes) (asked : Asked) (time : ℕ)
+    → RoomEnds rowsRoom (λ (l : Listing). rowsNumbers (l .rows)) (due (length room) s asked time) room
+    (roomAfterReading (due (length room) s asked time) room)
 
 abbrev pub KeepingRoomEnds : Type 0
 KeepingRoomEnds =

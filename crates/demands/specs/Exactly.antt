@@ -8,18 +8,20 @@ use lib.ListN.{length}
 use Rattle.rules.specs.Bytes.{Bytes}
 use Rattle.rules.specs.Bundle.{File, bundle}
 use Rattle.rules.specs.Names.{tooLarge, nameOf}
-use Rattle.rules.specs.Actions.{Protocol}
+use Rattle.rules.specs.Actions.{Facts, Protocol}
+use Rattle.rules.specs.Live.{Row}
 use Rattle.rules.specs.History.{State}
 use Rattle.rules.specs.Starts.{Log, logOf, Way, wayTo}
 use Rattle.rules.specs.Gate.{knownReader, readerNames, writable}
-use Rattle.rules.specs.Query.{Condition, columnOf, query}
-use Rattle.rules.specs.Picking.{picked}
+use Rattle.rules.specs.Query.{outOfRange, numberOf, asNumber, Condition, columnOf, query}
+use Rattle.rules.specs.Picking.{valueAt, picked}
 use Rattle.rules.specs.Manifests.{Manifest, manifests, mostManifests, keptFrom}
 use Rattle.rules.specs.Rooms.{rowsRoom, keptRoom}
 use Rattle.rules.specs.Reading.{Asked, versionAsked, Listing, stateBy, reading}
 use Rattle.rules.specs.Keeping.{keeping}
 use Rattle.rules.specs.Refusals.{accepted, refused, roomTooShort, bundleMalformed, versionTooLarge, noVersionZero, notKept, malformed}
-use Rattle.rules.specs.Refusals.{foreignKeys, tooManyLive, readerTooHigh, unknownFeature, queryMalformed, noSuchColumn, stateMalformed, tooManyManifests}
+use Rattle.rules.specs.Refusals.{foreignKeys, tooManyLive, readerTooHigh, unknownFeature, queryMalformed, noSuchColumn}
+use Rattle.rules.specs.Refusals.{valueOutOfRange, stateMalformed, tooManyManifests}
 use Rattle.demands.specs.Reaching.{There, NoStart}
 use Rattle.demands.specs.Met.{Unknown, Met}
 
@@ -33,6 +35,19 @@ SomeTooLarge (f ∷ fs) = (nameOf (f .name) ≡ tooLarge) ⊎ SomeTooLarge fs
 -- minReaderVersion at most 3, reader features all among the four
 abbrev pub Readable : Protocol → Type 0
 Readable p = (p .minReaderVersion ≤ knownReader) × (Unknown readerNames (p .readerFeatures) → ⊥)
+
+-- under a condition that reads numbers, the file's value has the shape of a number and is beyond the ends of the range
+abbrev pub OutOf : Condition → Facts → Type 0
+OutOf c f = (c .kind ≡ asNumber) × ((x : Bytes) × (valueAt (c .column) (f .partitionValues) ≡ some (some x)) × (numberOf x ≡ outOfRange))
+
+abbrev pub AnyOutOf : List Condition → Facts → Type 0
+AnyOutOf [] f = ⊥
+AnyOutOf (c ∷ cs) f = OutOf c f ⊎ AnyOutOf cs f
+
+-- of any of the files, picked or not
+abbrev pub SomeOutOf : List Condition → List Row → Type 0
+SomeOutOf cs [] = ⊥
+SomeOutOf cs (r ∷ rs) = AnyOutOf cs (r .facts) ⊎ SomeOutOf cs rs
 
 -- ---- reading, as far as it has come
 
@@ -98,8 +113,12 @@ pub record ReadingExactly (room : ℕ) (s q : Bytes) (asked : Asked) : Type 0 wh
       ↔ ((r : Read room s q asked) × (r .state .inForce .minReaderVersion ≤ knownReader) × Unknown readerNames (r .state .inForce .readerFeatures))
   pub no-11 : (reading room s q asked ≡ refused noSuchColumn)
       ↔ ((r : Read room s q asked) × Readable (r .state .inForce) × Unknown (r .state .table .partitionColumns) (columnsAsked r))
+  pub no-18 : (reading room s q asked ≡ refused valueOutOfRange)
+      ↔ ((r : Read room s q asked) × Readable (r .state .inForce) × (Unknown (r .state .table .partitionColumns) (columnsAsked r) → ⊥)
+      × SomeOutOf (r .opened .cs) (r .state .live))
   pub no-0 : (l : Listing) → (reading room s q asked ≡ accepted l)
-      ↔ ((r : Read room s q asked) × Readable (r .state .inForce) × (Unknown (r .state .table .partitionColumns) (columnsAsked r) → ⊥) × (answerOf r ≡ l))
+      ↔ ((r : Read room s q asked) × Readable (r .state .inForce) × (Unknown (r .state .table .partitionColumns) (columnsAsked r) → ⊥)
+      × (SomeOutOf (r .opened .cs) (r .state .live) → ⊥) × (answerOf r ≡ l))
 
 abbrev pub ReadingRefusesExactly : Type 0
 ReadingRefusesExactly = (room : ℕ) (s q : Bytes) (asked : Asked) → ReadingExactly room s q asked

@@ -9,15 +9,17 @@ use Rattle.rules.specs.Bundle.{File, bundle}
 use Rattle.rules.specs.Starts.{logOf}
 use Rattle.rules.specs.Marker.{marked, orZero}
 use Rattle.rules.specs.Reading.{theLatest, theVersion, reading}
+use Rattle.rules.specs.Due.{due}
 use Rattle.rules.specs.Cleaning.{Lent, cleaning}
 use Rattle.rules.specs.Same.{SameListing, SameAnswer}
 use Rattle.rules.specs.Refusals.{accepted}
 use Rattle.demands.specs.Removed.{Without, Named}
 
--- every query in every room is answered from t as from s, at the versions from c upward and at the latest
+-- every query in every room is answered from t as from s, at the versions from c upward and at the latest; so are the due files of the latest
 pub record KeepsAnswers (c : ℕ) (s t : Bytes) : Type 0 where
   pub by-number : (room : ℕ) (q : Bytes) (v : ℕ) → c ≤ v → SameAnswer SameListing (reading room s q (theVersion v)) (reading room t q (theVersion v))
   pub the-latest : (room : ℕ) (q : Bytes) → SameAnswer SameListing (reading room s q theLatest) (reading room t q theLatest)
+  pub due : (room time : ℕ) → SameAnswer SameListing (due room s theLatest time) (due room t theLatest time)
 
 -- the cleaner's checkpoint is the usable marker's; without a usable marker nothing is named, and all versions keep their answers
 abbrev pub checkpointOf : List File → ℕ

@@ -9,10 +9,12 @@ pub mod Ending
 pub mod Showing
 pub mod Met
 pub mod Exactly
+pub mod Due
 pub mod CleaningExactly
 pub mod Replayed
 pub mod Places
 pub mod Choosing
 pub mod Skipping
 pub mod WrongPrograms
+pub mod WrongListings
 pub mod Demands

@@ -7,6 +7,7 @@ use Rattle.facts.specs.Lists.{All}
 use Rattle.rules.specs.Bytes.{Bytes}
 use Rattle.rules.specs.Live.{Row}
 use Rattle.rules.specs.Reading.{Asked, Listing, reading}
+use Rattle.rules.specs.Due.{due}
 use Rattle.rules.specs.Refusals.{accepted}
 use Rattle.demands.specs.Showing.{IsAdd}
 
@@ -22,3 +23,6 @@ pub record StandsIn (s : Bytes) (r : Row) : Type 0 where
 
 abbrev pub RowsStandInTheBundle : Type 0
 RowsStandInTheBundle = (room : ℕ) (s q : Bytes) (asked : Asked) (l : Listing) → reading room s q asked ≡ accepted l → All (StandsIn s) (l .rows)
+
+abbrev pub DueRowsStandInTheBundle : Type 0
+DueRowsStandInTheBundle = (room : ℕ) (s : Bytes) (asked : Asked) (time : ℕ) (l : Listing) → due room s asked time ≡ accepted l → All (StandsIn s) (l .rows)

@@ -10,7 +10,7 @@ use Rattle.facts.specs.Lists.{All}
 use Rattle.rules.specs.Bytes.{Bytes, less, order, same}
 use Rattle.rules.specs.Bundle.{File}
 use Rattle.rules.specs.Lines.{lines}
-use Rattle.rules.specs.Actions.{MetaData, Protocol, unstated, Action, add, remove, protocol, metaData, mergeskip, other, action}
+use Rattle.rules.specs.Actions.{MetaData, Protocol, unstated, Skip, noSkip, Action, add, remove, protocol, metaData, mergeskip, other, action}
 use Rattle.rules.specs.Live.{mostLive, Row, pathOf}
 use Rattle.rules.specs.History.{State, noTable}
 use Rattle.rules.specs.Starts.{Log, Way, fromZero, fromCheckpoint, andThen}
@@ -50,15 +50,21 @@ actions (l ∷ ls) = l .does ∷ actions ls
 
 -- ---- the live file at a path
 
+-- the same file, of which a mergeskip line says this
+unfoldable pub withSkip : Skip → Option Row → Option Row
+withSkip k none = none
+withSkip k (some r) = some (record { at = r .at; size = r .size; facts = r .facts; skip = k })
+
 -- what the action of a line at `at`, of `size` bytes, does to it
 module _ (at size : ℕ) where
-  -- an add puts its path into the live set or replaces the entry there, with its line's place and length; a remove takes its path out, if there
+  -- an add puts its path into the live set or replaces the entry there, with its line's place and length, and clears skip count and retry time;
+  -- a remove takes its path out, if there; a mergeskip sets both, if its path is there
   unfoldable pub after : Bytes → Action → Option Row → Option Row
-  after p (add f) was = elim (same p (f .path)) [ true ↦ some (record { at = at; size = size; facts = f }) | false ↦ was ]
+  after p (add f) was = elim (same p (f .path)) [ true ↦ some (record { at = at; size = size; facts = f; skip = noSkip }) | false ↦ was ]
   after p (remove q) was = elim (same p q) [ true ↦ none | false ↦ was ]
   after p (protocol x) was = was
   after p (metaData m) was = was
-  after p mergeskip was = was
+  after p (mergeskip q k) was = elim (same p q) [ true ↦ withSkip k was | false ↦ was ]
   after p other was = was
 
 unfoldable pub afterAll : Bytes → List Line → Option Row → Option Row
@@ -82,7 +88,7 @@ lastProtocol (add f ∷ acts) was = lastProtocol acts was
 lastProtocol (remove q ∷ acts) was = lastProtocol acts was
 lastProtocol (protocol p ∷ acts) was = lastProtocol acts p
 lastProtocol (metaData m ∷ acts) was = lastProtocol acts was
-lastProtocol (mergeskip ∷ acts) was = lastProtocol acts was
+lastProtocol (mergeskip q k ∷ acts) was = lastProtocol acts was
 lastProtocol (other ∷ acts) was = lastProtocol acts was
 
 -- a checkpoint's lines are applied to protocol (1, 1)
@@ -99,7 +105,7 @@ lastTable (add f ∷ acts) was = lastTable acts was
 lastTable (remove q ∷ acts) was = lastTable acts was
 lastTable (protocol p ∷ acts) was = lastTable acts was
 lastTable (metaData m ∷ acts) was = lastTable acts m
-lastTable (mergeskip ∷ acts) was = lastTable acts was
+lastTable (mergeskip q k ∷ acts) was = lastTable acts was
 lastTable (other ∷ acts) was = lastTable acts was
 
 -- a checkpoint brings its own
@@ -116,7 +122,7 @@ tablesIn (add f ∷ acts) = tablesIn acts
 tablesIn (remove q ∷ acts) = tablesIn acts
 tablesIn (protocol p ∷ acts) = tablesIn acts
 tablesIn (metaData m ∷ acts) = m ∷ tablesIn acts
-tablesIn (mergeskip ∷ acts) = tablesIn acts
+tablesIn (mergeskip q k ∷ acts) = tablesIn acts
 tablesIn (other ∷ acts) = tablesIn acts
 
 -- exactly one metaData; the protocol, or (1, 1) without one; nothing is live

@@ -2,24 +2,30 @@
 use mathlib.Core.Path.{_≡_, refl, sym, _∙_, ap, subst}
 use mathlib.Core.Logic.{_⊎_, inl, inr, _↔_}
 use mathlib.Core.Bool.{Bool, true}
-use mathlib.Core.List.{List, []}
-use Prim.Native.Nat.{ℕ}
-use lib.ListN.{length, take}
-use Rattle.rules.specs.Bytes.{Bytes}
+use mathlib.Core.List.{List, [], _++_}
+use Prim.Native.Nat.{ℕ, _-_}
+use lib.ListN.{length, take, replicate}
+use Rattle.facts.specs.Lists.{All}
+use Rattle.rules.specs.Bytes.{Bytes, ascii}
+use Rattle.rules.specs.Actions.{Protocol}
+use Rattle.rules.specs.Live.{Row}
 use Rattle.rules.specs.Starts.{logOf, wayTo}
-use Rattle.rules.specs.Picking.{picked}
-use Rattle.rules.specs.Rooms.{Room, rowsRoom, keptRoom, namesRoom}
-use Rattle.rules.specs.Reading.{Asked, versionAsked, Told, told, reading, roomAfterReading}
+use Rattle.rules.specs.Gate.{writable}
+use Rattle.rules.specs.Rooms.{Room, rowsRoom, keptRoom, namesRoom, rowsNumbers}
+use Rattle.rules.specs.Reading.{Asked, theLatest, versionAsked, Told, told, reading}
 use Rattle.rules.specs.Reading.{Listing as Ruled}
+use Rattle.rules.specs.Due.{due}
 use Rattle.rules.specs.Keeping.{keeping, roomAfterKeeping}
 use Rattle.rules.specs.Cleaning.{named, cleaning, namesAfterCleaning}
 use Rattle.rules.specs.Same.{SameState}
-use Rattle.rules.specs.Refusals.{accepted}
+use Rattle.rules.specs.Refusals.{Answer, accepted}
 use Rattle.rules.proofs.Answers.{accepted-same}
 use Rattle.rules.proofs.Telling.{told-accepted}
-use Rattle.demands.specs.Exactly.{Readable, Read, answerOf}
+use Rattle.demands.specs.Exactly.{Readable, versionIn, Read, answerOf}
 use Rattle.demands.specs.CleaningExactly.{NotWritable, NothingToName, Begun, Compared, Names}
-use Rattle.demands.specs.Choosing.{Keeps}
+use Rattle.demands.specs.Choosing.{Picks, Keeps}
+use Rattle.demands.specs.Due.{DueOf}
+use Rattle.demands.specs.Places.{StandsIn}
 use Rattle.demands.specs.Replayed.{StateSays}
 use Rattle.demands.proofs.Exactly.{reading-exactly}
 use Rattle.demands.proofs.KeepingExactly.{keeping-exactly}
@@ -27,16 +33,17 @@ use Rattle.demands.proofs.CleaningExactly.{cleaning-exactly}
 use Rattle.demands.proofs.CleaningWords.{named-exactly}
 use Rattle.demands.proofs.Choosing.{picks-exactly, keeps-exactly, writable-exactly}
 use Rattle.demands.proofs.Replayed.{replays-exactly}
-use Rattle.demands.proofs.Places.{rows-stand-in-the-bundle}
-use Rattle.demands.proofs.LentRooms.{reading-room-ends}
-use Rattle.reading.specs.Answers.{readIs, ReadIs}
+use Rattle.demands.proofs.Places.{rows-stand-in-the-bundle, due-rows-stand-in-the-bundle}
+use Rattle.demands.proofs.LentRooms.{reading-room-ends, due-room-ends}
+use Rattle.demands.proofs.Due.{due-exactly}
+use Rattle.reading.specs.Answers.{readIs, AnswerIs, ReadIs, DueIs}
 use Rattle.reading.specs.declared.Listing.{Listing}
 use Rattle.reading.specs.declared.Read.the-variants.{Listed}
 use Rattle.cleaning.specs.Answers.{cleanedIs, lent, CleanIs}
 use Rattle.cleaning.specs.declared.Cleaned.the-variants.{Named}
 use Rattle.manifests.specs.Rooms.{keptIs, KeepIs}
 use Rattle.manifests.specs.declared.keeping.Kept.the-variants.{Numbers}
-use Rattle.demands_upheld.specs.Answering.{ListsExactly, KeepsExactly, NamesExactly, nothing, files}
+use Rattle.demands_upheld.specs.Answering.{Lists, ListsExactly, DueExactly, KeepsExactly, NamesExactly, nothing, files}
 use Rattle.demands_upheld.proofs.Ending.{counted-front}
 
 -- ---- reading
@@ -61,42 +68,61 @@ tells l m e =
       verdict = ap (λ (t : Told). t .canWrite) same;
     }
 
-listed-ruled : (s q : Bytes) (asked : Asked) (room after : Room) (l : Listing) → ReadIs s q asked room after (Listed l)
-    → (m : Ruled) × (reading (length room) s q asked ≡ accepted m) × Tells l m
+listed-ruled : (o : Answer Ruled) (room after : Room) (l : Listing) → AnswerIs o room after (Listed l) → (m : Ruled) × (o ≡ accepted m) × Tells l m
 unfolding readIs
-listed-ruled s q asked room after l c =
-    let m = told-accepted (reading (length room) s q asked) _ (sym (c .answer)) in
+listed-ruled o room after l c =
+    let m = told-accepted o _ (sym (c .answer)) in
     (m .0, m .1, tells l (m .0) (sym (m .2)))
 
-lists-by : (s q : Bytes) (asked : Asked) (room after : Room) (l : Listing) (d : Read (length room) s q asked)
-    → after ≡ roomAfterReading (reading (length room) s q asked) room → reading (length room) s q asked ≡ accepted (answerOf d)
-    → Tells l (answerOf d) → ListsExactly s q asked after l
-lists-by s q asked room after l d holds e t =
+-- what the rules accept, m, is of the state that is read
+lists-by : (Chosen : (live chosen : List Row) → Type 0) (s q : Bytes) (asked : Asked) (room after : Room) (l : Listing) (d : Read (length room) s q asked)
+    (m : Ruled) → Tells l m → m .version ≡ versionIn asked (d .opened) → m .inForce ≡ d .state .inForce → m .canWrite ≡ writable (d .state .inForce)
+    → Chosen (d .state .live) (m .rows) → All (StandsIn s) (m .rows)
+    → take rowsRoom after ≡ rowsNumbers (m .rows) ++ replicate (rowsRoom - length (rowsNumbers (m .rows))) 0
+    → Lists Chosen s asked after l
+lists-by Chosen s q asked room after l d m t version inForce canWrite chosen places table =
     let log = logOf (d .opened .fs) in
     let says = replays-exactly log (wayTo log (versionAsked asked log)) (d .state) (d .state-read) in
+    let at : l .version .0 ≡ versionAsked asked log = t .version ∙ version in
     record {
-      cs = d .opened .cs;
       fs = d .opened .fs;
       st = d .state;
-      rows = picked (d .opened .cs) (d .state .live);
-      query-read = d .opened .query-read;
+      rows = m .rows;
       bundle-read = d .opened .bundle-read;
-      version = t .version;
-      live = subst (λ (v : ℕ). StateSays log (wayTo log v) (d .state)) (sym (t .version)) says;
-      picks = picks-exactly (d .opened .cs) (d .state .live);
-      places = rows-stand-in-the-bundle (length room) s q asked (answerOf d) e;
+      version = at;
+      live = subst (λ (v : ℕ). StateSays log (wayTo log v) (d .state)) (sym at) says;
+      chosen = chosen;
+      places = places;
       count = t .count;
-      reader = t .reader;
-      writer = t .writer;
-      verdict = subst (λ (b : Bool). (b ≡ true) ↔ (NotWritable (d .state .inForce) → ⊥)) (sym (t .verdict)) (writable-exactly (d .state .inForce));
-      table = ap (take rowsRoom) holds ∙ reading-room-ends room s q asked .filled (answerOf d) e;
+      reader = t .reader ∙ ap (λ (p : Protocol). p .minReaderVersion) inForce;
+      writer = t .writer ∙ ap (λ (p : Protocol). p .minWriterVersion) inForce;
+      verdict = subst (λ (b : Bool). (b ≡ true) ↔ (NotWritable (d .state .inForce) → ⊥)) (sym (t .verdict ∙ canWrite)) (writable-exactly (d .state .inForce));
+      table = table;
     }
 
 pub lists-upheld : (s q : Bytes) (asked : Asked) (room after : Room) (l : Listing) → ReadIs s q asked room after (Listed l) → ListsExactly s q asked after l
 lists-upheld s q asked room after l c =
-    let m = listed-ruled s q asked room after l c in
+    let m = listed-ruled (reading (length room) s q asked) room after l c in
     let a = reading-exactly (length room) s q asked .no-0 (m .0) .0 (m .1) in
-    lists-by s q asked room after l (a .0) (c .holds) (m .1 ∙ ap accepted (sym (a .3))) (subst (Tells l) (sym (a .3)) (m .2))
+    let d = a .0 in
+    let e = m .1 ∙ ap accepted (sym (a .4)) in
+    record {
+      cs = d .opened .cs;
+      query-read = d .opened .query-read;
+      lists = lists-by (Picks (d .opened .cs)) s q asked room after l d (answerOf d) (subst (Tells l) (sym (a .4)) (m .2)) refl refl refl
+          (picks-exactly (d .opened .cs) (d .state .live)) (rows-stand-in-the-bundle (length room) s q asked (answerOf d) e)
+          (ap (take rowsRoom) (c .holds) ∙ reading-room-ends room s q asked .filled (answerOf d) e);
+    }
+
+-- ---- the files due for a second merge
+
+pub due-listed : (s : Bytes) (time : ℕ) (room after : Room) (l : Listing) → DueIs s time room after (Listed l) → DueExactly s time after l
+due-listed s time room after l c =
+    let m = listed-ruled (due (length room) s theLatest time) room after l c in
+    let d = due-exactly (length room) s theLatest time (m .0) .0 (m .1) in
+    lists-by (DueOf time) s (ascii "[]") theLatest room after l (d .read) (m .0) (m .2) (d .version) (d .inForce) (d .canWrite) (d .rows)
+    (due-rows-stand-in-the-bundle (length room) s theLatest time (m .0) (m .1))
+    (ap (take rowsRoom) (c .holds) ∙ due-room-ends room s theLatest time .filled (m .0) (m .1))
 
 -- ---- keeping
 

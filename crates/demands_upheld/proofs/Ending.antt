@@ -4,8 +4,9 @@ use mathlib.Core.List.{List, []}
 use Prim.Native.Nat.{ℕ, _*_}
 use lib.ListN.{length, take}
 use Rattle.rules.specs.Bytes.{Bytes}
-use Rattle.rules.specs.Rooms.{Room, rowsRoom, keptRoom, namesRoom, leaves, rowsNumbers, counted}
-use Rattle.rules.specs.Reading.{Asked, Listing, Told, reading, roomAfterReading}
+use Rattle.rules.specs.Rooms.{Room, rowsRoom, keptRoom, namesRoom, leaves, rowWidth, rowsNumbers, counted}
+use Rattle.rules.specs.Reading.{Asked, theLatest, Listing, Told, reading, roomAfterReading}
+use Rattle.rules.specs.Due.{due}
 use Rattle.rules.specs.Keeping.{keeping, roomAfterKeeping}
 use Rattle.rules.specs.Cleaning.{cleaning, namesAfterCleaning}
 use Rattle.rules.specs.Refusals.{Refusal, Answer, accepted, refused}
@@ -13,40 +14,49 @@ use Rattle.rules.proofs.Rooms.{leaves-front}
 use Rattle.rules.proofs.Telling.{told-refused, told-accepted, told-count, counted-refused, counted-accepted}
 use Rattle.demands.specs.Ending.{Ends, RoomEnds}
 use Rattle.demands.proofs.Ending.{reading-ends, keeping-ends, cleaning-ends, ends-told, ends-counted}
-use Rattle.demands.proofs.LentRooms.{room-told, length-rowsNumbers, reading-room-ends, keeping-room-ends, cleaning-rooms-end}
-use Rattle.reading.specs.Answers.{readIs, ReadIs}
+use Rattle.demands.proofs.LentRooms.{room-told, length-rowsNumbers, reading-room-ends, due-room-ends, keeping-room-ends, cleaning-rooms-end}
+use Rattle.demands.proofs.Due.{due-ends}
+use Rattle.reading.specs.Answers.{readIs, AnswerIs, ReadIs, DueIs}
 use Rattle.reading.specs.declared.Read.{Read}
 use Rattle.cleaning.specs.Answers.{cleanedIs, lent, CleanIs}
 use Rattle.cleaning.specs.declared.Cleaned.{Cleaned}
 use Rattle.manifests.specs.Rooms.{keptIs, KeepIs}
 use Rattle.manifests.specs.declared.keeping.Kept.{Kept}
-use Rattle.demands_upheld.specs.Upheld.{ReadingEnds, CleaningEnds, KeepingEnds, Demand1}
+use Rattle.demands_upheld.specs.Upheld.{rowsTold, ReadingEnds, DueEnds, CleaningEnds, KeepingEnds, Demand1}
 
--- ---- reading
+-- ---- reading, and the files due for a second merge
 
-module _ (s q : Bytes) (asked : Asked) (room after : Room) (r : Read) (c : ReadIs s q asked room after r) where
-  -- what the rules answer
-  abbrev ruled : Answer Listing
-  ruled = reading (length room) s q asked
+abbrev numbers : Listing → List ℕ
+numbers l = rowsNumbers (l .rows)
 
-  abbrev numbers : Listing → List ℕ
-  numbers l = rowsNumbers (l .rows)
-
-  listed-front : (t : Told) → readIs r ≡ accepted t → (l : Listing) × (ruled ≡ accepted l) × (numbers l ≡ take (t .count * 4) after)
-  unfolding roomAfterReading
+-- `ruled` is what the rules answer
+module _ (ruled : Answer Listing) (room after : Room) (r : Read) (c : AnswerIs ruled room after r) where
+  listed-front : (t : Told) → readIs r ≡ accepted t → (l : Listing) × (ruled ≡ accepted l) × (numbers l ≡ rowsTold after t)
+  unfolding roomAfterReading rowWidth
   listed-front t h =
       let l = told-accepted ruled t (sym (c .answer) ∙ h) in
-      let n : length (numbers (l .0)) ≡ t .count * 4 = length-rowsNumbers (l .0 .rows) ∙ ap (λ (k : ℕ). k * 4) (told-count (l .0) t (l .2)) in
+      let n : length (numbers (l .0)) ≡ t .count * rowWidth =
+      length-rowsNumbers (l .0 .rows) ∙ ap (λ (k : ℕ). k * rowWidth) (told-count (l .0) t (l .2)) in
       let e = c .holds ∙ ap (λ (a : Answer Listing). roomAfterReading a room) (l .1) in
-      (l .0, l .1, leaves-front rowsRoom numbers room (l .0) after (t .count * 4) e n)
+      (l .0, l .1, leaves-front rowsRoom numbers room (l .0) after (t .count * rowWidth) e n)
 
-  pub reading-upheld : ReadingEnds room after r
-  reading-upheld = record {
-    ends = subst (Ends _) (sym (c .answer)) (ends-told (reading-ends (length room) s q asked));
-    table = room-told rowsRoom numbers (λ (t : Told). take (t .count * 4) after) ruled (readIs r) room after
-        (λ x h. told-refused ruled x (sym (c .answer) ∙ h)) listed-front
-        (subst (RoomEnds rowsRoom numbers ruled room) (sym (c .holds)) (reading-room-ends room s q asked));
-  }
+  listed-room : RoomEnds rowsRoom numbers ruled room (roomAfterReading ruled room) → RoomEnds rowsRoom (rowsTold after) (readIs r) room after
+  listed-room h =
+      room-told rowsRoom numbers (rowsTold after) ruled (readIs r) room after
+      (λ x e. told-refused ruled x (sym (c .answer) ∙ e)) listed-front
+      (subst (RoomEnds rowsRoom numbers ruled room) (sym (c .holds)) h)
+
+reading-upheld : (s q : Bytes) (asked : Asked) (room after : Room) (r : Read) → ReadIs s q asked room after r → ReadingEnds room after r
+reading-upheld s q asked room after r c = record {
+  ends = subst (Ends _) (sym (c .answer)) (ends-told (reading-ends (length room) s q asked));
+  table = listed-room (reading (length room) s q asked) room after r c (reading-room-ends room s q asked);
+}
+
+due-upheld : (s : Bytes) (time : ℕ) (room after : Room) (r : Read) → DueIs s time room after r → DueEnds room after r
+due-upheld s time room after r c = record {
+  ends = subst (Ends _) (sym (c .answer)) (ends-told (due-ends (length room) s time));
+  table = listed-room (due (length room) s theLatest time) room after r c (due-room-ends room s theLatest time);
+}
 
 -- ---- numbers in a room: of files named, of manifests kept
 
@@ -99,4 +109,4 @@ keeping-upheld state q room after r c =
     }
 
 pub demand-1 : Demand1
-demand-1 = record { reading = reading-upheld; cleaning = cleaning-upheld; keeping = keeping-upheld }
+demand-1 = record { reading = reading-upheld; due = due-upheld; cleaning = cleaning-upheld; keeping = keeping-upheld }

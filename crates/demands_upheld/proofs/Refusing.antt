@@ -5,16 +5,19 @@ use mathlib.Core.Bool.{false}
 use mathlib.Core.List.{List}
 use Prim.Native.Nat.{ℕ}
 use lib.ListN.{length}
-use Rattle.rules.specs.Bytes.{Bytes}
+use Rattle.rules.specs.Bytes.{Bytes, ascii}
 use Rattle.rules.specs.Rooms.{Room, counted}
-use Rattle.rules.specs.Reading.{Asked, told, reading}
+use Rattle.rules.specs.Reading.{Asked, theLatest, Listing, told, reading}
+use Rattle.rules.specs.Due.{due}
 use Rattle.rules.specs.Keeping.{keeping}
 use Rattle.rules.specs.Cleaning.{cleaning}
 use Rattle.rules.specs.Refusals.{Answer, refused}
 use Rattle.rules.proofs.Telling.{told-refused, counted-refused}
 use Rattle.demands.specs.Ending.{Ends}
+use Rattle.demands.specs.Exactly.{ReadingExactly}
 use Rattle.demands.proofs.Ending.{isIn, never-refused, reading-ends, keeping-ends, cleaning-ends}
 use Rattle.demands.proofs.Exactly.{reading-exactly}
+use Rattle.demands.proofs.Due.{due-ends, due-refuses-exactly}
 use Rattle.demands.proofs.KeepingExactly.{keeping-exactly}
 use Rattle.demands.proofs.CleaningExactly.{cleaning-exactly}
 use Rattle.refusals.specs.Numbered.{numbered}
@@ -23,10 +26,10 @@ use Rattle.refusals.specs.declared.Refusal.the-variants.{RoomTooShort, BundleMa
 use Rattle.refusals.specs.declared.Refusal.the-variants.{ReaderTooHigh, UnknownFeature, QueryMalformed, NoSuchColumn, NotWritable, CheckpointDisagrees}
 use Rattle.refusals.specs.declared.Refusal.the-variants.{StateMalformed, TooManyManifests, ListRefused, OutputTooShort, ValueOutOfRange}
 use Rattle.refusals.specs.declared.Refusal.the-variants.{ContainerMalformed, OtherSchema, ForeignKeys}
-use Rattle.reading.specs.Answers.{readIs, ReadIs}
+use Rattle.reading.specs.Answers.{readIs, AnswerIs, ReadIs, DueIs}
 use Rattle.reading.specs.declared.Read.{Read}
 use Rattle.reading.specs.declared.Read.the-variants.{Refused}
-use Rattle.reading.proofs.Alone.{read-alone}
+use Rattle.reading.proofs.Alone.{readIs-alone}
 use Rattle.cleaning.specs.Answers.{cleanedIs, lent, CleanIs}
 use Rattle.cleaning.specs.declared.Cleaned.{Cleaned}
 use Rattle.cleaning.specs.declared.Cleaned.the-variants.{Refused as NothingCleaned}
@@ -35,7 +38,7 @@ use Rattle.manifests.specs.Rooms.{keptIs, KeepIs}
 use Rattle.manifests.specs.declared.keeping.Kept.{Kept}
 use Rattle.manifests.specs.declared.keeping.Kept.the-variants.{Refused as NothingKept}
 use Rattle.manifests.proofs.Alone.{keep-alone}
-use Rattle.demands_upheld.specs.Refusing.{ReadingRule, CleaningRule, KeepingRule}
+use Rattle.demands_upheld.specs.Refusing.{ReadingRule, DueRule, CleaningRule, KeepingRule}
 
 -- a number that an entry never gives
 never : {A B : Type 0} {ks : List ℕ} {o : Answer A} (x : Refusal) → isIn (numbered x .number) ks ≡ false → Ends ks o
@@ -44,13 +47,17 @@ never x h e (f, g) = ((λ b. never-refused (numbered x) h e (f b)), (λ z. absur
 
 -- ---- reading
 
+-- of what is read, and of what is due
+answer-refused : (o : Answer Listing) (room after : Room) (r : Read) → AnswerIs o room after r → (x : Refusal) → (r ≡ Refused x) ↔ (o ≡ refused (numbered x))
+unfolding readIs told
+answer-refused o room after r c x = (
+  (λ e. told-refused o (numbered x) (sym (c .answer) ∙ ap readIs e)),
+  (λ e. readIs-alone r (Refused x) (c .answer ∙ ap told e)),
+)
+
 module _ (s q : Bytes) (asked : Asked) (room after : Room) (r : Read) (c : ReadIs s q asked room after r) where
   pub read-refused : (x : Refusal) → (r ≡ Refused x) ↔ (reading (length room) s q asked ≡ refused (numbered x))
-  unfolding readIs told
-  read-refused x = (
-    (λ e. told-refused (reading (length room) s q asked) (numbered x) (sym (c .answer) ∙ ap readIs e)),
-    (λ e. read-alone s q asked room after after r (Refused x) c (record { answer = sym (ap told e); holds = c .holds }) .0),
-  )
+  read-refused = answer-refused (reading (length room) s q asked) room after r c
 
   pub reading-refuses : (x : Refusal) → (r ≡ Refused x) ↔ ReadingRule (length room) s q asked x
   unfolding numbered isIn
@@ -71,10 +78,46 @@ module _ (s q : Bytes) (asked : Asked) (room after : Room) (r : Read) (c : ReadI
   reading-refuses TooManyManifests = never TooManyManifests refl (reading-ends (length room) s q asked) (read-refused TooManyManifests)
   reading-refuses ListRefused = never ListRefused refl (reading-ends (length room) s q asked) (read-refused ListRefused)
   reading-refuses OutputTooShort = never OutputTooShort refl (reading-ends (length room) s q asked) (read-refused OutputTooShort)
-  reading-refuses ValueOutOfRange = never ValueOutOfRange refl (reading-ends (length room) s q asked) (read-refused ValueOutOfRange)
+  reading-refuses ValueOutOfRange = Iff·trans (read-refused ValueOutOfRange) (reading-exactly (length room) s q asked .no-18)
   reading-refuses ContainerMalformed = never ContainerMalformed refl (reading-ends (length room) s q asked) (read-refused ContainerMalformed)
   reading-refuses OtherSchema = never OtherSchema refl (reading-ends (length room) s q asked) (read-refused OtherSchema)
   reading-refuses (ForeignKeys e l) = Iff·trans (read-refused (ForeignKeys e l)) (reading-exactly (length room) s q asked .no-21 e l)
+
+-- ---- the files due for a second merge
+
+module _ (s : Bytes) (time : ℕ) (room after : Room) (r : Read) (c : DueIs s time room after r) where
+  due-refused : (x : Refusal) → (r ≡ Refused x) ↔ (due (length room) s theLatest time ≡ refused (numbered x))
+  due-refused = answer-refused (due (length room) s theLatest time) room after r c
+
+  due-read : (x : Refusal) → (r ≡ Refused x) ↔ (reading (length room) s (ascii "[]") theLatest ≡ refused (numbered x))
+  due-read x = Iff·trans (due-refused x) (due-refuses-exactly (length room) s theLatest time (numbered x))
+
+  asked-so : ReadingExactly (length room) s (ascii "[]") theLatest
+  asked-so = reading-exactly (length room) s (ascii "[]") theLatest
+
+  pub due-refuses : (x : Refusal) → (r ≡ Refused x) ↔ DueRule (length room) s x
+  unfolding numbered isIn
+  due-refuses RoomTooShort = Iff·trans (due-read RoomTooShort) (asked-so .no-1)
+  due-refuses BundleMalformed = Iff·trans (due-read BundleMalformed) (asked-so .no-2)
+  due-refuses VersionTooLarge = Iff·trans (due-read VersionTooLarge) (asked-so .no-3)
+  due-refuses NoVersionZero = Iff·trans (due-read NoVersionZero) (asked-so .no-4)
+  due-refuses NotKept = never NotKept refl (due-ends (length room) s time) (due-refused NotKept)
+  due-refuses (Malformed e l) = Iff·trans (due-read (Malformed e l)) (asked-so .no-6 e l)
+  due-refuses (TooManyLive e l) = Iff·trans (due-read (TooManyLive e l)) (asked-so .no-7 e l)
+  due-refuses ReaderTooHigh = Iff·trans (due-read ReaderTooHigh) (asked-so .no-8)
+  due-refuses UnknownFeature = Iff·trans (due-read UnknownFeature) (asked-so .no-9)
+  due-refuses QueryMalformed = never QueryMalformed refl (due-ends (length room) s time) (due-refused QueryMalformed)
+  due-refuses NoSuchColumn = never NoSuchColumn refl (due-ends (length room) s time) (due-refused NoSuchColumn)
+  due-refuses NotWritable = never NotWritable refl (due-ends (length room) s time) (due-refused NotWritable)
+  due-refuses CheckpointDisagrees = never CheckpointDisagrees refl (due-ends (length room) s time) (due-refused CheckpointDisagrees)
+  due-refuses StateMalformed = never StateMalformed refl (due-ends (length room) s time) (due-refused StateMalformed)
+  due-refuses TooManyManifests = never TooManyManifests refl (due-ends (length room) s time) (due-refused TooManyManifests)
+  due-refuses ListRefused = never ListRefused refl (due-ends (length room) s time) (due-refused ListRefused)
+  due-refuses OutputTooShort = never OutputTooShort refl (due-ends (length room) s time) (due-refused OutputTooShort)
+  due-refuses ValueOutOfRange = never ValueOutOfRange refl (due-ends (length room) s time) (due-refused ValueOutOfRange)
+  due-refuses ContainerMalformed = never ContainerMalformed refl (due-ends (length room) s time) (due-refused ContainerMalformed)
+  due-refuses OtherSchema = never OtherSchema refl (due-ends (length room) s time) (due-refused OtherSchema)
+  due-refuses (ForeignKeys e l) = Iff·trans (due-read (ForeignKeys e l)) (asked-so .no-21 e l)
 
 -- ---- cleaning
 

@@ -2,16 +2,17 @@
 use mathlib.Core.Path.{_≡_, refl, _∙_, ap, subst}
 use mathlib.Core.Logic.{_⊎_, inl, inr, _↔_, Iff·trans}
 use mathlib.Core.List.{List}
-use Prim.Native.Nat.{ℕ}
+use Prim.Native.Nat.{ℕ, _≤_}
 use lib.ListN.{length, take}
-use Rattle.rules.specs.Bytes.{Bytes}
+use Rattle.rules.specs.Bytes.{Bytes, ascii}
 use Rattle.rules.specs.Bundle.{File}
 use Rattle.rules.specs.Starts.{Log, logOf}
-use Rattle.rules.specs.Rooms.{Room, namesRoom}
+use Rattle.rules.specs.Rooms.{Room, rowsRoom, namesRoom}
 use Rattle.rules.specs.Reading.{Asked, theLatest, theVersion, Listing, reading, historyListing}
+use Rattle.rules.specs.Due.{dueListing, due}
 use Rattle.rules.specs.Cleaning.{cleaning, namesAfterCleaning}
 use Rattle.rules.specs.Same.{SameListing, SameAnswer}
-use Rattle.rules.specs.Refusals.{Answer, accepted, refused, notKept}
+use Rattle.rules.specs.Refusals.{Answer, accepted, refused, _>>=_, notKept}
 use Rattle.rules.proofs.Sameness.{same-listing-sym, same-listing-trans, same-answer-sym, same-answer-trans}
 use Rattle.rules.proofs.Readings.{reading-room-same}
 use Rattle.demands.specs.FirstSentence as FirstSentence
@@ -25,12 +26,12 @@ use Rattle.reading.specs.Answers.{ReadIs}
 use Rattle.reading.specs.declared.Read.{Read}
 use Rattle.reading.specs.declared.Read.the-variants.{Refused}
 use Rattle.cleaning.specs.Answers.{cleanedIs, lent}
-use Rattle.demands_upheld.specs.Seen.{SameRead, ReadsSame}
+use Rattle.demands_upheld.specs.Seen.{SameRead, ReadsSame, DueSame}
 use Rattle.demands_upheld.specs.Removing.{KeptOrNot, KeepsAnswers, Run, Runs, not-run, once-more}
 use Rattle.demands_upheld.specs.Upheld.{Demand3}
 use Rattle.demands_upheld.proofs.Ending.{counted-front}
 use Rattle.demands_upheld.proofs.Refusing.{read-refused}
-use Rattle.demands_upheld.proofs.Seen.{same-read}
+use Rattle.demands_upheld.proofs.Seen.{same-read, same-due}
 
 -- ---- any files but version 0
 
@@ -59,10 +60,22 @@ reads-same s t q asked h room after room′ after′ r r′ long long′ c c′ 
     let e = reading-room-same (length room) (length room′) t q asked long long′ in
     same-read s t room after room′ after′ q asked r r′ (subst (SameAnswer SameListing (reading (length room) s q asked)) e (h (length room))) c c′
 
+-- rooms that are long enough are all one here too
+due-room-same : (a b : ℕ) (s : Bytes) (asked : Asked) (time : ℕ) → rowsRoom ≤ a → rowsRoom ≤ b → due a s asked time ≡ due b s asked time
+unfolding due
+due-room-same a b s asked time h k =
+    ap (λ (o : Answer Listing). o >>= (λ l. accepted (dueListing time l))) (reading-room-same a b s (ascii "[]") asked h k)
+
+dues-same : (s t : Bytes) (time : ℕ) → ((room : ℕ) → SameAnswer SameListing (due room s theLatest time) (due room t theLatest time)) → DueSame s t time
+dues-same s t time h room after room′ after′ r r′ long long′ c c′ =
+    let e = due-room-same (length room) (length room′) t theLatest time long long′ in
+    same-due s t room after room′ after′ time r r′ (subst (SameAnswer SameListing (due (length room) s theLatest time)) e (h (length room))) c c′
+
 keeps-read : (c : ℕ) (s t : Bytes) → Ruled.KeepsAnswers c s t → KeepsAnswers c s t
 keeps-read c s t k = record {
   by-number = λ q v l. reads-same s t q (theVersion v) (λ room. k .by-number room q v l);
   the-latest = λ q. reads-same s t q theLatest (λ room. k .the-latest room q);
+  due = λ time. dues-same s t time (λ room. k .due room time);
 }
 
 -- a run of the code is one of the rules

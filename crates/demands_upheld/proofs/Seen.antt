@@ -7,10 +7,12 @@ use lib.ListN.{length, take, drop, length-append}
 use lib.Seq.{take-at, drop-at}
 use Rattle.facts.specs.Lists.{All}
 use Rattle.rules.specs.Bytes.{Bytes}
+use Rattle.rules.specs.Actions.{Skip}
 use Rattle.rules.specs.Live.{Row}
-use Rattle.rules.specs.Rooms.{Room, filled, leaves, rowNumbers, rowsNumbers}
-use Rattle.rules.specs.Reading.{Asked, told, reading, roomAfterReading}
+use Rattle.rules.specs.Rooms.{Room, filled, leaves, rowWidth, rowNumbers, rowsNumbers}
+use Rattle.rules.specs.Reading.{Asked, theLatest, told, reading, roomAfterReading}
 use Rattle.rules.specs.Reading.{Listing as Ruled}
+use Rattle.rules.specs.Due.{due}
 use Rattle.rules.specs.Same.{SameRows, no-rows, row, SameListing, SameAnswer, both-accepted, both-refused}
 use Rattle.rules.specs.Refusals.{Refusal, Answer, accepted, refused}
 use Rattle.rules.proofs.Tests.{apart}
@@ -18,8 +20,8 @@ use Rattle.rules.proofs.Answers.{refused-number}
 use Rattle.rules.proofs.Telling.{told-count, told-same}
 use Rattle.demands.specs.Showing.{IsAdd}
 use Rattle.demands.specs.Places.{StandsIn}
-use Rattle.demands.proofs.Places.{rows-stand-in-the-bundle}
-use Rattle.reading.specs.Answers.{readIs, AnswerIs, ReadIs}
+use Rattle.demands.proofs.Places.{rows-stand-in-the-bundle, due-rows-stand-in-the-bundle}
+use Rattle.reading.specs.Answers.{readIs, AnswerIs, ReadIs, DueIs}
 use Rattle.reading.specs.declared.Read.{Read}
 use Rattle.reading.specs.declared.Read.the-variants.{Listed, Refused}
 use Rattle.reading.proofs.Alone.{readIs-alone}
@@ -27,7 +29,7 @@ use Rattle.demands_upheld.specs.Seen.{rowIn, RowSays, SameRow, SameRead,
 
 -- ---- rows
 
-stands-says : (s : Bytes) (r : Row) → StandsIn s r → RowSays s (rowNumbers r) (r .facts)
+stands-says : (s : Bytes) (r : Row) → StandsIn s r → RowSays s (rowNumbers r) (r .facts) (r .skip)
 unfolding rowNumbers
 stands-says s r p =
     let onward : drop (r .at) s ≡ p .line ++ p .behind = ap (drop (r .at)) (p .parts) ∙ drop-at (p .before) _ (r .at) (p .place) in
@@ -35,38 +37,39 @@ stands-says s r p =
     record {
       at = r .at;
       long = r .size;
-      four = refl;
+      six = refl;
       within = omega (arith, ap length (p .parts), length-append (p .before) (p .line ++ p .behind), length-append (p .line) (p .behind));
       adds = subst (λ (x : Bytes). IsAdd x (r .facts)) (sym line) (p .says);
     }
 
 -- the first row of a room, and those behind it
 row-first : (r : Row) (rs : List Row) (rest : Room) → rowIn (rowsNumbers (r ∷ rs) ++ rest) 0 ≡ rowNumbers r
-unfolding rowsNumbers rowNumbers
+unfolding rowWidth rowsNumbers rowNumbers
 row-first r rs rest = refl
 
 row-behind : (r : Row) (rs : List Row) (rest : Room) (k : ℕ) → rowIn (rowsNumbers (r ∷ rs) ++ rest) (suc k) ≡ rowIn (rowsNumbers rs ++ rest) k
-unfolding rowsNumbers rowNumbers
+unfolding rowWidth rowsNumbers rowNumbers
 row-behind r rs rest k =
-    let e : suc k * 4 ≡ suc (suc (suc (suc (k * 4)))) = omega arith in
-    ap (λ (n : ℕ). take 4 (drop n (rowsNumbers (r ∷ rs) ++ rest))) e
+    let e : suc k * 6 ≡ suc (suc (suc (suc (suc (suc (k * 6)))))) = omega arith in
+    ap (λ (n : ℕ). take 6 (drop n (rowsNumbers (r ∷ rs) ++ rest))) e
 
 module _ (s t : Bytes) (rest rest′ : Room) where
   rows-seen : {rs ss : List Row} → SameRows rs ss → All (StandsIn s) rs → All (StandsIn t) ss → (k : ℕ) → k < length rs
       → SameRow s t (rowIn (rowsNumbers rs ++ rest) k) (rowIn (rowsNumbers ss ++ rest′) k)
   unfolding All rowNumbers
   rows-seen no-rows a b k l = absurd (omega arith)
-  rows-seen (row {r = r} {s = u} {rs = rs} {ss = us} f h) a b zero l =
+  rows-seen (row {r = r} {s = u} {rs = rs} {ss = us} f e h) a b zero l =
       rw (row-first r rs rest, row-first u us rest′)
       (record {
         f = r .facts;
         g = u .facts;
+        skip = r .skip;
         in-s = stands-says s r (a .0);
-        in-t = stands-says t u (b .0);
+        in-t = subst (RowSays t (rowNumbers u) (u .facts)) (sym e) (stands-says t u (b .0));
         facts = f;
-        numbers = cc (f .size, f .modificationTime);
+        numbers = cc (f .size, f .modificationTime, ap (λ (k : Skip). k .count) e, ap (λ (k : Skip). k .retryAfter) e);
       })
-  rows-seen (row {r = r} {s = u} {rs = rs} {ss = us} f h) a b (suc k) l =
+  rows-seen (row {r = r} {s = u} {rs = rs} {ss = us} f e h) a b (suc k) l =
       rw (row-behind r rs rest k, row-behind u us rest′ k) (rows-seen h (a .1) (b .1) k (omega arith))
 
 -- ---- answers
@@ -111,3 +114,9 @@ module _ (s t : Bytes) (room after room′ after′ : Room) where
       → ReadIs s q asked room after r → ReadIs t q asked room′ after′ r′ → SameRead s t after after′ r r′
   same-read q asked r r′ h c c′ =
       same-answered h (rows-stand-in-the-bundle (length room) s q asked) (rows-stand-in-the-bundle (length room′) t q asked) r r′ c c′
+
+  -- and so of what is due
+  pub same-due : (time : ℕ) (r r′ : Read) → SameAnswer SameListing (due (length room) s theLatest time) (due (length room′) t theLatest time)
+      → DueIs s time room after r → DueIs t time room′ after′ r′ → SameRead s t after after′ r r′
+  same-due time r r′ h c c′ =
+      same-answered h (due-rows-stand-in-the-bundle (length room) s theLatest time) (due-rows-stand-in-the-bundle (length room′) t theLatest time) r r′ c c′

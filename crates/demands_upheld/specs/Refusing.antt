@@ -4,20 +4,20 @@ use mathlib.Core.Option.{none, some}
 use mathlib.Core.List.{List}
 use Prim.Native.Nat.{ℕ, _≤_, _<_}
 use lib.ListN.{length}
-use Rattle.rules.specs.Bytes.{Bytes}
+use Rattle.rules.specs.Bytes.{Bytes, ascii}
 use Rattle.rules.specs.Bundle.{File, bundle}
 use Rattle.rules.specs.Starts.{logOf}
 use Rattle.rules.specs.Gate.{knownReader, readerNames}
 use Rattle.rules.specs.Query.{query}
 use Rattle.rules.specs.Manifests.{Manifest, manifests, mostManifests}
 use Rattle.rules.specs.Rooms.{rowsRoom, keptRoom}
-use Rattle.rules.specs.Reading.{Asked}
+use Rattle.rules.specs.Reading.{Asked, theLatest}
 use Rattle.rules.specs.Cleaning.{Lent}
 use Rattle.rules.specs.Same.{SameState}
 use Rattle.rules.specs.Refusals.{malformed, tooManyLive, foreignKeys}
 use Rattle.demands.specs.Reaching.{There, NoStart}
 use Rattle.demands.specs.Met.{Unknown, Met}
-use Rattle.demands.specs.Exactly.{SomeTooLarge, Readable, Opened, logIn, versionIn, Reached, Read, columnsAsked}
+use Rattle.demands.specs.Exactly.{SomeTooLarge, SomeOutOf, Readable, Opened, logIn, versionIn, Reached, Read, columnsAsked}
 use Rattle.demands.specs.CleaningExactly.{Enough, NotWritable as CannotWrite, Comparing, MetComparing, Compared}
 use Rattle.refusals.specs.declared.Refusal.{Refusal}
 use Rattle.refusals.specs.declared.Refusal.the-variants.{RoomTooShort, BundleMalformed, VersionTooLarge, NoVersionZero, NotKept, Malformed, TooManyLive}
@@ -25,7 +25,7 @@ use Rattle.refusals.specs.declared.Refusal.the-variants.{ReaderTooHigh, Unknown
 use Rattle.refusals.specs.declared.Refusal.the-variants.{StateMalformed, TooManyManifests, ListRefused, OutputTooShort, ValueOutOfRange}
 use Rattle.refusals.specs.declared.Refusal.the-variants.{ContainerMalformed, OtherSchema, ForeignKeys}
 
--- reading: 1, 10, 2, 3, 4, 5, then 6, 21 or 7 by first line met, 8, 9, 11
+-- reading: 1, 10, 2, 3, 4, 5, then 6, 21 or 7 by first line met, 8, 9, 11, 18
 abbrev pub ReadingRule : (room : ℕ) → (s q : Bytes) → Asked → Refusal → Type 0
 ReadingRule room s q asked RoomTooShort = room < rowsRoom
 ReadingRule room s q asked BundleMalformed = (rowsRoom ≤ room) × There (query q) × (bundle s ≡ none)
@@ -46,10 +46,37 @@ ReadingRule room s q asked StateMalformed = ⊥
 ReadingRule room s q asked TooManyManifests = ⊥
 ReadingRule room s q asked ListRefused = ⊥
 ReadingRule room s q asked OutputTooShort = ⊥
-ReadingRule room s q asked ValueOutOfRange = ⊥
+ReadingRule room s q asked ValueOutOfRange =
+    (r : Read room s q asked) × Readable (r .state .inForce) × (Unknown (r .state .table .partitionColumns) (columnsAsked r) → ⊥)
+    × SomeOutOf (r .opened .cs) (r .state .live)
 ReadingRule room s q asked ContainerMalformed = ⊥
 ReadingRule room s q asked OtherSchema = ⊥
 ReadingRule room s q asked (ForeignKeys e l) = (r : Reached room s q asked) × Met (r .zero) (r .way) (foreignKeys e l)
+
+-- the files due for a second merge: 1, 2, 3, 4, then 6, 21 or 7 by first line met, 8, 9, each as in reading the latest version under the
+-- query []. That query is well formed and asks for no column, and the latest version is always kept: never 10, 11, 18 or 5
+abbrev pub DueRule : (room : ℕ) → (s : Bytes) → Refusal → Type 0
+DueRule room s RoomTooShort = ReadingRule room s (ascii "[]") theLatest RoomTooShort
+DueRule room s BundleMalformed = ReadingRule room s (ascii "[]") theLatest BundleMalformed
+DueRule room s VersionTooLarge = ReadingRule room s (ascii "[]") theLatest VersionTooLarge
+DueRule room s NoVersionZero = ReadingRule room s (ascii "[]") theLatest NoVersionZero
+DueRule room s NotKept = ⊥
+DueRule room s (Malformed e l) = ReadingRule room s (ascii "[]") theLatest (Malformed e l)
+DueRule room s (TooManyLive e l) = ReadingRule room s (ascii "[]") theLatest (TooManyLive e l)
+DueRule room s ReaderTooHigh = ReadingRule room s (ascii "[]") theLatest ReaderTooHigh
+DueRule room s UnknownFeature = ReadingRule room s (ascii "[]") theLatest UnknownFeature
+DueRule room s QueryMalformed = ⊥
+DueRule room s NoSuchColumn = ⊥
+DueRule room s NotWritable = ⊥
+DueRule room s CheckpointDisagrees = ⊥
+DueRule room s StateMalformed = ⊥
+DueRule room s TooManyManifests = ⊥
+DueRule room s ListRefused = ⊥
+DueRule room s OutputTooShort = ⊥
+DueRule room s ValueOutOfRange = ⊥
+DueRule room s ContainerMalformed = ⊥
+DueRule room s OtherSchema = ⊥
+DueRule room s (ForeignKeys e l) = ReadingRule room s (ascii "[]") theLatest (ForeignKeys e l)
 
 -- cleaning: 1 to 4; then 6, 21 or 7 by first line met; the checkpoint's gate 8, 9, 12; then 13
 abbrev pub CleaningRule : Lent → Bytes → Refusal → Type 0

@@ -17,17 +17,18 @@ use Rattle.reading.specs.declared.Read.{Read}
 use Rattle.reading.specs.declared.Read.the-variants.{Refused}
 use Rattle.cleaning.specs.Answers.{CleanIs}
 use Rattle.cleaning.specs.declared.Cleaned.the-variants.{Named}
-use Rattle.demands_upheld.specs.Seen.{SameRead, ReadsSame}
+use Rattle.demands_upheld.specs.Seen.{SameRead, ReadsSame, DueSame}
 
 -- r′, read where only `left` is left, is as r; or "not kept", and that exactly when no start is left that reaches v
 pub record KeptOrNot (left : Log) (v : ℕ) (s t : Bytes) (after after′ : Room) (r r′ : Read) : Type 0 where
   pub either : SameRead s t after after′ r r′ ⊎ (r′ ≡ Refused NotKept)
   pub exactly-when : (r′ ≡ Refused NotKept) ↔ NoStart left v
 
--- every query is answered from t as from s, at the versions from c upward and at the latest
+-- every query is answered from t as from s, at the versions from c upward and at the latest; so are the due files of the latest, at any time
 pub record KeepsAnswers (c : ℕ) (s t : Bytes) : Type 0 where
   pub by-number : (q : Bytes) (v : ℕ) → c ≤ v → ReadsSame s t q (theVersion v)
   pub the-latest : (q : Bytes) → ReadsSame s t q theLatest
+  pub due : (time : ℕ) → DueSame s t time
 
 -- `clean` was called on s and named n files; t is what is left of s without some or all of those whose numbers stand in the names room
 pub record Run (s t : Bytes) (fs gs : List File) : Type 0 where

@@ -4,36 +4,38 @@ use mathlib.Core.List.{List, [], _∷_}
 use Prim.Native.Nat.{ℕ, _+_, _*_, _≤_, _<_}
 use lib.ListN.{length, take, drop}
 use Rattle.rules.specs.Bytes.{Bytes}
-use Rattle.rules.specs.Actions.{Facts}
-use Rattle.rules.specs.Rooms.{Room, rowsRoom}
+use Rattle.rules.specs.Actions.{Facts, Skip}
+use Rattle.rules.specs.Rooms.{Room, rowsRoom, rowWidth}
 use Rattle.rules.specs.Reading.{Asked}
 use Rattle.rules.specs.Same.{SameFacts}
 use Rattle.demands.specs.Showing.{IsAdd}
 use Rattle.refusals.specs.Numbered.{numbered}
 use Rattle.refusals.specs.declared.Refusal.{Refusal}
-use Rattle.reading.specs.Answers.{ReadIs}
+use Rattle.reading.specs.Answers.{ReadIs, DueIs}
 use Rattle.reading.specs.declared.Listing.{Listing}
 use Rattle.reading.specs.declared.Read.{Read}
 use Rattle.reading.specs.declared.Read.the-variants.{Listed, Refused}
 
--- the four numbers of row k
+-- the six numbers of row k
 abbrev pub rowIn : Room → ℕ → List ℕ
-rowIn room k = take 4 (drop (k * 4) room)
+rowIn room k = take rowWidth (drop (k * rowWidth) room)
 
--- the place and the length of a line in s that is a well-formed add of the facts f; then f's size and modificationTime
-pub record RowSays (s : Bytes) (row : List ℕ) (f : Facts) : Type 0 where
+-- the place and the length of a line in s that is a well-formed add of the facts f; then f's size and modificationTime, and the skip count and
+-- retry time k
+pub record RowSays (s : Bytes) (row : List ℕ) (f : Facts) (k : Skip) : Type 0 where
   pub at : ℕ
   pub long : ℕ
-  pub four : row ≡ at ∷ long ∷ f .size ∷ f .modificationTime ∷ []
+  pub six : row ≡ at ∷ long ∷ f .size ∷ f .modificationTime ∷ k .count ∷ k .retryAfter ∷ []
   pub within : at + long ≤ length s
   pub adds : IsAdd (take long (drop at s)) f
 
--- two rows, of s and of t: lines of the same facts, and the same third and fourth number
+-- two rows, of s and of t: lines of the same facts, the same skip count and retry time, and so the same numbers behind place and length
 pub record SameRow (s t : Bytes) (row row′ : List ℕ) : Type 0 where
   pub f : Facts
   pub g : Facts
-  pub in-s : RowSays s row f
-  pub in-t : RowSays t row′ g
+  pub skip : Skip
+  pub in-s : RowSays s row f skip
+  pub in-t : RowSays t row′ g skip
   pub facts : SameFacts f g
   pub numbers : drop 2 row ≡ drop 2 row′
 
@@ -47,3 +49,9 @@ abbrev pub ReadsSame : (s t q : Bytes) → Asked → Type 0
 ReadsSame s t q asked =
     (room after room′ after′ : Room) (r r′ : Read) → rowsRoom ≤ length room → rowsRoom ≤ length room′
     → ReadIs s q asked room after r → ReadIs t q asked room′ after′ r′ → SameRead s t after after′ r r′
+
+-- the same of the files that are due at a time
+abbrev pub DueSame : (s t : Bytes) → (time : ℕ) → Type 0
+DueSame s t time =
+    (room after room′ after′ : Room) (r r′ : Read) → rowsRoom ≤ length room → rowsRoom ≤ length room′
+    → DueIs s time room after r → DueIs t time room′ after′ r′ → SameRead s t after after′ r r′

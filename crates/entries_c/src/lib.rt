@@ -11,6 +11,7 @@ pub use codes::Counted;
 pub use codes::Refused;
 pub use reads::FilesListed;
 pub use reads::kerumpase_read_at;
+pub use reads::kerumpase_read_due;
 pub use reads::kerumpase_read_latest;
 pub use shows::Place;
 pub use shows::RecordsShown;

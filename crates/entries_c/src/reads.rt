@@ -1,12 +1,14 @@
-// The entries over a bundle: the files of a table at a version, or at the latest.
+// The entries over a bundle: the files of a table at a version, or at the latest, and those that are due.
 use crate::codes::Refused;
 use crate::codes::accepted;
 use crate::codes::refused_as;
+use file_names::Millis;
 use file_names::Version;
 use reading::Read;
 ghost use mathlib.Core.Path.{_≡_};
 ghost use lib.ListN.{length};
 ghost use Rattle.rules.specs.Reading.{theLatest, theVersion, told, reading as rReading, roomAfterReading};
+ghost use Rattle.rules.specs.Due.{due as rDue};
 ghost use Rattle.reading.specs.Answers.{readIs};
 ghost use Rattle.entries_c.specs.Reads.{listedBy};
 
@@ -71,5 +73,16 @@ pub extern "C" fn kerumpase_read_latest(bundle: &[u8], q: &[u8], rows: &mut [u64
         ≡ roomAfterReading (rReading (length (now (rows .entry))) (now (bundle .entry)) (now (q .entry)) theLatest) (now (rows .entry)) ⌝ }
 {
     let r = reading::read_latest(bundle, q, rows);
+    listed(r)
+}
+
+// The files of the latest version that are due for a second merge at a time, as `reading::read_due`.
+#[no_mangle]
+pub extern "C" fn kerumpase_read_due(bundle: &[u8], time: u64, rows: &mut [u64]) -> FilesListed
+    ensures { λ r. ⌜ r ≡ listedBy (told (rDue (length (now (rows .entry))) (now (bundle .entry)) theLatest time)) ⌝ }
+    ensures { λ _. ⌜ now (rows .exit)
+        ≡ roomAfterReading (rDue (length (now (rows .entry))) (now (bundle .entry)) theLatest time) (now (rows .entry)) ⌝ }
+{
+    let r = reading::read_due(bundle, Millis(time), rows);
     listed(r)
 }

@@ -12,7 +12,8 @@ use Rattle.rules.specs.Json.Strings.{isPlain}
 use Rattle.rules.proofs.Tests.{and-left, and-right}
 use Rattle.field_names.specs.Kinds.{namesOf, seek}
 use Rattle.field_names.specs.declared.kinds.Kind.{Kind}
-use Rattle.field_names.specs.declared.kinds.Kind.the-variants.{Line, Add, Remove, Protocol, MetaData, Marker, State, Manifest, Bounds, Condition}
+use Rattle.field_names.specs.declared.kinds.Kind.the-variants.{Line, Add, Remove, Protocol, MetaData, Mergeskip}
+use Rattle.field_names.specs.declared.kinds.Kind.the-variants.{Marker, State, Manifest, Bounds, Condition}
 use Rattle.field_names.proofs.Seeking.{seek-most}
 
 pub names-few : (k : Kind) → length (namesOf k) < 8
@@ -22,6 +23,7 @@ names-few Add = omega arith
 names-few Remove = omega arith
 names-few Protocol = omega arith
 names-few MetaData = omega arith
+names-few Mergeskip = omega arith
 names-few Marker = omega arith
 names-few State = omega arith
 names-few Manifest = omega arith
@@ -38,6 +40,7 @@ names-distinct Add = refl
 names-distinct Remove = refl
 names-distinct Protocol = refl
 names-distinct MetaData = refl
+names-distinct Mergeskip = refl
 names-distinct Marker = refl
 names-distinct State = refl
 names-distinct Manifest = refl
@@ -66,6 +69,7 @@ names-written Add = refl
 names-written Remove = refl
 names-written Protocol = refl
 names-written MetaData = refl
+names-written Mergeskip = refl
 names-written Marker = refl
 names-written State = refl
 names-written Manifest = refl

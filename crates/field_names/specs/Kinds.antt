@@ -4,7 +4,8 @@ use mathlib.Core.List.{List, [], _∷_}
 use Prim.Native.Nat.{ℕ, suc}
 use Rattle.rules.specs.Bytes.{Bytes, ascii, same}
 use Rattle.field_names.specs.declared.kinds.Kind.{Kind}
-use Rattle.field_names.specs.declared.kinds.Kind.the-variants.{Line, Add, Remove, Protocol, MetaData, Marker, State, Manifest, Bounds, Condition}
+use Rattle.field_names.specs.declared.kinds.Kind.the-variants.{Line, Add, Remove, Protocol, MetaData, Mergeskip}
+use Rattle.field_names.specs.declared.kinds.Kind.the-variants.{Marker, State, Manifest, Bounds, Condition}
 
 unfoldable pub namesOf : Kind → List Bytes
 namesOf Line = ascii "add" ∷ ascii "remove" ∷ ascii "protocol" ∷ ascii "metaData" ∷ ascii "mergeskip" ∷ []
@@ -12,6 +13,7 @@ namesOf Add = ascii "path" ∷ ascii "size" ∷ ascii "modificationTime" ∷ asc
 namesOf Remove = ascii "path" ∷ []
 namesOf Protocol = ascii "minReaderVersion" ∷ ascii "minWriterVersion" ∷ ascii "readerFeatures" ∷ ascii "writerFeatures" ∷ []
 namesOf MetaData = ascii "id" ∷ ascii "partitionColumns" ∷ []
+namesOf Mergeskip = ascii "path" ∷ ascii "skipCount" ∷ ascii "retryAfter" ∷ []
 namesOf Marker = ascii "version" ∷ ascii "parts" ∷ ascii "format" ∷ []
 namesOf State = ascii "manifests" ∷ []
 namesOf Manifest = ascii "path" ∷ ascii "partitionBounds" ∷ []

@@ -12,6 +12,7 @@ pub enum Kind {
     Remove,
     Protocol,
     MetaData,
+    Mergeskip,
     Marker,
     State,
     Manifest,
@@ -113,6 +114,18 @@ fn which_meta_data(name: &[u8]) -> usize
     }
 }
 
+fn which_mergeskip(name: &[u8]) -> usize
+    ensures { λ r. ⌜ r ≡ seek (now (name .entry)) (namesOf Kind.Mergeskip) ⌝ }
+{
+    if is_key(name, b"path") {
+        return 0;
+    }
+    if is_key(name, b"skipCount") {
+        return 1;
+    }
+    if is_key(name, b"retryAfter") { 2 } else { 3 }
+}
+
 fn which_marker(name: &[u8]) -> usize
     ensures { λ r. ⌜ r ≡ seek (now (name .entry)) (namesOf Kind.Marker) ⌝ }
 {
@@ -178,6 +191,7 @@ pub fn place_of(name: &[u8], kind: Kind) -> usize
         Kind::Remove => which_remove(name),
         Kind::Protocol => which_protocol(name),
         Kind::MetaData => which_meta_data(name),
+        Kind::Mergeskip => which_mergeskip(name),
         Kind::Marker => which_marker(name),
         Kind::State => which_state(name),
         Kind::Manifest => which_manifest(name),
@@ -196,6 +210,7 @@ pub fn names_in(kind: Kind) -> usize
         Kind::Remove => 1,
         Kind::Protocol => 4,
         Kind::MetaData => 2,
+        Kind::Mergeskip => 3,
         Kind::Marker => 3,
         Kind::State => 1,
         Kind::Manifest => 2,

@@ -14,13 +14,13 @@ ghost use Rattle.field_scalars.specs.Versions.{versionOf};
 ghost use Rattle.field_scalars.specs.Inside.{Inside, Proper, onceIn, orNothing, wholeIn, boolIn, stringIn, optionalWholeIn};
 ghost use Rattle.field_scalars.specs.Texts.{StringIs, PathIs, pathOf, idOf};
 ghost use Rattle.field_scalars.specs.Optionals.{optionalOf, OptionalIs};
-ghost use Rattle.field_scalars.specs.Counts.{recordsIs};
+ghost use Rattle.field_scalars.specs.Counts.{recordsIs, countIn};
 
 // The most bytes that a path may have, decoded.
 const LONGEST_PATH: usize = 512;
 
-// The greatest number of a protocol.
-const MOST_VERSION: u64 = 2_147_483_647;
+// The greatest number of a protocol, and the greatest count of skips.
+const MOST_INT: u64 = 2_147_483_647;
 
 // ---- strings
 
@@ -207,7 +207,24 @@ pub fn version_in(s: &[u8], slot: Slot) -> Whole
     if n < 1 {
         return Whole::NotWhole;
     }
-    if MOST_VERSION < n {
+    if MOST_INT < n {
+        return Whole::NotWhole;
+    }
+    Whole::Number(n)
+}
+
+// A count of skips, of a field that may be missing: then it is 1. Null is no count.
+pub fn count_in(s: &[u8], slot: Slot) -> Whole
+    requires { ⌜ Inside (now s) slot ⌝ }
+    ensures { λ r. ⌜ r ≡ wholeIs (countIn (now (s .entry)) slot) ⌝ }
+{
+    if slot.seen < 1 {
+        return Whole::Number(1);
+    }
+    let Whole::Number(n) = whole_in(s, slot) else {
+        return Whole::NotWhole;
+    };
+    if MOST_INT < n {
         return Whole::NotWhole;
     }
     Whole::Number(n)

@@ -10,15 +10,15 @@ use lib.ListN.{length, take, drop, length-drop}
 use lib.Seq.{drop-drop}
 use Rattle.facts.specs.Parts.{part}
 use Rattle.facts.proofs.Parts.{part-rest}
-use Rattle.rules.specs.Actions.{inAction, inField, Pairs, Facts, MetaData as RuleMetaData, Action, add, remove, protocol, metaData}
+use Rattle.rules.specs.Actions.{inAction, inField, Pairs, Facts, MetaData as RuleMetaData, Action, add, remove, protocol, metaData, mergeskip}
 use Rattle.rules.specs.Actions.{mostColumns, idAt, addOf, pathAt, partitionValuesAt, protocolOf, metaDataOf, actionBy, action}
-use Rattle.rules.specs.Actions.{onlyOne, pathWritten, pathLeft}
-use Rattle.rules.specs.Bytes.{Bytes, _>>=_, guard, among, distinct}
+use Rattle.rules.specs.Actions.{skipCountIn, orAtOnce, skipOf, onlyOne, pathWritten, pathLeft}
+use Rattle.rules.specs.Bytes.{Bytes, ascii, _>>=_, guard, among, distinct}
 use Rattle.rules.specs.Json.Text.{Text, behind, byte}
 use Rattle.rules.specs.Json.Numbers.{whole}
 use Rattle.rules.specs.Json.Strings.{string}
 use Rattle.rules.specs.Json.Values.{Member, objectOf}
-use Rattle.rules.specs.Json.Fields.{once, optional, stringOf, unquoted, boolOf, ifThere, stringsOf, stringAt, wholeAt}
+use Rattle.rules.specs.Json.Fields.{under, once, optional, stringOf, unquoted, boolOf, ifThere, stringsOf, stringAt, wholeAt}
 use Rattle.rules.proofs.Tests.{apart}
 use Rattle.rules.proofs.Json.Suffix.{bound, reads-fewer}
 use Rattle.rules.proofs.Json.Shadows.{behind-some}
@@ -33,7 +33,7 @@ use Rattle.field_objects.specs.Slots.{textIn}
 use Rattle.field_objects.specs.declared.notes.Slot.{Slot}
 use Rattle.field_objects.proofs.Slots.{slot-once}
 use Rattle.line_actions.specs.Begun.{Lined}
-use Rattle.field_scalars.specs.Counts.{recordsIs, isKnown, isBool}
+use Rattle.field_scalars.specs.Counts.{recordsIs, isKnown, isBool, countIn}
 use Rattle.field_scalars.specs.Inside.{Inside, wholeIn, boolIn, stringIn, optionalWholeIn}
 use Rattle.field_containers.specs.Nested.{Pairing, valuesIn, columnsOf, columnsIn, ColumnsIs, UsualIs}
 use Rattle.field_containers.specs.declared.nested.Usual.{Usual}
@@ -42,12 +42,14 @@ use Rattle.line_actions.specs.Line.{ActionIs}
 use Rattle.field_scalars.specs.Texts.{Read, pathOf, idOf, Told, PathIs}
 use Rattle.field_scalars.specs.declared.Path.the-variants.{Spelled}
 use Rattle.field_scalars.specs.Versions.{versionOf}
-use Rattle.line_actions.specs.declared.line.Action.the-variants.{Add, Remove, Protocol, MetaData}
+use Rattle.line_actions.specs.declared.line.Action.the-variants.{Add, Remove, Protocol, MetaData, Mergeskip}
 use Rattle.field_containers.specs.declared.nested.Columns.the-variants.{Within}
 use Rattle.field_scalars.specs.declared.Records.{Records}
+use Rattle.field_scalars.specs.declared.Records.the-variants.{Number, Missing, Bad}
 use Rattle.line_actions.proofs.Lines.{lined-action}
 use Rattle.line_actions.proofs.Slotted.{lined-inside}
 use Rattle.field_scalars.proofs.Single.{inside-single}
+use Rattle.field_scalars.proofs.Counted.{field-count}
 use Rattle.field_scalars.proofs.Stated.{field-whole, field-bool, field-string, field-optional, field-path, field-version}
 use Rattle.field_containers.proofs.Stated.{field-values, field-features, field-columns}
 use Rattle.field_scalars.proofs.Strings.{byte-text, string-behind}
@@ -450,3 +452,105 @@ module _ (s : Text) {id columns : Slot} (l : Lined s 3 (id ∷ columns ∷ [])) 
     lined-meta ∙ ap (λ o. described o (columnsIn s columns)) (t .says) ∙ ap (described (some (decoded (drop place s)))) (c .1),
     record { spelled = t .spelled; id = refl; within = c .2; columns = c .3 },
   )
+
+-- ---- mergeskip
+
+-- a number that may be missing or null, by what was read
+module _ (o : Option (Option ℕ)) where
+  pub retry-number : (t : ℕ) → Number t ≡ recordsIs o → o ≡ some (some t)
+  unfolding recordsIs
+  retry-number t e = go o e
+    where
+      go : (o : Option (Option ℕ)) → Number t ≡ recordsIs o → o ≡ some (some t)
+      go none e = apart (cc)
+      go (some none) e = apart (cc)
+      go (some (some n)) e = let q : n ≡ t = cc in ap (λ (m : ℕ). some (some m)) q
+
+  pub retry-missing : Missing ≡ recordsIs o → o ≡ some none
+  unfolding recordsIs
+  retry-missing e = go o e
+    where
+      go : (o : Option (Option ℕ)) → Missing ≡ recordsIs o → o ≡ some none
+      go none e = apart (cc)
+      go (some none) e = refl
+      go (some (some n)) e = apart (cc)
+
+  pub retry-bad : Bad ≡ recordsIs o → o ≡ none
+  unfolding recordsIs
+  retry-bad e = go o e
+    where
+      go : (o : Option (Option ℕ)) → Bad ≡ recordsIs o → o ≡ none
+      go none e = refl
+      go (some none) e = apart (cc)
+      go (some (some n)) e = apart (cc)
+
+abbrev skipping : Option Bytes → Option ℕ → Option (Option ℕ) → Option Action
+skipping p n t = p >>= (λ p. n >>= (λ n. t >>= (λ t. some (mergeskip p (record { count = n; retryAfter = orAtOnce t })))))
+
+skip-fields : (ms : List Member) → (pathAt ms >>= (λ p. skipOf ms >>= (λ k. some (mergeskip p k))))
+    ≡ skipping (pathAt ms) (skipCountIn (under (ascii "skipCount") ms)) (optional "retryAfter" ms >>= ifThere whole)
+unfolding skipOf
+skip-fields ms = go (pathAt ms) (skipCountIn (under (ascii "skipCount") ms)) (optional "retryAfter" ms)
+  where
+    retried : (p : Bytes) (n : ℕ) (t : Option (Option ℕ))
+        → ((t >>= (λ t. some (record { count = n; retryAfter = orAtOnce t }))) >>= (λ k. some (mergeskip p k))) ≡ skipping (some p) (some n) t
+    retried p n none = refl
+    retried p n (some t) = refl
+
+    go : (p : Option Bytes) (n : Option ℕ) (v : Option (Option Text))
+        → (p >>= (λ p. (n >>= (λ n. v >>= (λ v. ifThere whole v >>= (λ t. some (record { count = n; retryAfter = orAtOnce t })))))
+        >>= (λ k. some (mergeskip p k))))
+        ≡ skipping p n (v >>= ifThere whole)
+    go none n v = refl
+    go (some p) none v = refl
+    go (some p) (some n) none = refl
+    go (some p) (some n) (some v) = retried p n (ifThere whole v)
+
+module _ (s : Text) {path count retry : Slot} (l : Lined s 4 (path ∷ count ∷ retry ∷ [])) where
+  lined-mergeskip : action s ≡ skipping (pathOf (stringIn s path)) (countIn s count) (optionalWholeIn s retry)
+  unfolding actionBy namesOf
+  lined-mergeskip =
+      let a = field-path s path (l .ms) (l .each 0 (omega arith)) in
+      let b = field-count s count (l .ms) (l .each 1 (omega arith)) in
+      let c = field-optional s retry "retryAfter" (l .ms) (l .each 2 (omega arith)) in
+      lined-action s 4 l ∙ ap (λ o. o >>= (λ ms. pathAt ms >>= (λ p. skipOf ms >>= (λ k. some (mergeskip p k))))) (l .object)
+      ∙ skip-fields (l .ms) ∙ rw (a, b, c)
+
+  pub mergeskip-no-path : pathOf (stringIn s path) ≡ none → action s ≡ none
+  mergeskip-no-path e = lined-mergeskip ∙ ap (λ o. skipping o (countIn s count) (optionalWholeIn s retry)) e
+
+  pub mergeskip-no-count : countIn s count ≡ none → action s ≡ none
+  mergeskip-no-count e = lined-mergeskip ∙ ap (λ o. skipping (pathOf (stringIn s path)) o (optionalWholeIn s retry)) e ∙ go (pathOf (stringIn s path))
+    where
+      go : (p : Option Bytes) → skipping p none (optionalWholeIn s retry) ≡ none
+      go none = refl
+      go (some p) = refl
+
+  pub mergeskip-no-retry : optionalWholeIn s retry ≡ none → action s ≡ none
+  mergeskip-no-retry e =
+      lined-mergeskip ∙ ap (skipping (pathOf (stringIn s path)) (countIn s count)) e ∙ go (pathOf (stringIn s path)) (countIn s count)
+    where
+      go : (p : Option Bytes) (n : Option ℕ) → skipping p n none ≡ none
+      go none n = refl
+      go (some p) none = refl
+      go (some p) (some n) = refl
+
+  mergeskip-starts : path .seen ≡ 1 → once "path" (l .lefts) ≡ some (drop (path .start) s)
+  unfolding once namesOf
+  mergeskip-starts o = l .starts 0 (omega arith) o
+
+  pub mergeskip-there : (p n t : ℕ) (r : Option ℕ) → PathIs (pathOf (stringIn s path)) s (path .start) (Spelled p) → countIn s count ≡ some n
+      → optionalWholeIn s retry ≡ some r → orAtOnce r ≡ t → ActionIs (action s) s (Mergeskip (record { path = p; count = n; retry = t }))
+  unfolding namesOf
+  mergeskip-there p n t r (q, place) e f g =
+      let (y, h) = behind-some (string (drop p s)) (q .spelled .closed) in
+      let few : length (drop (q .spelled .end) s) + 1 ≤ length (drop p s) = reads-fewer (string-reads y (drop p s) (drop (q .spelled .end) s) h) in
+      let m : length (drop p s) ≡ length s - p = length-drop p s in
+      let single = string-single s path (path-string (stringIn s path) (q .says)) .0 in
+      let left = path-left s 4 l path (path-placed s path _ (lined-inside s 4 l 0 (omega arith)) (q .says)) (mergeskip-starts single) in
+      record {
+        says = lined-mergeskip ∙ rw (q .says, e, f, g);
+        spelled = q .spelled;
+        within = omega arith;
+        left = left ∙ ap (λ (i : ℕ). some (drop i s)) (sym place);
+      }

@@ -8,7 +8,7 @@ use native.Mathlib.Omega.{arith}
 use borrow.Author.Tests.{eq-eqb}
 use lib.ListN.{length, take, drop, length-drop}
 use Rattle.rules.specs.Actions.{inLine, inAction, Key, keyOf, add, remove, protocol, metaData, mergeskip, other}
-use Rattle.rules.specs.Actions.{addOf, pathAt, protocolOf, metaDataOf, actionBy, onlyOne, lineMember, action}
+use Rattle.rules.specs.Actions.{addOf, pathAt, protocolOf, metaDataOf, skipOf, actionBy, onlyOne, lineMember, action}
 use Rattle.rules.specs.Bytes.{Bytes, ascii, _>>=_, guard, first, same, isEmpty}
 use Rattle.rules.specs.Json.Text.{Text, Taker, behind as left, spelled, ws, byte}
 use Rattle.rules.specs.Json.Strings.{string}
@@ -28,7 +28,7 @@ use Rattle.field_names.specs.Kinds.{namesOf, seek}
 use Rattle.json_tokens.specs.Answers.{Skips}
 use Rattle.field_objects.specs.Slots.{Filled, ScannedBy, Scanned}
 use Rattle.field_names.specs.Spelled.{nameIn, Quoted}
-use Rattle.field_names.specs.declared.kinds.Kind.the-variants.{Line, MetaData}
+use Rattle.field_names.specs.declared.kinds.Kind.the-variants.{Line, Mergeskip}
 use Rattle.field_names.specs.declared.keys.Spell.{Spell}
 use Rattle.field_objects.specs.declared.notes.Slot.{Slot}
 use Rattle.field_objects.specs.declared.notes.Fields.{Fields}
@@ -214,11 +214,12 @@ module _ (s : Text) (at : ℕ) where
 
 -- ---- the value
 
-pub kind-other : (k : ℕ) → (k ≡ 0 → ⊥) → (k ≡ 1 → ⊥) → (k ≡ 2 → ⊥) → MetaData ≡ kindAt k
-kind-other zero a b c = absurd (a refl)
-kind-other (suc zero) a b c = absurd (b refl)
-kind-other (suc (suc zero)) a b c = absurd (c refl)
-kind-other (suc (suc (suc n))) a b c = refl
+pub kind-other : (k : ℕ) → (k ≡ 0 → ⊥) → (k ≡ 1 → ⊥) → (k ≡ 2 → ⊥) → (k ≡ 3 → ⊥) → Mergeskip ≡ kindAt k
+kind-other zero a b c d = absurd (a refl)
+kind-other (suc zero) a b c d = absurd (b refl)
+kind-other (suc (suc zero)) a b c d = absurd (c refl)
+kind-other (suc (suc (suc zero))) a b c d = absurd (d refl)
+kind-other (suc (suc (suc (suc n)))) a b c d = refl
 
 -- what a scan found, by whether it found an object
 module _ (o : Option (List Member × Text)) (s : Text) (at : ℕ) (names : List Bytes) (f : Fields) (r : Scanned o s at names f) where
@@ -241,7 +242,8 @@ unfolding namesOf
 few-names zero = omega arith
 few-names (suc zero) = omega arith
 few-names (suc (suc zero)) = omega arith
-few-names (suc (suc (suc n))) = omega arith
+few-names (suc (suc (suc zero))) = omega arith
+few-names (suc (suc (suc (suc n)))) = omega arith
 
 module _ (s : Text) (k v : ℕ) (g : Begun s k v) where
   begun-action : action s ≡ (lineValue (drop v s) >>= actionBy (keyAt k))
@@ -268,10 +270,6 @@ module _ (s : Text) (k v : ℕ) (g : Begun s k v) where
       ended-value : lineValue (drop v s) ≡ some (take (e - v) (drop v s))
       ended-value = begun-value ∙ ap (λ (test : Bool). guard test >>= (λ _. some (take (e - v) (drop v s)))) f
 
-      pub begun-mergeskip : k ≡ 4 → action s ≡ some mergeskip
-      unfolding actionBy
-      begun-mergeskip p = begun-action ∙ ap (λ o. o >>= actionBy (keyAt k)) ended-value ∙ ap (λ (n : ℕ). actionBy (keyAt n) (take (e - v) (drop v s))) p
-
       pub begun-other : 4 < k → action s ≡ some other
       unfolding actionBy
       begun-other p = begun-action ∙ ap (λ o. o >>= actionBy (keyAt k)) ended-value ∙ ap (λ (n : ℕ). actionBy (keyAt n) (take (e - v) (drop v s))) more
@@ -281,18 +279,19 @@ module _ (s : Text) (k v : ℕ) (g : Begun s k v) where
 
   -- ---- an object
 
-  no-object : (x : Text) → k < 4 → objectOf inAction x ≡ none → actionBy (keyAt k) x ≡ none
+  no-object : (x : Text) → k ≤ 4 → objectOf inAction x ≡ none → actionBy (keyAt k) x ≡ none
   unfolding actionBy
   no-object x h e = go k h
     where
-      go : (k : ℕ) → k < 4 → actionBy (keyAt k) x ≡ none
+      go : (k : ℕ) → k ≤ 4 → actionBy (keyAt k) x ≡ none
       go zero l = ap (λ o. o >>= (λ ms. addOf ms >>= (λ f. some (add f)))) e
       go (suc zero) l = ap (λ o. o >>= (λ ms. pathAt ms >>= (λ p. some (remove p)))) e
       go (suc (suc zero)) l = ap (λ o. o >>= (λ ms. protocolOf ms >>= (λ p. some (protocol p)))) e
       go (suc (suc (suc zero))) l = ap (λ o. o >>= (λ ms. metaDataOf ms >>= (λ m. some (metaData m)))) e
-      go (suc (suc (suc (suc n)))) l = absurd (omega arith)
+      go (suc (suc (suc (suc zero)))) l = ap (λ o. o >>= (λ ms. pathAt ms >>= (λ p. skipOf ms >>= (λ k. some (mergeskip p k))))) e
+      go (suc (suc (suc (suc (suc n))))) l = absurd (omega arith)
 
-  pub begun-no-object : k < 4 → byte 0x7B (drop v s) ≡ none → action s ≡ none
+  pub begun-no-object : k ≤ 4 → byte 0x7B (drop v s) ≡ none → action s ≡ none
   unfolding byte
   begun-no-object h n = begun-action ∙ go (spelled (value inLine) (drop v s)) refl
     where
@@ -340,8 +339,10 @@ module _ (s : Text) (k v : ℕ) (g : Begun s k v) where
           starts = starts;
         }
 
-pub place-three : (k : ℕ) → k < 4 → (k ≡ 0 → ⊥) → (k ≡ 1 → ⊥) → (k ≡ 2 → ⊥) → k ≡ 3
-place-three k h a b c = omega (arith, h, a, b, c)
-
-pub above : (k : ℕ) → 4 ≤ k → (k ≡ 4 → ⊥) → 4 < k
-above k h n = omega (arith, h, n)
+pub place-four : (k : ℕ) → k ≤ 4 → (k ≡ 0 → ⊥) → (k ≡ 1 → ⊥) → (k ≡ 2 → ⊥) → (k ≡ 3 → ⊥) → k ≡ 4
+place-four zero h a b c d = absurd (a refl)
+place-four (suc zero) h a b c d = absurd (b refl)
+place-four (suc (suc zero)) h a b c d = absurd (c refl)
+place-four (suc (suc (suc zero))) h a b c d = absurd (d refl)
+place-four (suc (suc (suc (suc zero)))) h a b c d = refl
+place-four (suc (suc (suc (suc (suc n))))) h a b c d = absurd (omega (arith, h))

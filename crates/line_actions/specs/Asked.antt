@@ -21,7 +21,7 @@ addIn (some (add f)) = some f
 addIn (some (remove p)) = none
 addIn (some (protocol p)) = none
 addIn (some (metaData m)) = none
-addIn (some mergeskip) = none
+addIn (some (mergeskip p k)) = none
 addIn (some other) = none
 
 unfoldable pub protocolIn : Option Action → Option Protocol
@@ -30,7 +30,7 @@ protocolIn (some (add f)) = none
 protocolIn (some (remove p)) = none
 protocolIn (some (protocol p)) = some p
 protocolIn (some (metaData m)) = none
-protocolIn (some mergeskip) = none
+protocolIn (some (mergeskip p k)) = none
 protocolIn (some other) = none
 
 unfoldable pub metaDataIn : Option Action → Option MetaData
@@ -39,7 +39,7 @@ metaDataIn (some (add f)) = none
 metaDataIn (some (remove p)) = none
 metaDataIn (some (protocol p)) = none
 metaDataIn (some (metaData m)) = some m
-metaDataIn (some mergeskip) = none
+metaDataIn (some (mergeskip p k)) = none
 metaDataIn (some other) = none
 
 -- ---- what is answered of a line s, which says o
@@ -63,5 +63,5 @@ spokenIs (some (add f)) = Else
 spokenIs (some (remove p)) = Else
 spokenIs (some (protocol p)) = Else
 spokenIs (some (metaData m)) = Table
-spokenIs (some mergeskip) = Else
+spokenIs (some (mergeskip p k)) = Else
 spokenIs (some other) = Else

@@ -12,7 +12,7 @@ use Rattle.rules.specs.Json.Values.{Member, Behind, closed, onward, neither, cl
 use Rattle.field_names.specs.Kinds.{namesOf}
 use Rattle.field_objects.specs.Slots.{Each, EachLeft}
 use Rattle.field_names.specs.declared.kinds.Kind.{Kind}
-use Rattle.field_names.specs.declared.kinds.Kind.the-variants.{Add, Remove, Protocol, MetaData}
+use Rattle.field_names.specs.declared.kinds.Kind.the-variants.{Add, Remove, Protocol, MetaData, Mergeskip}
 use Rattle.field_objects.specs.declared.notes.Slot.{Slot}
 use Rattle.field_containers.specs.Valued.{Valued}
 use Rattle.line_actions.specs.declared.line.Keyed.{Keyed}
@@ -49,7 +49,8 @@ abbrev pub kindAt : ℕ → Kind
 kindAt zero = Add
 kindAt (suc zero) = Remove
 kindAt (suc (suc zero)) = Protocol
-kindAt (suc (suc (suc n))) = MetaData
+kindAt (suc (suc (suc zero))) = MetaData
+kindAt (suc (suc (suc (suc n)))) = Mergeskip
 
 -- the line is an object whose first member begins at j
 pub record Braced (s : Text) (j : ℕ) : Type 0 where

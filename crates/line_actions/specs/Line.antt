@@ -17,6 +17,7 @@ use Rattle.field_scalars.specs.Counts.{recordsIs}
 use Rattle.line_actions.specs.declared.line.Added.{Added}
 use Rattle.line_actions.specs.declared.line.Stated.{Stated}
 use Rattle.line_actions.specs.declared.line.Tabled.{Tabled}
+use Rattle.line_actions.specs.declared.line.Skipped.{Skipped}
 use Rattle.line_actions.specs.declared.line.Action.{Action}
 use Rattle.line_actions.specs.declared.line.Action.the-variants.{Add, Remove, Protocol, MetaData, Mergeskip, Other, Malformed}
 
@@ -48,11 +49,18 @@ pub record TableIs (s : Text) (m : rMetaData) (r : Tabled) : Type 0 where
   pub within : r .columns ≤ length s
   pub columns : Listed s (r .columns) (m .partitionColumns)
 
+-- the place of the path, and the two numbers
+pub record SkipIs (o : Option rAction) (s : Text) (k : Skipped) : Type 0 where
+  pub says : o ≡ some (mergeskip (decoded (drop (k .path) s)) (record { count = k .count; retryAfter = k .retry }))
+  pub spelled : WellSpelled s (k .path)
+  pub within : k .path ≤ length s
+  pub left : pathLeft s ≡ some (drop (k .path) s)
+
 abbrev pub ActionIs : Option rAction → Text → Action → Type 0
 ActionIs o s (Add a) = (f : Facts) × (o ≡ some (add f)) × AddIs s f a
 ActionIs o s (Remove p) = (o ≡ some (remove (decoded (drop p s)))) × WellSpelled s p × (p ≤ length s) × (pathLeft s ≡ some (drop p s))
 ActionIs o s (Protocol r) = (p : rProtocol) × (o ≡ some (protocol p)) × ProtocolIs s p r
 ActionIs o s (MetaData r) = (m : rMetaData) × (o ≡ some (metaData m)) × TableIs s m r
-ActionIs o s Mergeskip = o ≡ some mergeskip
+ActionIs o s (Mergeskip k) = SkipIs o s k
 ActionIs o s Other = o ≡ some other
 ActionIs o s Malformed = o ≡ none

@@ -1,6 +1,7 @@
 // Actions by the slots of their fields, in the order of the names of their kinds.
 use crate::line::Action;
 use crate::line::Added;
+use crate::line::Skipped;
 use crate::line::Stated;
 use crate::line::Tabled;
 use bytes_values::Truth;
@@ -139,4 +140,26 @@ pub fn meta_data_in(s: &[u8], id: Slot, columns: Slot) -> Action
         id: place,
         columns: at,
     })
+}
+
+// The path of the file that was skipped, how often, and when it may be tried again: at once, where nothing is said of that.
+pub fn mergeskip_in(s: &[u8], path: Slot, count: Slot, retry: Slot) -> Action
+    requires { ⌜ Lined (now s) 4 (path ∷ count ∷ retry ∷ []) ⌝ }
+    ensures { λ r. ⌜ ActionIs (action (now (s .entry))) (now (s .entry)) r ⌝ }
+{
+    let Path::Spelled(path) = field_scalars::path_in(s, path) else {
+        return Action::Malformed;
+    };
+    let Whole::Number(count) = field_scalars::count_in(s, count) else {
+        return Action::Malformed;
+    };
+    match field_scalars::records_in(s, retry) {
+        Records::Number(retry) => Action::Mergeskip(Skipped { path, count, retry }),
+        Records::Missing => Action::Mergeskip(Skipped {
+            path,
+            count,
+            retry: 0,
+        }),
+        Records::Bad => Action::Malformed,
+    }
 }

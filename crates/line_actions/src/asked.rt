@@ -43,7 +43,7 @@ pub fn add_of(line: &[u8]) -> SaidAdd
         Action::Remove(_) => SaidAdd::NoAdd,
         Action::Protocol(_) => SaidAdd::NoAdd,
         Action::MetaData(_) => SaidAdd::NoAdd,
-        Action::Mergeskip => SaidAdd::NoAdd,
+        Action::Mergeskip(_) => SaidAdd::NoAdd,
         Action::Other => SaidAdd::NoAdd,
         Action::Malformed => SaidAdd::NoAdd,
     }
@@ -58,7 +58,7 @@ pub fn protocol_of(line: &[u8]) -> SaidProtocol
         Action::Add(_) => SaidProtocol::NoProtocol,
         Action::Remove(_) => SaidProtocol::NoProtocol,
         Action::MetaData(_) => SaidProtocol::NoProtocol,
-        Action::Mergeskip => SaidProtocol::NoProtocol,
+        Action::Mergeskip(_) => SaidProtocol::NoProtocol,
         Action::Other => SaidProtocol::NoProtocol,
         Action::Malformed => SaidProtocol::NoProtocol,
     }
@@ -73,7 +73,7 @@ pub fn table_of(line: &[u8]) -> SaidTable
         Action::Add(_) => SaidTable::NoTable,
         Action::Remove(_) => SaidTable::NoTable,
         Action::Protocol(_) => SaidTable::NoTable,
-        Action::Mergeskip => SaidTable::NoTable,
+        Action::Mergeskip(_) => SaidTable::NoTable,
         Action::Other => SaidTable::NoTable,
         Action::Malformed => SaidTable::NoTable,
     }
@@ -88,7 +88,7 @@ pub fn speaks(line: &[u8]) -> Spoken
         Action::Add(_) => Spoken::Else,
         Action::Remove(_) => Spoken::Else,
         Action::Protocol(_) => Spoken::Else,
-        Action::Mergeskip => Spoken::Else,
+        Action::Mergeskip(_) => Spoken::Else,
         Action::Other => Spoken::Else,
         Action::Malformed => Spoken::Nothing,
     }

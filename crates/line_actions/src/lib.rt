@@ -14,6 +14,7 @@ pub use asked::table_of;
 pub use line::Action;
 pub use line::Added;
 pub use line::IN_LINE;
+pub use line::Skipped;
 pub use line::Stated;
 pub use line::Tabled;
 pub use line::classify;

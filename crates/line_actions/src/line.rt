@@ -1,5 +1,6 @@
 // A line: its one member, and the action that the member states.
 use crate::acts::add_in;
+use crate::acts::mergeskip_in;
 use crate::acts::meta_data_in;
 use crate::acts::protocol_in;
 use crate::acts::remove_in;
@@ -32,6 +33,8 @@ const REMOVE: usize = 1;
 
 const PROTOCOL: usize = 2;
 
+const META_DATA: usize = 3;
+
 const MERGESKIP: usize = 4;
 
 // An add: where its path is spelled in the line (behind the opening quote, and at the closing one), its numbers,
@@ -63,13 +66,20 @@ pub struct Tabled {
     pub columns: usize,
 }
 
+// A mergeskip: where its path is spelled (behind the opening quote), how often the file was skipped, and when it may be tried again.
+pub struct Skipped {
+    pub path: usize,
+    pub count: u64,
+    pub retry: u64,
+}
+
 // What a line says. A remove by the position behind the opening quote of its path.
 pub enum Action {
     Add(Added),
     Remove(usize),
     Protocol(Stated),
     MetaData(Tabled),
-    Mergeskip,
+    Mergeskip(Skipped),
     Other,
     Malformed,
 }
@@ -172,12 +182,15 @@ fn kind_at(k: usize) -> Kind
     if k == PROTOCOL {
         return Kind::Protocol;
     }
-    Kind::MetaData
+    if k == META_DATA {
+        return Kind::MetaData;
+    }
+    Kind::Mergeskip
 }
 
 // The action of the key of place k by the fields of its object.
 fn action_in(line: &[u8], k: usize, f: Fields) -> Action
-    requires { ⌜ (k < 4) × Lined (now line) k (f .slots) ⌝ }
+    requires { ⌜ (k ≤ 4) × Lined (now line) k (f .slots) ⌝ }
     ensures { λ r. ⌜ ActionIs (action (now (line .entry))) (now (line .entry)) r ⌝ }
 {
     if k == ADD {
@@ -197,12 +210,15 @@ fn action_in(line: &[u8], k: usize, f: Fields) -> Action
     if k == PROTOCOL {
         return protocol_in(line, f.slots[0], f.slots[1], f.slots[2], f.slots[3]);
     }
-    meta_data_in(line, f.slots[0], f.slots[1])
+    if k == META_DATA {
+        return meta_data_in(line, f.slots[0], f.slots[1]);
+    }
+    mergeskip_in(line, f.slots[0], f.slots[1], f.slots[2])
 }
 
 // The action of a key that needs an object, whose value begins at v.
 fn object_at(line: &[u8], k: usize, v: usize) -> Action
-    requires { ⌜ (k < 4) × Begun (now line) k v ⌝ }
+    requires { ⌜ (k ≤ 4) × Begun (now line) k v ⌝ }
     ensures { λ r. ⌜ ActionIs (action (now (line .entry))) (now (line .entry)) r ⌝ }
 {
     let Next::At(i) = json_tokens::skip_byte(line, v, OPEN_BRACE) else {
@@ -222,16 +238,13 @@ fn object_at(line: &[u8], k: usize, v: usize) -> Action
 
 // The action of a key that any value may stand under, which begins at v.
 fn other_at(line: &[u8], k: usize, v: usize) -> Action
-    requires { ⌜ (4 ≤ k) × Begun (now line) k v ⌝ }
+    requires { ⌜ (4 < k) × Begun (now line) k v ⌝ }
     ensures { λ r. ⌜ ActionIs (action (now (line .entry))) (now (line .entry)) r ⌝ }
 {
     let Next::At(e) = json_values::value(line, v, IN_LINE) else {
         return Action::Malformed;
     };
     if line_ends(line, e) {
-        if k == MERGESKIP {
-            return Action::Mergeskip;
-        }
         return Action::Other;
     }
     Action::Malformed
@@ -244,8 +257,8 @@ pub fn classify(line: &[u8]) -> Action
     let Keyed::Value(k, v) = head(line) else {
         return Action::Malformed;
     };
-    if k < MERGESKIP {
-        return object_at(line, k, v);
+    if MERGESKIP < k {
+        return other_at(line, k, v);
     }
-    other_at(line, k, v)
+    object_at(line, k, v)
 }

@@ -1,32 +1,35 @@
 -- The rows of two tables, one after the other: what is asked of all is asked of those that are left.
-use mathlib.Core.Path.{_≡_, sym, ap, ap₂, _∙_}
+use mathlib.Core.Path.{_≡_, refl, sym, ap, ap₂, _∙_}
 use mathlib.Core.Bool.{Bool, true, false, _&&_}
 use mathlib.Core.List.{List, [], _∷_, map}
 use Prim.Native.Nat.{ℕ, _+_, _≤_, _<_}
 use native.Mathlib.Omega.{arith}
+use borrow.Author.Tests.{ne-eqb}
+use lib.Dec.{eqb}
 use lib.ListN.{length, drop, length-map, drop-of-length-le}
 use Rattle.facts.proofs.Lists.{drop-is, getD-map, All-at}
 use Rattle.facts.proofs.Rows.{length-rowsOf}
 use Rattle.rules.specs.Json.Text.{Text}
 use Rattle.rules.specs.Live.{Row}
 use Rattle.rules.specs.History.{orUnstated}
-use Rattle.rules.specs.Agreement.{agreeFacts, agreeRows, agreeProtocols, agreeTables, agree}
+use Rattle.rules.specs.Agreement.{agreeFacts, agreeSkip, agreeRow, agreeRows, agreeProtocols, agreeTables, agree}
 use Rattle.rules.proofs.Sameness.{length-same-rows}
 use Rattle.rules.proofs.Tests.{false-of, and-fails-left, and-fails-right}
 use Rattle.rules.proofs.Agreement.{agreeRows-true}
 use Rattle.row_table.specs.Table.{wide, row, rows, rowAt, behind}
-use Rattle.log_replay.specs.Views.{tableAt, orNoTable, protocolAt, factsAt, rowOf, stateOf, Stands}
+use Rattle.row_table.specs.declared.Cells.{Cells}
+use Rattle.log_replay.specs.Views.{tableAt, orNoTable, protocolAt, factsAt, skipOf, rowOf, stateOf, Stands}
 use Rattle.log_replay.specs.declared.State.{State}
 use Rattle.log_agreement.specs.Held.{HeldRows}
 use Rattle.log_agreement.proofs.Stated.{and-past}
 
 -- ---- the rule
 
-agreeRows-here : (r s : Row) (rs ss : List Row) → agreeFacts (r .facts) (s .facts) ≡ true → agreeRows (r ∷ rs) (s ∷ ss) ≡ agreeRows rs ss
+agreeRows-here : (r s : Row) (rs ss : List Row) → agreeRow r s ≡ true → agreeRows (r ∷ rs) (s ∷ ss) ≡ agreeRows rs ss
 unfolding agreeRows
 agreeRows-here r s rs ss e = rw (agreeRows, e)
 
-agreeRows-fails : (r s : Row) (rs ss : List Row) → agreeFacts (r .facts) (s .facts) ≡ false → agreeRows (r ∷ rs) (s ∷ ss) ≡ false
+agreeRows-fails : (r s : Row) (rs ss : List Row) → agreeRow r s ≡ false → agreeRows (r ∷ rs) (s ∷ ss) ≡ false
 unfolding agreeRows
 agreeRows-fails r s rs ss e = rw (agreeRows, e)
 
@@ -45,6 +48,26 @@ viewed-here src n t k h =
 
 pub row-stands : (src : Text) (n : ℕ) (t : List ℕ) (k : ℕ) → k < n → HeldRows src n t → Stands src (rowAt (rows n t) k)
 row-stands src n t k h w = All-at (Stands src) (rows n t) k (row []) (omega (arith, h, length-rowsOf wide row n t)) (w .stands)
+
+-- ---- two rows
+
+and-true : (a : Bool) → (a && true) ≡ a
+and-true true = refl
+and-true false = refl
+
+module _ (src : Text) (c d : Cells) where
+  pub rows-by : eqb (c .skips) (d .skips) ≡ true → eqb (c .retry) (d .retry) ≡ true
+      → agreeRow (rowOf src c) (rowOf src d) ≡ agreeFacts (factsAt src c) (factsAt src d)
+  unfolding agreeRow agreeSkip rowOf skipOf
+  rows-by e f = rw (agreeRow, agreeSkip, e, f) (and-true (agreeFacts (factsAt src c) (factsAt src d)))
+
+  pub skips-differ : (c .skips ≡ d .skips → ⊥) → agreeRow (rowOf src c) (rowOf src d) ≡ false
+  unfolding agreeRow agreeSkip rowOf skipOf
+  skips-differ n = and-fails-right (agreeFacts (factsAt src c) (factsAt src d)) (and-fails-left (eqb (c .retry) (d .retry)) (ne-eqb (c .skips) (d .skips) n))
+
+  pub retries-differ : (c .retry ≡ d .retry → ⊥) → agreeRow (rowOf src c) (rowOf src d) ≡ false
+  unfolding agreeRow agreeSkip rowOf skipOf
+  retries-differ n = and-fails-right (agreeFacts (factsAt src c) (factsAt src d)) (and-fails-right (eqb (c .skips) (d .skips)) (ne-eqb (c .retry) (d .retry) n))
 
 pub counts-differ : (src : Text) (n m : ℕ) (t u : List ℕ) → (n ≡ m → ⊥) → agreeRows (viewed src n t) (viewed src m u) ≡ false
 counts-differ src n m t u h =
@@ -72,11 +95,11 @@ module _ (src : Text) (n : ℕ) (t u : List ℕ) where
           ≡ agreeRows (rowOf src (rowAt (rows n t) k) ∷ drop (k + 1) (viewed src n t)) (rowOf src (rowAt (rows n u) k) ∷ drop (k + 1) (viewed src n u))
       going-here = g ∙ ap₂ agreeRows (viewed-here src n t k h) (viewed-here src n u k h)
 
-      pub going-same : agreeFacts (factsAt src (rowAt (rows n t) k)) (factsAt src (rowAt (rows n u) k)) ≡ true → Going (k + 1)
+      pub going-same : agreeRow (rowOf src (rowAt (rows n t) k)) (rowOf src (rowAt (rows n u) k)) ≡ true → Going (k + 1)
       unfolding rowOf
       going-same e = going-here ∙ agreeRows-here (rowOf src (rowAt (rows n t) k)) (rowOf src (rowAt (rows n u) k)) _ _ e
 
-      pub going-differs : agreeFacts (factsAt src (rowAt (rows n t) k)) (factsAt src (rowAt (rows n u) k)) ≡ false
+      pub going-differs : agreeRow (rowOf src (rowAt (rows n t) k)) (rowOf src (rowAt (rows n u) k)) ≡ false
           → agreeRows (viewed src n t) (viewed src n u) ≡ false
       unfolding rowOf
       going-differs e = going-here ∙ agreeRows-fails (rowOf src (rowAt (rows n t) k)) (rowOf src (rowAt (rows n u) k)) _ _ e

@@ -18,7 +18,7 @@ ghost use mathlib.Core.List.{map};
 ghost use Prim.Native.Nat.{_+_};
 ghost use Rattle.facts.specs.Parts.{part};
 ghost use Rattle.rules.specs.Actions.{Facts};
-ghost use Rattle.rules.specs.Agreement.{agreeRecords, agreeFacts, agreeRows, agree as rAgree};
+ghost use Rattle.rules.specs.Agreement.{agreeRecords, agreeFacts, agreeRow, agreeRows, agree as rAgree};
 ghost use Rattle.line_actions.specs.Line.{AddIs};
 ghost use Rattle.row_table.specs.Table.{rows};
 ghost use Rattle.row_live.specs.Live.{placeOf};
@@ -116,9 +116,23 @@ fn same_facts(src: &[u8], c: Cells, d: Cells) -> bool
     same_adds(&src[at..end], x, &src[from..to], y)
 }
 
+// Whether two rows are of files with the same facts, of which the same was said since.
+fn same_files(src: &[u8], c: Cells, d: Cells) -> bool
+    requires { ⌜ Stands (now src) c × Stands (now src) d ⌝ }
+    ensures { λ r. ⌜ r ≡ agreeRow (rowOf (now (src .entry)) c) (rowOf (now (src .entry)) d) ⌝ }
+{
+    if c.skips != d.skips {
+        return false;
+    }
+    if c.retry != d.retry {
+        return false;
+    }
+    same_facts(src, c, d)
+}
+
 // ---- all files
 
-// Whether the first n rows of two tables are of files with the same facts, one after the other.
+// Whether the first n rows of two tables are of the same files, one after the other.
 fn same_rows(src: &[u8], ta: &[u64], tb: &[u64], n: usize) -> bool
     requires { ⌜ HeldRows (now src) n (now ta) × HeldRows (now src) n (now tb) ⌝ }
     ensures { λ r. ⌜ r ≡ agreeRows (map (rowOf (now (src .entry))) (rows n (now (ta .entry)))) (map (rowOf (now (src .entry))) (rows n (now (tb .entry)))) ⌝ }
@@ -127,7 +141,7 @@ fn same_rows(src: &[u8], ta: &[u64], tb: &[u64], n: usize) -> bool
     while k < n {
         let c = row_table::row_at(ta, k);
         let d = row_table::row_at(tb, k);
-        if same_facts(src, c, d) {
+        if same_files(src, c, d) {
             k += 1;
         } else {
             return false;

@@ -10,18 +10,18 @@ use Rattle.facts.specs.Lists.{All}
 use Rattle.facts.specs.Parts.{part}
 use Rattle.rules.specs.Bytes.{Bytes}
 use Rattle.rules.specs.Json.Text.{Text}
-use Rattle.rules.specs.Actions.{Facts, add, remove, protocol, metaData, mergeskip, other, action}
+use Rattle.rules.specs.Actions.{Facts, Skip, noSkip, add, remove, protocol, metaData, mergeskip, other, action}
 use Rattle.rules.specs.Actions.{Action as rAction, Protocol as rProtocol, MetaData as rMetaData}
-use Rattle.rules.specs.Live.{Row, put, takeOut, pathOf}
+use Rattle.rules.specs.Live.{Row, put, takeOut, change, skipped, pathOf}
 use Rattle.rules.specs.Refusals.{accepted}
-use Rattle.rules.specs.History.{fits, effect, withinLimit, readLine, orUnstated}
+use Rattle.rules.specs.History.{fits, added, effect, withinLimit, readLine, orUnstated}
 use Rattle.rules.proofs.Tests.{apart}
 use Rattle.rules.proofs.Live.{All-put, All-takeOut}
 use Rattle.json_strings.specs.Decoded.{decoded, WellSpelled}
 use Rattle.row_table.specs.Table.{rows, behind}
 use Rattle.row_table.specs.declared.Cells.{Cells}
 use Rattle.row_live.specs.declared.Standing.{Standing}
-use Rattle.row_live.specs.Live.{placeOf, key, Packed, Became}
+use Rattle.row_live.specs.Live.{placeOf, key, Packed, Became, marked}
 use Rattle.refusals.specs.Numbered.{numbered}
 use Rattle.refusals.specs.declared.Refusal.the-variants.{TooManyLive, Malformed as MalformedLine, ForeignKeys}
 use Rattle.line_actions.specs.Line.{ActionIs}
@@ -29,20 +29,21 @@ use Rattle.line_actions.specs.Asked.{addIn, protocolIn}
 use Rattle.line_actions.specs.declared.line.Added.{Added}
 use Rattle.line_actions.specs.declared.line.Stated.{Stated}
 use Rattle.line_actions.specs.declared.line.Tabled.{Tabled}
+use Rattle.line_actions.specs.declared.line.Skipped.{Skipped}
 use Rattle.line_actions.specs.declared.line.Action.the-variants.{Add, Remove, Protocol, MetaData, Mergeskip, Other, Malformed}
 use Rattle.log_replay.specs.declared.State.{State}
 use Rattle.log_replay.specs.declared.Put.the-variants.{Rows, Full}
 use Rattle.log_replay.specs.declared.Outcome.the-variants.{Done, Refused}
-use Rattle.log_replay.specs.Views.{Lies, lineAt, protocolAt, factsAt, rowOf, orNoTable, tableAt, stateOf, Stands, Carries}
+use Rattle.log_replay.specs.Views.{Lies, lineAt, protocolAt, factsAt, skipOf, rowOf, orNoTable, tableAt, stateOf, Stands, Carries}
 use Rattle.log_replay.specs.Answers.{Carried, PutIs, origin, LineIs}
 use Rattle.rules.proofs.Applying.{withinLimit-few, withinLimit-many, readLine-none, readLine-some, readLine-foreign}
 use Rattle.json_strings.proofs.Placing.{Placed, spelled-part}
 use Rattle.log_replay.proofs.Nothing.{table-here, table-there}
-use Rattle.log_replay.proofs.Standing.{stands-facts, rows-put, rows-takeOut, length-live}
+use Rattle.log_replay.proofs.Standing.{stands-facts, rows-put, rows-takeOut, stands-change, rows-change, length-live}
 
 -- the row of an add
 abbrev pub rowFor : (head len : ℕ) → Added → Cells
-rowFor head len a = record { head = head; len = len; size = a .size; time = a .time }
+rowFor head len a = record { head = head; len = len; size = a .size; time = a .time; skips = 0; retry = 0 }
 
 -- an action that is no add has no keys
 keyless : (held : Bool) (a : rAction) → addIn (some a) ≡ none → (m : rMetaData) → fits (origin held) a m ≡ true
@@ -51,7 +52,7 @@ keyless true (add f) e m = apart (cc)
 keyless true (remove p) e m = refl
 keyless true (protocol p) e m = refl
 keyless true (metaData n) e m = refl
-keyless true mergeskip e m = refl
+keyless true (mergeskip p k) e m = refl
 keyless true other e m = refl
 keyless false a e m = refl
 
@@ -92,10 +93,6 @@ module _ (src line : Text) (limit from : ℕ) (st : State) (t : List ℕ) (w : C
 
   carried-same : Carried src limit t st t
   carried-same = record { left = record { rest = refl; length = refl }; carries = w }
-
-  pub did-mergeskip : (held : Bool) (e k : ℕ) → ActionIs (action line) line Mergeskip → LineIs src limit held from line e k st t t (Done st)
-  unfolding effect addIn
-  did-mergeskip held e k q = (leads held mergeskip q (keyless held mergeskip refl _) st t refl (w .few) e k, carried-same)
 
   pub did-other : (held : Bool) (e k : ℕ) → ActionIs (action line) line Other → LineIs src limit held from line e k st t t (Done st)
   unfolding effect addIn
@@ -209,6 +206,40 @@ module _ (src line : Text) (limit from : ℕ) (st : State) (t : List ℕ) (w : C
         became-carried r w (All-takeOut (key src) (Stands src) k rs (w .stands)) b,
       )
 
+  -- ---- a mergeskip
+
+  pub skip-placed : {k : Skipped} → ActionIs (action line) line (Mergeskip k) → Placed src (from + k .path) (decoded (drop (k .path) line))
+  skip-placed {k} q = placed (k .path) (q .spelled)
+
+  pub skip-fits : {k : Skipped} → ActionIs (action line) line (Mergeskip k) → from + k .path ≤ length src
+  skip-fits {k} q = let n : k .path ≤ length line = q .within in omega (arith, z .within)
+
+  pub did-mergeskip : (held : Bool) (entry number : ℕ) {k : Skipped} {t′ : List ℕ} → ActionIs (action line) line (Mergeskip k)
+      → Became src (change (key src) (decoded (drop (from + k .path) src)) (marked (k .count) (k .retry)) (rows (st .live) (behind (st .base) t)))
+      limit t (record { base = st .base; live = st .live }) t′
+      → LineIs src limit held from line entry number st t t′ (Done st)
+  unfolding effect stateOf addIn
+  did-mergeskip held entry number {k} {t′} q b =
+      let rs : List Cells = rows (st .live) (behind (st .base) t) in
+      let said : Skip = record { count = k .count; retryAfter = k .retry } in
+      let x : Bytes = decoded (drop (k .path) line) in
+      let e : map (rowOf src) (rows (st .live) (behind (st .base) t′)) ≡ change pathOf x (skipped said) (map (rowOf src) rs) =
+      ap (map (rowOf src)) (b .holds) ∙ rows-change src (decoded (drop (from + k .path) src)) (k .count) (k .retry) rs (w .stands)
+      ∙ ap (λ (y : Bytes). change pathOf y (skipped said) (map (rowOf src) rs)) (skip-placed q .same) in (
+        leads held
+            (mergeskip x said)
+            (q .says)
+            (keyless held (mergeskip x said) refl _)
+            st
+            t′
+            (ap
+            (λ (rs′ : List Row). record { table = orNoTable (tableAt src (st .table)); inForce = orUnstated (protocolAt src (st .protocol)); live = rs′ })
+            (sym e))
+            (w .few) entry number,
+        became-carried (record { base = st .base; live = st .live }) w
+            (stands-change src (decoded (drop (from + k .path) src)) (k .count) (k .retry) rs (w .stands)) b,
+      )
+
   -- ---- an add
 
   module _ {a : Added} (q : ActionIs (action line) line (Add a)) where
@@ -237,14 +268,14 @@ module _ (src line : Text) (limit from : ℕ) (st : State) (t : List ℕ) (w : C
         time = sym (q .2 .time);
       }
 
-      row-add : rowOf src (rowFor head (length line) a) ≡ record { at = from; size = length line; facts = q .0 }
-      unfolding rowOf stands-add
+      row-add : rowOf src (rowFor head (length line) a) ≡ added from (length line) (q .0)
+      unfolding rowOf skipOf stands-add added noSkip
       row-add =
-          ap (λ (n : ℕ). record { at = n; size = length line; facts = factsAt src (rowFor head (length line) a) }) (packed .place)
-          ∙ ap (λ (f : Facts). record { at = from; size = length line; facts = f }) (stands-facts src (rowFor head (length line) a) stands-add)
+          ap (λ (n : ℕ). record { at = n; size = length line; facts = factsAt src (rowFor head (length line) a); skip = noSkip }) (packed .place)
+          ∙ ap (λ (f : Facts). record { at = from; size = length line; facts = f; skip = noSkip }) (stands-facts src (rowFor head (length line) a) stands-add)
 
       live-add : map (rowOf src) (put (key src) (rowFor head (length line) a) (rows (st .live) (behind (st .base) t)))
-          ≡ put pathOf (record { at = from; size = length line; facts = q .0 }) (map (rowOf src) (rows (st .live) (behind (st .base) t)))
+          ≡ put pathOf (added from (length line) (q .0)) (map (rowOf src) (rows (st .live) (behind (st .base) t)))
       live-add =
           rows-put src (rowFor head (length line) a) (rows (st .live) (behind (st .base) t)) stands-add (w .stands)
           ∙ ap (λ (r : Row). put pathOf r (map (rowOf src) (rows (st .live) (behind (st .base) t)))) row-add

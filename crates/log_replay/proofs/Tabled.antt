@@ -19,7 +19,7 @@ said (some (add f)) m e = apart (cc)
 said (some (remove p)) m e = apart (cc)
 said (some (protocol p)) m e = apart (cc)
 said (some (metaData n)) m e = ap (λ (x : MetaData). some (metaData x)) (some-same e)
-said (some mergeskip) m e = apart (cc)
+said (some (mergeskip p k)) m e = apart (cc)
 said (some other) m e = apart (cc)
 
 pub carries-id : {src : Text} {limit : ℕ} {st : State} {t : List ℕ} → Carries src limit st t → 0 < st .table .size → HasId (stateOf src st t .table)

@@ -26,6 +26,7 @@ use Rattle.line_actions.specs.Asked.{protocolIn}
 use Rattle.line_actions.specs.declared.line.Added.{Added}
 use Rattle.line_actions.specs.declared.line.Stated.{Stated as Stating}
 use Rattle.line_actions.specs.declared.line.Tabled.{Tabled}
+use Rattle.line_actions.specs.declared.line.Skipped.{Skipped}
 use Rattle.line_actions.specs.declared.line.Action.the-variants.{Add, Remove, Protocol, MetaData, Mergeskip, Other, Malformed}
 use Rattle.log_replay.specs.declared.begin.Said.{Said}
 use Rattle.refusals.specs.Numbered.{numbered}
@@ -53,9 +54,9 @@ module _ (src line : Text) (from e k : ℕ) (x : Said) (w : Stated src x) (z : L
   unfolding rSay numbered
   said-remove q = told _ (q .0)
 
-  pub said-mergeskip : ActionIs (action line) line Mergeskip → SayingIs src (says e k line (saidOf src x)) (NotSaid (MalformedLine e k))
+  pub said-mergeskip : {s : Skipped} → ActionIs (action line) line (Mergeskip s) → SayingIs src (says e k line (saidOf src x)) (NotSaid (MalformedLine e k))
   unfolding rSay numbered
-  said-mergeskip q = told _ q
+  said-mergeskip q = told _ (q .says)
 
   pub said-malformed : ActionIs (action line) line Malformed → SayingIs src (says e k line (saidOf src x)) (NotSaid (MalformedLine e k))
   unfolding says numbered

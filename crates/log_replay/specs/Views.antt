@@ -8,7 +8,7 @@ use lib.ListN.{length}
 use Rattle.facts.specs.Lists.{All}
 use Rattle.facts.specs.Parts.{part}
 use Rattle.rules.specs.Json.Text.{Text}
-use Rattle.rules.specs.Actions.{Facts, MetaData, Protocol, Action, add, action}
+use Rattle.rules.specs.Actions.{Facts, Skip, MetaData, Protocol, Action, add, action}
 use Rattle.rules.specs.Live.{Row}
 use Rattle.rules.specs.History.{noTable, orUnstated}
 use Rattle.rules.specs.History.{State as rState, Said as rSaid}
@@ -62,8 +62,12 @@ factsIn o = orNoFacts (addIn o)
 unfoldable pub factsAt : Text → Cells → Facts
 factsAt src c = factsIn (action (part src (placeOf c) (placeOf c + c .len)))
 
+-- what was said of its file since
+unfoldable pub skipOf : Cells → Skip
+skipOf c = record { count = c .skips; retryAfter = c .retry }
+
 unfoldable pub rowOf : Text → Cells → Row
-rowOf src c = record { at = placeOf c; size = c .len; facts = factsAt src c }
+rowOf src c = record { at = placeOf c; size = c .len; facts = factsAt src c; skip = skipOf c }
 
 -- ---- what is carried
 

@@ -64,7 +64,7 @@ fn say(src: &[u8], line: &[u8], from: usize, entry: usize, number: usize, said: 
             }
             Saying::Refused(bad)
         }
-        Action::Mergeskip => Saying::Refused(bad),
+        Action::Mergeskip(_) => Saying::Refused(bad),
         Action::Other => Saying::Next(said),
         Action::Malformed => Saying::Refused(bad),
     }

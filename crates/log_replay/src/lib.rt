@@ -131,6 +131,8 @@ fn apply_add(
         len: line.len() as u64,
         size: a.size,
         time: a.time,
+        skips: 0,
+        retry: 0,
     };
     let base = st.base;
     let n = st.live;
@@ -204,7 +206,10 @@ pub fn apply(
             base,
             live: n,
         }),
-        Action::Mergeskip => Outcome::Done(st),
+        Action::Mergeskip(k) => {
+            row_live::mark(src, t, base, n, from + k.path, k.count, k.retry);
+            Outcome::Done(st)
+        }
         Action::Other => Outcome::Done(st),
         Action::Malformed => Outcome::Refused(Refusal::Malformed(entry, number)),
     }

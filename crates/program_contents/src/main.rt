@@ -6,6 +6,7 @@ use file_names::Name;
 use file_names::Version;
 use line_actions::Action;
 use line_actions::Added;
+use line_actions::Skipped;
 use line_actions::Stated;
 use shown::Shown;
 ghost use Prim.Native.Nat.{_<_};
@@ -85,6 +86,17 @@ fn print_remove(line: &[u8], path: usize)
     program_printing::size(json_strings::decoded_size(line, path));
 }
 
+fn print_skipped(line: &[u8], k: Skipped)
+    requires { ⌜ WellSpelled (now line) (k .path) ⌝ }
+{
+    program_printing::word(b"mergeskip ");
+    program_printing::number(k.count);
+    program_printing::word(b" ");
+    program_printing::number(k.retry);
+    program_printing::word(b" ");
+    program_printing::size(json_strings::decoded_size(line, k.path));
+}
+
 fn print_stated(p: Stated) {
     program_printing::word(b"protocol ");
     program_printing::number(p.reader);
@@ -102,7 +114,7 @@ fn print_action(line: &[u8]) {
         Action::Remove(p) => print_remove(line, p),
         Action::Protocol(p) => print_stated(p),
         Action::MetaData(_) => program_printing::word(b"metaData"),
-        Action::Mergeskip => program_printing::word(b"mergeskip"),
+        Action::Mergeskip(k) => print_skipped(line, k),
         Action::Other => program_printing::word(b"other"),
         Action::Malformed => program_printing::word(b"malformed"),
     }

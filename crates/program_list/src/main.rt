@@ -9,8 +9,8 @@ ghost use lib.ListN.{length};
 
 const MOST_BYTES: usize = 65536;
 
-// A row: the place of its line, the line's length, size, time.
-const ROW: usize = 4;
+// A row: the place of its line, the line's length, size, time; how often it was skipped, and from when on it may be tried again.
+const ROW: usize = 6;
 
 // One byte more than a bundle may have here, so that a longer one is seen.
 fn input() -> [u8; 65537]
@@ -19,10 +19,10 @@ fn input() -> [u8; 65537]
     [0; 65537]
 }
 
-fn table() -> [u64; 4096]
-    ensures { λ r. ⌜ 4096 ≡ length r ⌝ }
+fn table() -> [u64; 6144]
+    ensures { λ r. ⌜ 6144 ≡ length r ⌝ }
 {
-    [0; 4096]
+    [0; 6144]
 }
 
 fn print_refusal(x: Refusal) {

@@ -21,6 +21,7 @@ fn answered(letter: u8) -> bool {
         b'm' => states::manifests(),
         b'n' => showings::records(),
         b'p' => showings::path(),
+        b'q' => readings::due(),
         b'r' => readings::version(),
         _ => false,
     }

@@ -1,8 +1,9 @@
-// The answers of a reading: `r` at a version, `l` at the latest.
+// The answers of a reading: `r` at a version, `l` at the latest, `q` of what is due at a time.
 use crate::requests;
 use crate::rooms;
 use crate::sums;
 use crate::words;
+use file_names::Millis;
 use file_names::Version;
 use reading::Listing;
 use reading::Read;
@@ -86,4 +87,34 @@ pub fn version() -> bool {
 
 pub fn latest() -> bool {
     answer(Asked::Latest)
+}
+
+fn print_due(bundle: &[u8], time: Millis, rows: &mut [u64]) {
+    print_read(reading::read_due(bundle, time, rows));
+    words::print_last(sums::of_u64(rows));
+}
+
+fn answer_due(time: Millis) -> bool {
+    let mut rows = rooms::table();
+    let lent = requests::next_of_table(&rows);
+    if !lent.whole {
+        return false;
+    }
+    let mut bundle_room = rooms::long();
+    let bundle = requests::next_text(&mut bundle_room);
+    if !bundle.whole {
+        return false;
+    }
+    let rows_size = lent.size;
+    let bundle_size = bundle.size;
+    print_due(&bundle_room[..bundle_size], time, &mut rows[..rows_size]);
+    true
+}
+
+pub fn due() -> bool {
+    let time = requests::next_number();
+    if !time.whole {
+        return false;
+    }
+    answer_due(Millis(time.value))
 }

@@ -24,10 +24,10 @@ pub fn long() -> [u8; 1100000]
 }
 
 // The rows of a reading.
-pub fn table() -> [u64; 4200]
-    ensures { λ r. ⌜ 4200 ≡ length r ⌝ }
+pub fn table() -> [u64; 6300]
+    ensures { λ r. ⌜ 6300 ≡ length r ⌝ }
 {
-    [0xA5A5A5A5A5A5A5A5; 4200]
+    [0xA5A5A5A5A5A5A5A5; 6300]
 }
 
 // Numbers of entries, or of manifests kept.

@@ -1,9 +1,9 @@
 -- Values against a condition's own: what the orders and the numerals of the code say by the rules.
-use mathlib.Core.Path.{_≡_, refl, ap, _∙_}
+use mathlib.Core.Path.{_≡_, refl, sym, ap, subst, _∙_}
 use mathlib.Core.Bool.{false}
-use Rattle.rules.specs.Bytes.{Bytes, Order as rOrder}
-use Rattle.rules.specs.Query.{Number as rNumber, number, outOfRange, notNumber, numberOf, asNumber, Op}
-use Rattle.rules.specs.Picking.{meets, orderOfNumbers, meetsNumber, meetsAs}
+use Rattle.rules.specs.Bytes.{Bytes, Order as rOrder, order}
+use Rattle.rules.specs.Query.{Number as rNumber, number, outOfRange, notNumber, numberOf, isOutOfRange, As, asText, asNumber, Op}
+use Rattle.rules.specs.Picking.{meets, orderOfNumbers, meetsNumber, meetsAs, outOfAs}
 use Rattle.rules.specs.Manifests.{outside, outsideNumbers, outsideAs}
 use Rattle.bytes_values.specs.Answers.{orderIs, orderOf}
 use Rattle.query_numbers.specs.Answers.{signedIs, numeralIs}
@@ -12,23 +12,43 @@ use Rattle.query_numbers.specs.declared.Signed.{Signed}
 use Rattle.query_numbers.specs.declared.Numeral.{Numeral}
 use Rattle.bytes_values.proofs.Back.{order-back}
 use Rattle.query_numbers.proofs.Back.{signed-back}
+use Rattle.query_conditions.specs.Words.{asIs}
+use Rattle.query_conditions.specs.declared.words.As.{As as Kind}
 use Rattle.query_comparisons.specs.Between.{outsideBy, outsideNumerals}
+use Rattle.query_comparisons.specs.Judging.{judgedIs}
+use Rattle.query_comparisons.specs.declared.Judged.{Judged}
+use Rattle.query_comparisons.specs.declared.Judged.the-variants.{Unmet, OutOfRange}
 
 -- ---- one value
 
 module _ (op : Op) (v b : Bytes) where
-  pub number-meets : (m n : Signed) → numberOf v ≡ number (signedIs m) → numberOf b ≡ number (signedIs n)
-      → meetsAs asNumber op v b ≡ meets op (orderOfNumbers (signedIs m) (signedIs n))
-  unfolding meetsAs meetsNumber
-  number-meets m n e f = rw (e, f)
+  -- what is to be answered of it
+  abbrev pub Answered : As → Judged → Type 0
+  Answered kind r = r ≡ judgedIs (outOfAs kind v) (meetsAs kind op v b)
 
-  pub number-out : numberOf v ≡ outOfRange → meetsAs asNumber op v b ≡ false
-  unfolding meetsAs meetsNumber
-  number-out e = rw e
+  -- by the condition's kind
+  pub kind-judged : {k k′ : Kind} {r : Judged} → k ≡ k′ → Answered (asIs k′) r → Answered (asIs k) r
+  kind-judged {r = r} e a = subst (λ (x : Kind). Answered (asIs x) r) (sym e) a
 
-  pub number-not : numberOf v ≡ notNumber → meetsAs asNumber op v b ≡ false
-  unfolding meetsAs meetsNumber
-  number-not e = rw e
+  pub text-judged : {o : Order} → o ≡ orderIs (order v b) → Answered asText (judgedIs false (meets op (orderOf o)))
+  unfolding outOfAs meetsAs
+  text-judged e = ap (λ (x : rOrder). judgedIs false (meets op x)) (ap orderOf e ∙ order-back (order v b))
+
+  pub number-judged : (m n : Signed) {o : Order} → numberOf v ≡ number (signedIs m) → numberOf b ≡ number (signedIs n)
+      → o ≡ orderIs (orderOfNumbers (signedIs m) (signedIs n))
+      → Answered asNumber (judgedIs false (meets op (orderOf o)))
+  unfolding outOfAs isOutOfRange meetsAs meetsNumber
+  number-judged m n {o} e f g =
+      let x : orderOf o ≡ orderOfNumbers (signedIs m) (signedIs n) = ap orderOf g ∙ order-back (orderOfNumbers (signedIs m) (signedIs n)) in
+      rw (e, f, x)
+
+  pub out-judged : numberOf v ≡ outOfRange → Answered asNumber OutOfRange
+  unfolding outOfAs isOutOfRange judgedIs
+  out-judged e = rw e
+
+  pub not-judged : numberOf v ≡ notNumber → Answered asNumber Unmet
+  unfolding outOfAs isOutOfRange meetsAs meetsNumber judgedIs
+  not-judged e = rw e
 
 -- ---- two bounds
 

@@ -1,3 +1,4 @@
 -- What a condition says of values, in the rules' terms.
 pub mod Asked
 pub mod Between
+pub mod Judging

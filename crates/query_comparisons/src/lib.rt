@@ -1,4 +1,4 @@
-// What a condition says of values: whether one meets it, and whether none between two bounds does.
+// What a condition says of values: whether one meets it or is out of range, and whether none between two bounds meets it.
 use bytes_values::Order;
 use query_conditions::As;
 use query_conditions::Condition;
@@ -6,8 +6,9 @@ use query_conditions::Op;
 use query_numbers::Numeral;
 use query_numbers::Signed;
 ghost use mathlib.Core.Path.{_≡_};
+ghost use mathlib.Core.Bool.{false};
 ghost use lib.ListN.{drop};
-ghost use Rattle.rules.specs.Picking.{meets as rMeets, meetsAs};
+ghost use Rattle.rules.specs.Picking.{meets as rMeets, meetsAs, outOfAs};
 ghost use Rattle.rules.specs.Manifests.{noneMeets, outsideAs};
 ghost use Rattle.bytes_values.specs.Answers.{orderOf};
 ghost use Rattle.json_strings.specs.Decoded.{decoded, WellSpelled};
@@ -15,6 +16,14 @@ ghost use Rattle.query_conditions.specs.Words.{asIs, opIs};
 ghost use Rattle.query_conditions.specs.Conditions.{Sound};
 ghost use Rattle.query_comparisons.specs.Asked.{byOrder};
 ghost use Rattle.query_comparisons.specs.Between.{outsideBy, outsideNumerals};
+ghost use Rattle.query_comparisons.specs.Judging.{judgedIs};
+
+// What conditions say of a value, or of all values of a file. One that is out of range is no answer to them.
+pub enum Judged {
+    Met,
+    Unmet,
+    OutOfRange,
+}
 
 // The answer for the order that it is.
 fn by_order(o: Order, less: bool, equal: bool, more: bool) -> bool
@@ -40,21 +49,33 @@ fn meets(op: Op, o: Order) -> bool
     }
 }
 
-// Whether the string in s behind `at` meets the condition of the query q.
-pub fn meets_at(q: &[u8], c: Condition, s: &[u8], at: usize) -> bool
+// What is judged of values in range, by whether they meet what is asked.
+fn in_range(met: bool) -> Judged
+    ensures { λ r. ⌜ r ≡ judgedIs false met ⌝ }
+{
+    if met {
+        return Judged::Met;
+    }
+    Judged::Unmet
+}
+
+// Whether the string in s behind `at` meets the condition of the query q, or is a number out of range where the condition reads numbers.
+pub fn judge_at(q: &[u8], c: Condition, s: &[u8], at: usize) -> Judged
     requires { ⌜ Sound (now q) c × WellSpelled (now s) at ⌝ }
-    ensures { λ r. ⌜ r ≡ meetsAs (asIs (c .kind)) (opIs (c .op)) (decoded (drop at (now (s .entry)))) (decoded (drop (c .bound) (now (q .entry)))) ⌝ }
+    ensures { λ r. ⌜ r
+        ≡ judgedIs (outOfAs (asIs (c .kind)) (decoded (drop at (now (s .entry)))))
+        (meetsAs (asIs (c .kind)) (opIs (c .op)) (decoded (drop at (now (s .entry)))) (decoded (drop (c .bound) (now (q .entry))))) ⌝ }
 {
     let kind = c.kind;
     let op = c.op;
     let number = c.number;
     let bound = c.bound;
     match kind {
-        As::Text => meets(op, json_strings::order_strings(s, at, q, bound)),
+        As::Text => in_range(meets(op, json_strings::order_strings(s, at, q, bound))),
         As::Number => match query_conditions::numeral_in(s, at) {
-            Numeral::Number(n) => meets(op, query_numbers::order_numbers(n, number)),
-            Numeral::OutOfRange => false,
-            Numeral::NotNumber => false,
+            Numeral::Number(n) => in_range(meets(op, query_numbers::order_numbers(n, number))),
+            Numeral::OutOfRange => Judged::OutOfRange,
+            Numeral::NotNumber => Judged::Unmet, // what is no number meets none
         },
     }
 }

@@ -4,10 +4,11 @@ use Rattle.rules.specs.Bytes.{Bytes}
 use Rattle.rules.specs.Rooms.{Room}
 use Rattle.rules.specs.Reading.{Asked, theLatest, theVersion, Told}
 use Rattle.rules.proofs.Tests.{apart}
+use Rattle.file_names.specs.declared.Millis.{Millis}
 use Rattle.file_names.specs.declared.Version.{Version}
 use Rattle.refusals.specs.Numbered.{numbered}
 use Rattle.refusals.proofs.Alone.{numbered-alone}
-use Rattle.reading.specs.Answers.{readIs, ReadIs}
+use Rattle.reading.specs.Answers.{readIs, ReadIs, DueIs}
 use Rattle.reading.specs.declared.Listing.{Listing}
 use Rattle.reading.specs.declared.Read.{Read}
 use Rattle.reading.specs.declared.Read.the-variants.{Listed, Refused}
@@ -40,3 +41,7 @@ read-at-alone src q v = read-alone src q (theVersion (v .0))
 pub read-latest-alone : (src q : Bytes) (room after later : Room) (r s : Read) → ReadIs src q theLatest room after r → ReadIs src q theLatest room later s
     → (r ≡ s) × (after ≡ later)
 read-latest-alone src q = read-alone src q theLatest
+
+pub read-due-alone : (src : Bytes) (time : Millis) (room after later : Room) (r s : Read) → DueIs src (time .0) room after r → DueIs src (time .0) room later s
+    → (r ≡ s) × (after ≡ later)
+read-due-alone src time room after later r s a b = (readIs-alone r s (a .answer ∙ sym (b .answer)), a .holds ∙ sym (b .holds))

@@ -2,4 +2,5 @@
 pub mod Rules
 pub mod Rooms
 pub mod Picked
+pub mod DueRows
 pub mod Alone

@@ -1,4 +1,4 @@
--- The rows of the picked files as the room holds them at the end: the paper's four numbers of each, then zeros.
+-- The rows of the picked files as the room holds them at the end: the paper's six numbers of each, then zeros.
 use mathlib.Core.Path.{_≡_, refl, sym, ap, _∙_}
 use mathlib.Core.Bool.{Bool, true, false}
 use mathlib.Core.List.{List, [], _∷_, _++_, map}
@@ -16,27 +16,31 @@ use Rattle.rules.specs.Json.Text.{Text}
 use Rattle.rules.specs.Actions.{Facts}
 use Rattle.rules.specs.Live.{mostLive}
 use Rattle.rules.specs.Query.{Condition, columnOf}
-use Rattle.rules.specs.Picking.{meetsAll, picked}
+use Rattle.rules.specs.Picking.{meetsAll, picked, inRangeAll}
 use Rattle.rules.specs.Rooms.{rowsRoom, filled, rowNumbers, rowsNumbers}
-use Rattle.rules.specs.Refusals.{Answer, accepted}
+use Rattle.rules.specs.Refusals.{Answer, accepted, refused, valueOutOfRange}
 use Rattle.rules.specs.Reading.{told, listing, roomAfterReading}
 use Rattle.rules.specs.Reading.{Listing as rListing}
+use Rattle.rules.proofs.Later.{Later}
 use Rattle.rules.proofs.Rooms.{zeroed-rows-filled, leaves-accepted}
 use Rattle.file_names.specs.declared.Version.{Version}
 use Rattle.row_table.specs.Table.{wide, cells, row, layout, rows, Room, behind, Changed}
 use Rattle.row_table.specs.declared.Cells.{Cells}
 use Rattle.row_live.specs.Live.{placeOf, bared}
-use Rattle.log_replay.specs.Views.{factsAt, rowOf, stateOf, Stands, Carries}
+use Rattle.log_replay.specs.Views.{factsAt, skipOf, rowOf, stateOf, Stands, Carries}
+use Rattle.log_replay.specs.Answers.{Left}
 use Rattle.log_replay.specs.declared.State.{State}
 use Rattle.log_replay.proofs.Standing.{stands-facts}
 use Rattle.log_gate.specs.Judged.{Passes}
 use Rattle.log_gate.specs.declared.Numbers.{Numbers}
-use Rattle.query_picking.specs.Picked.{Picks}
+use Rattle.query_picking.specs.Picked.{Picks, PickedBy}
+use Rattle.query_picking.specs.declared.Picking.the-variants.{OutOfRange}
 use Rattle.query_picking.proofs.Fronting.{picked-map}
 use Rattle.reading.specs.Answers.{readIs, AnswerIs}
 use Rattle.reading.specs.declared.Read.the-variants.{Listed}
-use Rattle.reading.proofs.Rooms.{numbers}
-use Rattle.reading.proofs.Rules.{listed, listing-listed}
+use Rattle.reading.specs.declared.Read.{Read}
+use Rattle.reading.proofs.Rooms.{numbers, answer-left, answer-same}
+use Rattle.reading.proofs.Rules.{listed, listing-range, listing-listed}
 
 -- ---- the numbers of rows
 
@@ -51,11 +55,12 @@ All-kept {A} P test (x ∷ xs) h = go (test x) (h .0) (All-kept P test xs (h .1)
 
 module _ (src : Text) where
   row-bared : (c : Cells) → Stands src c → cells (bared c) ≡ rowNumbers (rowOf src c)
-  unfolding cells rowNumbers rowOf
+  unfolding cells rowNumbers rowOf skipOf
   row-bared c s =
       let size : c .size ≡ factsAt src c .size = sym (ap (λ (f : Facts). f .size) (stands-facts src c s) ∙ s .size) in
       let time : c .time ≡ factsAt src c .modificationTime = sym (ap (λ (f : Facts). f .modificationTime) (stands-facts src c s) ∙ s .time) in
-      ap (λ (n : ℕ). placeOf c ∷ c .len ∷ n ∷ c .time ∷ []) size ∙ ap (λ (n : ℕ). placeOf c ∷ c .len ∷ factsAt src c .size ∷ n ∷ []) time
+      ap (λ (n : ℕ). placeOf c ∷ c .len ∷ n ∷ c .time ∷ c .skips ∷ c .retry ∷ []) size
+      ∙ ap (λ (n : ℕ). placeOf c ∷ c .len ∷ factsAt src c .size ∷ n ∷ c .skips ∷ c .retry ∷ []) time
 
   rows-bared : (rs : List Cells) → All (Stands src) rs → flat cells (map bared rs) ≡ rowsNumbers (map (rowOf src) rs)
   unfolding flat rowsNumbers All
@@ -80,7 +85,32 @@ module _ (src : Text) (st : State) (t : List ℕ) (w : Carries src mostLive st t
   pub settled-stands : All (Stands src) (rows (st .live) u)
   settled-stands = rw (f .rows) (w .stands)
 
+  settled-range : (cs : List Condition) {b : Bool} → inRangeAll cs (map (rowOf src) (rows (st .live) u)) ≡ b → inRangeAll cs (stateOf src st t .live) ≡ b
+  unfolding stateOf
+  settled-range cs e = sym (ap (λ (rs : List Cells). inRangeAll cs (map (rowOf src) rs)) (f .rows)) ∙ e
+
+  -- what was written into its rows then
+  settled-left : (t₁ : List ℕ) → behind (st .live) t₁ ≡ behind (st .live) u → length t₁ ≡ length u → Left mostLive t t₁
+  unfolding mostLive
+  settled-left t₁ rest same =
+      let l : st .base + st .live ≤ 1024 = w .few in
+      record {
+        rest = drop-later (st .live * wide) 6144 t₁ u (omega arith) rest ∙ drop-later ((st .base + st .live) * wide) 6144 u t (omega arith) (f .rest);
+        length = same ∙ f .length;
+      }
+
 -- ---- the answer
+
+-- a value is out of range
+pub answer-range : (src : Text) (cs : List Condition) (st : State) (t : List ℕ) (w : Carries src mostLive st t) (u : List ℕ) (f : Settled st t u)
+    (t₁ after : List ℕ) (v : Version) (n : Numbers) (r : Read) → Passes (stateOf src st t .inForce) n
+    → allAmong (stateOf src st t .table .partitionColumns) (map columnOf cs) ≡ true → PickedBy src cs (st .live) u t₁ OutOfRange
+    → AnswerIs (refused valueOutOfRange) t₁ after r → AnswerIs (listing cs (v .0) (stateOf src st t)) t after r
+unfolding Later
+answer-range src cs st t w u f t₁ after v n r g e p a =
+    answer-same _ _ _ _ _
+    (listing-range cs (v .0) (stateOf src st t) (g .accepts) e (settled-range src st t w u f cs (p .0)))
+    (answer-left _ _ _ _ _ (λ k. omega arith) (settled-left src st t w u f t₁ (p .1) (p .2)) a)
 
 module _ (src : Text) (cs : List Condition) (st : State) (t : List ℕ) (w : Carries src mostLive st t) where
   -- the rows of the picked files
@@ -93,11 +123,11 @@ module _ (src : Text) (cs : List Condition) (st : State) (t : List ℕ) (w : Car
     unfolding picks
     holds = p .holds ∙ ap (kept (λ (c : Cells). meetsAll cs (factsAt src c))) (f .rows)
 
-    pub picks-few : m * 4 ≤ 4096
+    pub picks-few : m * wide ≤ 6144
     unfolding mostLive
     picks-few = let a : m ≤ st .live = p .few in let l : st .base + st .live ≤ 1024 = w .few in omega arith
 
-    pub picks-long : 4096 ≤ length t₂
+    pub picks-long : 6144 ≤ length t₂
     unfolding mostLive
     picks-long = omega (arith, w .room, f .length, p .length, b .length)
 
@@ -106,32 +136,33 @@ module _ (src : Text) (cs : List Condition) (st : State) (t : List ℕ) (w : Car
     count =
         ap length (picked-map src cs (live st t)) ∙ length-map picks (rowOf src) ∙ ap length (sym holds) ∙ length-rowsOf wide row m t₁
 
-    beyond : drop 4096 t₂ ≡ drop 4096 t
+    beyond : drop 6144 t₂ ≡ drop 6144 t
     unfolding mostLive
     beyond =
-        drop-later (m * 4) 4096 t₂ t₁ picks-few (b .rest)
-        ∙ drop-later (st .live * 4) 4096 t₁ u (let l : st .base + st .live ≤ 1024 = w .few in omega arith) (p .rest)
-        ∙ drop-later ((st .base + st .live) * 4) 4096 u t (let l : st .base + st .live ≤ 1024 = w .few in omega arith) (f .rest)
+        drop-later (m * wide) 6144 t₂ t₁ picks-few (b .rest)
+        ∙ drop-later (st .live * wide) 6144 t₁ u (let l : st .base + st .live ≤ 1024 = w .few in omega arith) (p .rest)
+        ∙ drop-later ((st .base + st .live) * wide) 6144 u t (let l : st .base + st .live ≤ 1024 = w .few in omega arith) (f .rest)
 
-    room : zeroed (m * 4) 4096 t₂ ≡ filled 4096 (rowsNumbers (picked cs (stateOf src st t .live))) t
+    room : zeroed (m * wide) 6144 t₂ ≡ filled 6144 (rowsNumbers (picked cs (stateOf src st t .live))) t
     unfolding stateOf picks
     room =
-        zeroed-rows-filled layout m 4096 (map bared picks) t₂ t picks-few picks-long (b .rows ∙ ap (map bared) holds) beyond
-        ∙ ap (λ (xs : List ℕ). filled 4096 xs t)
+        zeroed-rows-filled layout m 6144 (map bared picks) t₂ t picks-few picks-long (b .rows ∙ ap (map bared) holds) beyond
+        ∙ ap (λ (xs : List ℕ). filled 6144 xs t)
         (rows-bared src picks (All-kept (Stands src) (λ (c : Cells). meetsAll cs (factsAt src c)) (live st t) (w .stands))
         ∙ ap rowsNumbers (sym (picked-map src cs (live st t))))
 
     pub answer-listed : (v : Version) (after : List ℕ) (n : Numbers) → Passes (stateOf src st t .inForce) n
-        → allAmong (stateOf src st t .table .partitionColumns) (map columnOf cs) ≡ true → after ≡ zeroed (m * 4) 4096 t₂
+        → allAmong (stateOf src st t .table .partitionColumns) (map columnOf cs) ≡ true
+        → inRangeAll cs (map (rowOf src) (rows (st .live) u)) ≡ true → after ≡ zeroed (m * wide) 6144 t₂
         → AnswerIs (listing cs (v .0) (stateOf src st t)) t after
         (Listed (record { version = v; rows = m; reader = n .reader; writer = n .writer; writable = n .writable }))
     unfolding readIs told roomAfterReading rowsRoom numbers
-    answer-listed v after n g e z =
+    answer-listed v after n g e i z =
         let k : listing cs (v .0) (stateOf src st t) ≡ accepted (listed cs (v .0) (stateOf src st t)) =
-        listing-listed cs (v .0) (stateOf src st t) (g .accepts) e in
+        listing-listed cs (v .0) (stateOf src st t) (g .accepts) e (settled-range src st t w u f cs i) in
         record {
           answer = says ∙ sym (ap told k);
-          holds = z ∙ room ∙ sym (ap (λ (a : Answer rListing). roomAfterReading a t) k ∙ leaves-accepted 4096 numbers t (listed cs (v .0) (stateOf src st t)));
+          holds = z ∙ room ∙ sym (ap (λ (a : Answer rListing). roomAfterReading a t) k ∙ leaves-accepted 6144 numbers t (listed cs (v .0) (stateOf src st t)));
         }
       where
         says : readIs (Listed (record { version = v; rows = m; reader = n .reader; writer = n .writer; writable = n .writable }))

@@ -1,7 +1,7 @@
--- The lent room: what a refusal leaves, and that what was written into its first 4,096 numbers before does not matter.
+-- The lent room: what a refusal leaves, and that what was written into its first 6,144 numbers before does not matter.
 use mathlib.Core.Path.{_≡_, refl, sym, ap, _∙_, subst}
 use mathlib.Core.List.{List, [], _++_}
-use Prim.Native.Nat.{ℕ, _-_, _≤_, _<_}
+use Prim.Native.Nat.{ℕ, _-_, _<_}
 use native.Mathlib.Omega.{arith}
 use lib.ListN.{length, drop, replicate}
 use Rattle.facts.specs.Moves.{zeroed}
@@ -12,6 +12,7 @@ use Rattle.rules.specs.Refusals.{Answer, accepted, refused, roomTooShort}
 use Rattle.rules.specs.Reading.{Asked, told, roomAfterReading}
 use Rattle.rules.specs.Reading.{Listing as rListing}
 use Rattle.rules.proofs.Rooms.{zeroed-none-filled, leaves-accepted, leaves-untouched, leaves-zeros}
+use Rattle.row_table.specs.Table.{Room as HasRoom}
 use Rattle.log_replay.specs.Answers.{Left}
 use Rattle.refusals.specs.Numbered.{numbered}
 use Rattle.refusals.specs.declared.Refusal.{Refusal}
@@ -37,29 +38,29 @@ unfolding Later
 leaves-same n (accepted l) t u h e = leaves-accepted n numbers t l ∙ filled-same n (numbers l) t u e ∙ sym (leaves-accepted n numbers u l)
 leaves-same n (refused r) t u h e = leaves-zeros n numbers t r h ∙ filled-same n [] t u e ∙ sym (leaves-zeros n numbers u r h)
 
-pub left-beyond : (room between : Room) → Left mostLive room between → drop 4096 between ≡ drop 4096 room
+pub left-beyond : (room between : Room) → Left mostLive room between → drop 6144 between ≡ drop 6144 room
 unfolding mostLive
 left-beyond room between l = l .rest
 
-pub left-long : (room between : Room) → Left mostLive room between → 4096 ≤ length room → 4096 ≤ length between
+pub left-long : (room between : Room) → Left mostLive room between → HasRoom mostLive room → HasRoom mostLive between
 left-long room between l h = omega (arith, l .length)
 
 module _ (o : Answer rListing) (room after : Room) (r : Read) where
   pub answer-left : (between : Room) → Later o → Left mostLive room between → AnswerIs o between after r → AnswerIs o room after r
   unfolding roomAfterReading numbers rowsRoom
-  answer-left between h l a = record { answer = a .answer; holds = a .holds ∙ leaves-same 4096 o between room h (left-beyond room between l) }
+  answer-left between h l a = record { answer = a .answer; holds = a .holds ∙ leaves-same 6144 o between room h (left-beyond room between l) }
 
   pub answer-same : (o′ : Answer rListing) → o′ ≡ o → AnswerIs o room after r → AnswerIs o′ room after r
   answer-same o′ e a = subst (λ (x : Answer rListing). AnswerIs x room after r) (sym e) a
 
 -- ---- a refusal
 
-pub answer-refused : (x : Refusal) (t after : Room) → 4096 ≤ length t → (numbered x .number ≡ 1 → ⊥) → after ≡ zeroed 0 4096 t
+pub answer-refused : (x : Refusal) (t after : Room) → HasRoom mostLive t → (numbered x .number ≡ 1 → ⊥) → after ≡ zeroed 0 6144 t
     → AnswerIs (refused (numbered x)) t after (Refused x)
-unfolding readIs told roomAfterReading rowsRoom numbers
-answer-refused x t after h n e = record { answer = refl; holds = e ∙ zeroed-none-filled 4096 t t h refl ∙ sym (leaves-zeros 4096 numbers t (numbered x) n) }
+unfolding readIs told roomAfterReading rowsRoom numbers mostLive
+answer-refused x t after h n e = record { answer = refl; holds = e ∙ zeroed-none-filled 6144 t t h refl ∙ sym (leaves-zeros 6144 numbers t (numbered x) n) }
 
-pub read-short : (src q : Bytes) (asked : Asked) (room : Room) → length room < 4096 → ReadIs src q asked room room (Refused RoomTooShort)
+pub read-short : (src q : Bytes) (asked : Asked) (room : Room) → length room < 6144 → ReadIs src q asked room room (Refused RoomTooShort)
 unfolding readIs told numbered roomAfterReading numbers
 read-short src q asked room h =
     let k = reading-short (length room) src q asked h in

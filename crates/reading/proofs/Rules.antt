@@ -10,10 +10,10 @@ use Rattle.rules.specs.Bundle.{File, bundle}
 use Rattle.rules.specs.Names.{anyTooLarge}
 use Rattle.rules.specs.Gate.{gate, writable}
 use Rattle.rules.specs.Query.{Condition, columnOf, query}
-use Rattle.rules.specs.Picking.{picked}
+use Rattle.rules.specs.Picking.{picked, inRangeAll}
 use Rattle.rules.specs.Rooms.{rowsRoom}
 use Rattle.rules.specs.Refusals.{Refusal, Answer, accepted, refused, _>>=_, require, roomTooShort}
-use Rattle.rules.specs.Refusals.{queryMalformed, bundleMalformed, versionTooLarge, noSuchColumn}
+use Rattle.rules.specs.Refusals.{queryMalformed, bundleMalformed, versionTooLarge, noSuchColumn, valueOutOfRange}
 use Rattle.rules.specs.History.{State}
 use Rattle.rules.specs.Starts.{Log, logOf, wayTo}
 use Rattle.rules.specs.Marker.{latest}
@@ -47,23 +47,23 @@ module _ (version : AskedFor) (log : Log) where
 -- ---- the entry
 
 module _ (room : ℕ) (src q : Bytes) (asked : Asked) where
-  pub reading-short : room < 4096 → reading room src q asked ≡ refused roomTooShort
+  pub reading-short : room < 6144 → reading room src q asked ≡ refused roomTooShort
   unfolding reading rowsRoom
-  reading-short h = rw (reading, lt-leb 4096 room h)
+  reading-short h = rw (reading, lt-leb 6144 room h)
 
-  module _ (h : 4096 ≤ room) where
+  module _ (h : 6144 ≤ room) where
     pub reading-unasked : query q ≡ none → reading room src q asked ≡ refused queryMalformed
     unfolding reading rowsRoom
-    reading-unasked e = rw (reading, le-leb 4096 room h, e)
+    reading-unasked e = rw (reading, le-leb 6144 room h, e)
 
     module _ {cs : List Condition} (e : query q ≡ some cs) where
       pub reading-unopened : bundle src ≡ none → reading room src q asked ≡ refused bundleMalformed
       unfolding reading rowsRoom
-      reading-unopened f = rw (reading, le-leb 4096 room h, e, f)
+      reading-unopened f = rw (reading, le-leb 6144 room h, e, f)
 
       pub reading-opened : {fs : List File} → bundle src ≡ some fs → reading room src q asked ≡ answering cs (filesIn src) asked
       unfolding reading rowsRoom answering filesIn filesOr
-      reading-opened f = rw (reading, answering, filesIn, le-leb 4096 room h, e, f)
+      reading-opened f = rw (reading, answering, filesIn, le-leb 6144 room h, e, f)
 
 -- ---- the files
 
@@ -110,6 +110,11 @@ module _ (cs : List Condition) (v : ℕ) (st : State) where
     unfolding listing
     listing-columns e = rw (listing, g, e)
 
-    pub listing-listed : allAmong (st .table .partitionColumns) (map columnOf cs) ≡ true → listing cs v st ≡ accepted listed
-    unfolding listing
-    listing-listed e = rw (listing, g, e)
+    module _ (e : allAmong (st .table .partitionColumns) (map columnOf cs) ≡ true) where
+      pub listing-range : inRangeAll cs (st .live) ≡ false → listing cs v st ≡ refused valueOutOfRange
+      unfolding listing
+      listing-range f = rw (listing, g, e, f)
+
+      pub listing-listed : inRangeAll cs (st .live) ≡ true → listing cs v st ≡ accepted listed
+      unfolding listing
+      listing-listed f = rw (listing, g, e, f)

@@ -2,6 +2,7 @@
 use mathlib.Core.Path.{_≡_}
 use mathlib.Core.Bool.{not}
 use mathlib.Core.List.{List}
+use Prim.Native.Nat.{ℕ}
 use lib.ListN.{length}
 use Rattle.rules.specs.Bytes.{Bytes}
 use Rattle.rules.specs.Bundle.{File}
@@ -12,6 +13,7 @@ use Rattle.rules.specs.Starts.{logOf}
 use Rattle.rules.specs.Refusals.{Answer, accepted, refused, _>>=_, require, versionTooLarge}
 use Rattle.rules.specs.Reading.{theLatest, theVersion, Told, told, versionAsked, listingAt, reading, roomAfterReading}
 use Rattle.rules.specs.Reading.{Asked as rAsked, Listing as rListing}
+use Rattle.rules.specs.Due.{due}
 use Rattle.refusals.specs.Numbered.{numbered}
 use Rattle.reading.specs.declared.Asked.{Asked}
 use Rattle.reading.specs.declared.Asked.the-variants.{Latest, At}
@@ -45,3 +47,7 @@ pub record AnswerIs (o : Answer rListing) (room after : Room) (r : Read) : Type 
 
 abbrev pub ReadIs : (src q : Bytes) → rAsked → (room after : Room) → Read → Type 0
 ReadIs src q asked room after r = AnswerIs (reading (length room) src q asked) room after r
+
+-- of the files that are due at a time, which are of the latest version
+abbrev pub DueIs : (src : Bytes) → (time : ℕ) → (room after : Room) → Read → Type 0
+DueIs src time room after r = AnswerIs (due (length room) src theLatest time) room after r

@@ -1,16 +1,17 @@
-// The two entries of reading: the files of a table at a version, or at the latest, that a query picks, as rows in a lent room.
+// The three entries of reading: the files of a table at a version, or at the latest, that a query picks, as rows in a lent room; and those of
+// the latest that are due for a second merge.
 use file_bundle::Opened;
+use file_names::Millis;
 use file_names::Version;
 use log_gate::Numbers;
 use log_gate::Verdict;
 use log_replay::Outcome;
 use log_replay::State;
 use query_conditions::Query;
+use query_picking::Picking;
 use refusals::Refusal;
 use rooms::ROWS_ROOM;
 ghost use mathlib.Core.Path.{_≡_};
-ghost use Prim.Native.Nat.{_≤_};
-ghost use lib.ListN.{length};
 ghost use Rattle.rules.specs.Bundle.{IsBundle};
 ghost use Rattle.rules.specs.Live.{mostLive};
 ghost use Rattle.rules.specs.Starts.{logOf};
@@ -19,10 +20,11 @@ ghost use Rattle.rules.specs.Refusals.{refused};
 ghost use Rattle.rules.specs.Reading.{theLatest, theVersion, listing, listingAt};
 ghost use Rattle.file_bundle.specs.Files.{filesIn};
 ghost use Rattle.refusals.specs.Numbered.{numbered};
+ghost use Rattle.row_table.specs.Table.{Room};
 ghost use Rattle.query_conditions.specs.Reading.{conditionsOf, Sounds};
 ghost use Rattle.log_replay.specs.Views.{stateOf, Carries};
 ghost use Rattle.log_gate.specs.Judged.{Passes};
-ghost use Rattle.reading.specs.Answers.{askedIs, answering, AnswerIs, ReadIs};
+ghost use Rattle.reading.specs.Answers.{askedIs, answering, AnswerIs, ReadIs, DueIs};
 
 // ---- what is answered
 
@@ -51,7 +53,7 @@ enum Asked {
 
 // A refusal that leaves zeros.
 fn refuse(t: &mut [u64], x: Refusal) -> Read
-    requires { ⌜ (4096 ≤ length (now t)) × (numbered x .number ≡ 1 → ⊥) ⌝ }
+    requires { ⌜ Room mostLive (now t) × (numbered x .number ≡ 1 → ⊥) ⌝ }
     ensures { λ r. ⌜ AnswerIs (refused (numbered x)) (now (t .entry)) (now (t .exit)) r ⌝ }
 {
     rooms::zero(t, 0, ROWS_ROOM);
@@ -81,18 +83,22 @@ fn list_picked(
     let live = st.live;
     if query_picking::all_columns(src, columns, q, asked) {
         row_table::settle(t, base, live);
-        let picked = query_picking::pick(src, t, live, q, asked);
-        row_live::bare(t, picked);
-        let end = picked * row_table::ROW;
-        rooms::zero(t, end, ROWS_ROOM);
-        let listed = Listing {
-            version: v,
-            rows: picked,
-            reader: n.reader,
-            writer: n.writer,
-            writable: n.writable,
+        return match query_picking::pick(src, t, live, q, asked) {
+            Picking::Rows(picked) => {
+                row_live::bare(t, picked);
+                let end = picked * row_table::ROW;
+                rooms::zero(t, end, ROWS_ROOM);
+                let listed = Listing {
+                    version: v,
+                    rows: picked,
+                    reader: n.reader,
+                    writer: n.writer,
+                    writable: n.writable,
+                };
+                Read::Listed(listed)
+            }
+            Picking::OutOfRange => refuse(t, Refusal::ValueOutOfRange),
         };
-        return Read::Listed(listed);
     }
     refuse(t, Refusal::NoSuchColumn)
 }
@@ -118,7 +124,7 @@ fn list_state(src: &[u8], q: &[u8], asked: Query, v: Version, st: State, t: &mut
 
 // What the well-formed bundle src answers at version v.
 fn list_at(src: &[u8], q: &[u8], asked: Query, v: Version, t: &mut [u64]) -> Read
-    requires { ⌜ IsBundle (now src) × (4096 ≤ length (now t)) × Sounds (now q) (asked .count) (asked .conditions) ⌝ }
+    requires { ⌜ IsBundle (now src) × Room mostLive (now t) × Sounds (now q) (asked .count) (asked .conditions) ⌝ }
     ensures { λ r. ⌜ AnswerIs
         (listingAt (conditionsOf (now (q .entry)) (asked .count) (asked .conditions)) (logOf (filesIn (now (src .entry)))) (v .0))
         (now (t .entry))
@@ -133,7 +139,7 @@ fn list_at(src: &[u8], q: &[u8], asked: Query, v: Version, t: &mut [u64]) -> Rea
 
 // What the well-formed bundle src answers at its latest version.
 fn list_latest(src: &[u8], q: &[u8], asked: Query, t: &mut [u64]) -> Read
-    requires { ⌜ IsBundle (now src) × (4096 ≤ length (now t)) × Sounds (now q) (asked .count) (asked .conditions) ⌝ }
+    requires { ⌜ IsBundle (now src) × Room mostLive (now t) × Sounds (now q) (asked .count) (asked .conditions) ⌝ }
     ensures { λ r. ⌜ AnswerIs
         (listingAt (conditionsOf (now (q .entry)) (asked .count) (asked .conditions)) (logOf (filesIn (now (src .entry))))
         (rLatest (logOf (filesIn (now (src .entry))))))
@@ -152,7 +158,7 @@ fn list_latest(src: &[u8], q: &[u8], asked: Query, t: &mut [u64]) -> Read
 
 // What the well-formed bundle src answers at the version that is asked for.
 fn list_asked(src: &[u8], q: &[u8], asked: Query, version: Asked, t: &mut [u64]) -> Read
-    requires { ⌜ IsBundle (now src) × (4096 ≤ length (now t)) × Sounds (now q) (asked .count) (asked .conditions) ⌝ }
+    requires { ⌜ IsBundle (now src) × Room mostLive (now t) × Sounds (now q) (asked .count) (asked .conditions) ⌝ }
     ensures { λ r. ⌜ AnswerIs
         (answering (conditionsOf (now (q .entry)) (asked .count) (asked .conditions)) (filesIn (now (src .entry))) (askedIs version))
         (now (t .entry))
@@ -187,8 +193,8 @@ fn read_asked(src: &[u8], q: &[u8], version: Asked, rows: &mut [u64]) -> Read
     list_asked(src, q, asked, version, rows)
 }
 
-// The files that the query q picks at version v of the bundle src, as rows in a room of at least 4,096 numbers; the rest of the
-// 4,096 are zero, and any beyond stay.
+// The files that the query q picks at version v of the bundle src, as rows in a room of at least 6,144 numbers; the rest of the
+// 6,144 are zero, and any beyond stay.
 pub fn read_at(src: &[u8], q: &[u8], v: Version, rows: &mut [u64]) -> Read
     ensures { λ r. ⌜ ReadIs (now (src .entry)) (now (q .entry)) (theVersion (v .0)) (now (rows .entry)) (now (rows .exit)) r ⌝ }
 {
@@ -200,4 +206,28 @@ pub fn read_latest(src: &[u8], q: &[u8], rows: &mut [u64]) -> Read
     ensures { λ r. ⌜ ReadIs (now (src .entry)) (now (q .entry)) theLatest (now (rows .entry)) (now (rows .exit)) r ⌝ }
 {
     read_asked(src, q, Asked::Latest, rows)
+}
+
+// The files of the latest version that are due for a second merge at a time: skipped before, and to be tried again not later. All files are
+// listed, then those that are not due go.
+pub fn read_due(src: &[u8], time: Millis, rows: &mut [u64]) -> Read
+    ensures { λ r. ⌜ DueIs (now (src .entry)) (time .0) (now (rows .entry)) (now (rows .exit)) r ⌝ }
+{
+    match read_latest(src, b"[]", rows) {
+        Read::Listed(all) => {
+            let version = all.version;
+            let due = query_picking::pick_due(rows, all.rows, time.0);
+            let end = due * row_table::ROW;
+            rooms::zero(rows, end, ROWS_ROOM);
+            let waiting = Listing {
+                version,
+                rows: due,
+                reader: all.reader,
+                writer: all.writer,
+                writable: all.writable,
+            };
+            Read::Listed(waiting)
+        }
+        Read::Refused(x) => Read::Refused(x),
+    }
 }

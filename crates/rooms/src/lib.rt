@@ -5,7 +5,7 @@ ghost use lib.ListN.{length};
 ghost use Rattle.facts.specs.Moves.{zeroed};
 
 // The least length of a room for rows, in numbers.
-pub const ROWS_ROOM: usize = 4096;
+pub const ROWS_ROOM: usize = 6144;
 
 // The least length of a room for the entries that are named.
 pub const NAMES_ROOM: usize = 1024;

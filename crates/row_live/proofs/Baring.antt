@@ -22,7 +22,8 @@ unfolding rowsOf
 baring-start n t = record { high = omega arith; changed = record { rows = refl; rest = refl; length = refl } }
 
 -- another number at the front of a row is another head
-row-head : (t : List ℕ) (v : ℕ) → 0 < length t → row (set t 0 v) ≡ record { head = v; len = row t .len; size = row t .size; time = row t .time }
+row-head : (t : List ℕ) (v : ℕ) → 0 < length t
+    → row (set t 0 v) ≡ record { head = v; len = row t .len; size = row t .size; time = row t .time; skips = row t .skips; retry = row t .retry }
 unfolding row
 row-head [] v h = absurd (omega arith)
 row-head (a ∷ t) v h = refl

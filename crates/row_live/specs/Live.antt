@@ -60,8 +60,12 @@ pub record Became (src : Text) (rs : List Cells) (limit : ℕ) (t : List ℕ) (r
   pub length : length t′ ≡ length t
   pub table : Table src (r .live) (behind (r .base) t′)
 
+-- the row with these two numbers of a mergeskip
+abbrev pub marked : (skips retry : ℕ) → Cells → Cells
+marked skips retry c = record { head = c .head; len = c .len; size = c .size; time = c .time; skips = skips; retry = retry }
+
 -- ---- the last pass
 
 -- the row as the paper has it: the head is the line's position alone
 abbrev pub bared : Cells → Cells
-bared c = record { head = placeOf c; len = c .len; size = c .size; time = c .time }
+bared c = record { head = placeOf c; len = c .len; size = c .size; time = c .time; skips = c .skips; retry = c .retry }

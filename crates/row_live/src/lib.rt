@@ -1,12 +1,12 @@
 // The live table: the live files as rows in a lent slice, in the order of the bytes that their paths stand for, found by halving.
 use row_table::Cells;
-ghost use Prim.Native.Nat.{_+_, _≤_, _<_};
+ghost use Prim.Native.Nat.{ℕ, _+_, _≤_, _<_};
 ghost use mathlib.Core.List.{map};
 ghost use lib.ListN.{drop};
-ghost use Rattle.rules.specs.Live.{put, takeOut};
+ghost use Rattle.rules.specs.Live.{put, takeOut, change};
 ghost use Rattle.json_strings.specs.Decoded.{decoded, WellSpelled};
 ghost use Rattle.row_table.specs.Table.{Room, rows, behind, Changed};
-ghost use Rattle.row_live.specs.Live.{places, pathAt, key, Packed, Table, Finds, Became, bared};
+ghost use Rattle.row_live.specs.Live.{places, pathAt, key, Packed, Table, Finds, Became, marked, bared};
 
 // Positions in a bundle are below this.
 pub const PLACES: u64 = 2_097_152;
@@ -116,6 +116,36 @@ pub fn take_out(
             }
         }
         Found::Place(_) => Standing { base, live: n },
+    }
+}
+
+// Writes how often its file was skipped, and when it may be tried again, into the row whose path is spelled in src behind `path`, if there is one.
+pub fn mark(src: &[u8], t: &mut [u64], base: usize, n: usize, path: usize, skips: u64, retry: u64)
+    requires { ⌜ Table (now src) n (behind base (now t)) × WellSpelled (now src) path × Room (base + n) (now t) ⌝ }
+    ensures { λ _. ⌜ ((limit : ℕ) → base + n ≤ limit → Room limit (now (t .entry)) → Became
+        (now (src .entry))
+        (change (key (now (src .entry))) (decoded (drop path (now (src .entry)))) (marked skips retry) (rows n (behind base (now (t .entry)))))
+        limit
+        (now (t .entry))
+        (record { base = base; live = n })
+        (now (t .exit))) ⌝ }
+{
+    let from = base * row_table::ROW;
+    match find(src, &t[from..], n, path) {
+        Found::Held(k) => {
+            let at = base + k;
+            let was = row_table::row_at(t, at);
+            let c = Cells {
+                head: was.head,
+                len: was.len,
+                size: was.size,
+                time: was.time,
+                skips,
+                retry,
+            };
+            row_table::set_row(t, at, c);
+        }
+        Found::Place(_) => {}
     }
 }
 

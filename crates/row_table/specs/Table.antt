@@ -10,15 +10,15 @@ use Rattle.row_table.specs.declared.Cells.{Cells}
 
 -- how many numbers a row has
 abbrev pub wide : ℕ
-wide = 4
+wide = 6
 
 -- the numbers of a row, in their order
 unfoldable pub cells : Cells → List ℕ
-cells c = c .head ∷ c .len ∷ c .size ∷ c .time ∷ []
+cells c = c .head ∷ c .len ∷ c .size ∷ c .time ∷ c .skips ∷ c .retry ∷ []
 
 -- the row that the numbers t begin with
 unfoldable pub row : List ℕ → Cells
-row t = record { head = getD t 0 0; len = getD t 1 0; size = getD t 2 0; time = getD t 3 0 }
+row t = record { head = getD t 0 0; len = getD t 1 0; size = getD t 2 0; time = getD t 3 0; skips = getD t 4 0; retry = getD t 5 0 }
 
 pub layout : Layout wide cells row
 unfolding cells row
@@ -29,7 +29,9 @@ layout = record { wide = λ c. refl; back = λ c t. refl; forth = whole }
     whole (a ∷ []) h = absurd (omega arith)
     whole (a ∷ b ∷ []) h = absurd (omega arith)
     whole (a ∷ b ∷ c ∷ []) h = absurd (omega arith)
-    whole (a ∷ b ∷ c ∷ d ∷ t) h = refl
+    whole (a ∷ b ∷ c ∷ d ∷ []) h = absurd (omega arith)
+    whole (a ∷ b ∷ c ∷ d ∷ e ∷ []) h = absurd (omega arith)
+    whole (a ∷ b ∷ c ∷ d ∷ e ∷ f ∷ t) h = refl
 
 -- the first n rows of t
 abbrev pub rows : ℕ → List ℕ → List Cells

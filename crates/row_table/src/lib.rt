@@ -1,4 +1,4 @@
-// A table of rows in a lent slice: four numbers a row, the rows one after another from the front. What the numbers mean,
+// A table of rows in a lent slice: six numbers a row, the rows one after another from the front. What the numbers mean,
 // and how many rows are in use, is the callers' affair.
 mod windows;
 
@@ -11,7 +11,7 @@ ghost use Rattle.facts.specs.Rows.{insertAt, removeAt};
 ghost use Rattle.row_table.specs.Table.{Room, rows, rowAt, Changed, Stored, Copied};
 
 // How many numbers a row has.
-pub const ROW: usize = 4;
+pub const ROW: usize = 6;
 
 // A row: its numbers, in the order in which they lie.
 pub struct Cells {
@@ -19,6 +19,8 @@ pub struct Cells {
     pub len: u64,
     pub size: u64,
     pub time: u64,
+    pub skips: u64,
+    pub retry: u64,
 }
 
 // Row k of a table, counted from 0.
@@ -32,6 +34,8 @@ pub fn row_at(t: &[u64], k: usize) -> Cells
         len: t[at + 1],
         size: t[at + 2],
         time: t[at + 3],
+        skips: t[at + 4],
+        retry: t[at + 5],
     }
 }
 
@@ -45,6 +49,8 @@ pub fn set_row(t: &mut [u64], k: usize, c: Cells)
     t[at + 1] = c.len;
     t[at + 2] = c.size;
     t[at + 3] = c.time;
+    t[at + 4] = c.skips;
+    t[at + 5] = c.retry;
 }
 
 // Writes row j - 1 over row j; all else stays.

@@ -8,7 +8,7 @@ use Rattle.rules.specs.Json.Text.{Text}
 use Rattle.rules.specs.Json.Values.{Member, objectOf}
 use Rattle.rules.specs.Json.Numbers.{whole}
 use Rattle.rules.specs.Json.Fields.{once, optional, ifThere, stringOf, boolOf, stringAt, wholeAt}
-use Rattle.rules.specs.Actions.{inAction, Facts, pathAt, partitionValuesAt, addOf, protocolOf, metaDataOf}
+use Rattle.rules.specs.Actions.{inAction, Facts, pathAt, partitionValuesAt, addOf, protocolOf, metaDataOf, skipOf}
 use Rattle.rules.specs.Actions.{Key, keyAdd, keyRemove, keyProtocol, keyMetaData, keyMergeskip, keyOther, keyOf}
 use Rattle.rules.specs.Actions.{Action, add, actionBy, lineMember, action}
 use Rattle.rules.proofs.Tests.{apart}
@@ -43,7 +43,8 @@ actionBy-add keyAdd v f h = bound (objectOf inAction v) _ h (λ ms a b. bound (a
 actionBy-add keyRemove v f h = bound (objectOf inAction v) _ h (λ ms a b. bound (pathAt ms) _ b (λ p c d. apart (cc)))
 actionBy-add keyProtocol v f h = bound (objectOf inAction v) _ h (λ ms a b. bound (protocolOf ms) _ b (λ p c d. apart (cc)))
 actionBy-add keyMetaData v f h = bound (objectOf inAction v) _ h (λ ms a b. bound (metaDataOf ms) _ b (λ m c d. apart (cc)))
-actionBy-add keyMergeskip v f h = apart (cc)
+actionBy-add keyMergeskip v f h =
+    bound (objectOf inAction v) _ h (λ ms a b. bound (pathAt ms) _ b (λ p c d. bound (skipOf ms) _ d (λ s g i. apart (cc))))
 actionBy-add keyOther v f h = apart (cc)
 
 pub action-add : (line : Text) (f : Facts) → action line ≡ some (add f)

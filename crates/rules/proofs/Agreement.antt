@@ -8,12 +8,12 @@ use Prim.Native.Nat.{ℕ}
 use lib.Dec.{eqb}
 use borrow.Author.Tests.{eqb-true, eq-eqb}
 use Rattle.rules.specs.Bytes.{Bytes, same, sameSet, sameEach}
-use Rattle.rules.specs.Actions.{Facts, Pairs, Protocol, MetaData}
+use Rattle.rules.specs.Actions.{Facts, Pairs, Skip, Protocol, MetaData}
 use Rattle.rules.specs.Live.{Row}
 use Rattle.rules.specs.History.{State}
 use Rattle.rules.specs.Picking.{valueAt}
 use Rattle.rules.specs.Agreement.{agreeValue, agreeFound, agreeOn, agreePairs, agreeRecords}
-use Rattle.rules.specs.Agreement.{agreeFacts, agreeRows, agreeProtocols, agreeTables, agree}
+use Rattle.rules.specs.Agreement.{agreeFacts, agreeSkip, agreeRow, agreeRows, agreeProtocols, agreeTables, agree}
 use Rattle.rules.specs.Same.{SameFacts, SameRows, no-rows, row, SameProtocol, SameState}
 use Rattle.rules.proofs.Tests.{apart, and-left, and-right, and-both}
 use Rattle.rules.proofs.Order.{same-true, eq-same, ne-same, same-or-not}
@@ -141,22 +141,48 @@ same-agreeFacts {f} {g} s =
     (and-both e
     (all-agreePairs (f .partitionValues) (g .partitionValues) (s .partitionValues)))))
 
+pub agreeSkip-true : (a b : Skip) → agreeSkip a b ≡ true → a ≡ b
+unfolding agreeSkip
+agreeSkip-true a b h =
+    let c : Bool = eqb (a .count) (b .count) in
+    let t : Bool = eqb (a .retryAfter) (b .retryAfter) in
+    ap₂
+    (λ (m n : ℕ). record { count = m; retryAfter = n })
+    (eqb-true (a .count) (b .count) (and-left c t h))
+    (eqb-true (a .retryAfter) (b .retryAfter) (and-right c t h))
+
+pub same-agreeSkip : {a b : Skip} → a ≡ b → agreeSkip a b ≡ true
+unfolding agreeSkip
+same-agreeSkip {a} {b} e =
+    and-both (eq-eqb (a .count) (b .count) (ap (λ (s : Skip). s .count) e)) (eq-eqb (a .retryAfter) (b .retryAfter) (ap (λ (s : Skip). s .retryAfter) e))
+
+pub agreeRow-true : (r s : Row) → agreeRow r s ≡ true → SameFacts (r .facts) (s .facts) × (r .skip ≡ s .skip)
+unfolding agreeRow
+agreeRow-true r s h =
+    let a : Bool = agreeFacts (r .facts) (s .facts) in
+    let b : Bool = agreeSkip (r .skip) (s .skip) in
+    (agreeFacts-true (r .facts) (s .facts) (and-left a b h), agreeSkip-true (r .skip) (s .skip) (and-right a b h))
+
+pub same-agreeRow : (r s : Row) → SameFacts (r .facts) (s .facts) → r .skip ≡ s .skip → agreeRow r s ≡ true
+unfolding agreeRow
+same-agreeRow r s f k = and-both (same-agreeFacts f) (same-agreeSkip k)
+
 pub agreeRows-true : (rs ss : List Row) → agreeRows rs ss ≡ true → SameRows rs ss
 unfolding agreeRows
 agreeRows-true [] [] h = no-rows
 agreeRows-true [] (s ∷ ss) h = apart (cc)
 agreeRows-true (r ∷ rs) [] h = apart (cc)
-agreeRows-true (r ∷ rs) (s ∷ ss) h = go (agreeFacts (r .facts) (s .facts)) refl h (agreeRows-true rs ss)
+agreeRows-true (r ∷ rs) (s ∷ ss) h = go (agreeRow r s) refl h (agreeRows-true rs ss)
   where
-    go : (b : Bool) → agreeFacts (r .facts) (s .facts) ≡ b → elim b [ true ↦ agreeRows rs ss | false ↦ false ] ≡ true
+    go : (b : Bool) → agreeRow r s ≡ b → elim b [ true ↦ agreeRows rs ss | false ↦ false ] ≡ true
         → (agreeRows rs ss ≡ true → SameRows rs ss) → SameRows (r ∷ rs) (s ∷ ss)
-    go true e h ih = row (agreeFacts-true (r .facts) (s .facts) e) (ih h)
+    go true e h ih = let p = agreeRow-true r s e in row (p .0) (p .1) (ih h)
     go false e h ih = apart (cc)
 
 pub same-agreeRows : {rs ss : List Row} → SameRows rs ss → agreeRows rs ss ≡ true
 unfolding agreeRows
 same-agreeRows no-rows = refl
-same-agreeRows (row f s) = rw (same-agreeFacts f, agreeRows) (same-agreeRows s)
+same-agreeRows (row {r} {s} f k t) = rw (same-agreeRow r s f k, agreeRows) (same-agreeRows t)
 
 -- ---- protocols
 

@@ -14,9 +14,10 @@ use Rattle.rules.specs.Actions.{Action, action}
 use Rattle.rules.specs.Live.{mostLive}
 use Rattle.rules.specs.Gate.{gate, knownReader, readerNames, writable}
 use Rattle.rules.specs.Query.{Condition, columnOf}
-use Rattle.rules.specs.Picking.{picked}
+use Rattle.rules.specs.Picking.{picked, inRangeAll}
 use Rattle.rules.specs.Refusals.{Refusal, Answer, accepted, refused, _>>=_, orRefuse, require}
-use Rattle.rules.specs.Refusals.{malformed, foreignKeys, tooManyLive, readerTooHigh, unknownFeature, noSuchColumn, noVersionZero, notKept}
+use Rattle.rules.specs.Refusals.{malformed, foreignKeys, tooManyLive, readerTooHigh, unknownFeature}
+use Rattle.rules.specs.Refusals.{noSuchColumn, valueOutOfRange, noVersionZero, notKept}
 use Rattle.rules.specs.History.{State, Origin, ofVersion, ofCheckpoint, fits, Said, effect, withinLimit, act}
 use Rattle.rules.specs.History.{readLine, readLines, readFile, saidNothing, say, zeroLines, orUnstated, readZero}
 use Rattle.rules.specs.Starts.{Log, Way, fromZero, fromCheckpoint, andThen, nothingLive, follow}
@@ -141,11 +142,14 @@ pub later-listing : (cs : List Condition) (v : ℕ) (st : State) → Later (list
 unfolding listing
 later-listing cs v st =
     let l : Listing = record { version = v; table = st .table; inForce = st .inForce; canWrite = writable (st .inForce); rows = picked cs (st .live) } in
-    later-bind (gate (st .inForce)) (λ _. require noSuchColumn (allAmong (st .table .partitionColumns) (map columnOf cs)) >>= (λ _. accepted l))
+    let ranged : Answer Listing = require valueOutOfRange (inRangeAll cs (st .live)) >>= (λ _. accepted l) in
+    later-bind (gate (st .inForce)) (λ _. require noSuchColumn (allAmong (st .table .partitionColumns) (map columnOf cs)) >>= (λ _. ranged))
     (later-gate st)
-    (λ _. later-bind (require noSuchColumn (allAmong (st .table .partitionColumns) (map columnOf cs))) (λ _. accepted l)
+    (λ _. later-bind (require noSuchColumn (allAmong (st .table .partitionColumns) (map columnOf cs))) (λ _. ranged)
     (later-require noSuchColumn (allAmong (st .table .partitionColumns) (map columnOf cs)) (λ n. omega arith))
-    (λ _. later-accepted l))
+    (λ _. later-bind (require valueOutOfRange (inRangeAll cs (st .live))) (λ _. accepted l)
+    (later-require valueOutOfRange (inRangeAll cs (st .live)) (λ n. omega arith))
+    (λ _. later-accepted l)))
 
 -- a refusal of the state
 pub later-refused : (log : Log) (way : Option Way) {r : Refusal} → stateBy log way ≡ refused r → r .number ≡ 1 → ⊥

@@ -3,6 +3,8 @@ pub mod Opened
 pub mod Edges
 pub mod Examples
 pub mod ForeignColumns
+pub mod SecondMerges
+pub mod PupilNumbers
 pub mod Tests
 pub mod Order
 pub mod Holding
@@ -10,6 +12,7 @@ pub mod Ascending
 pub mod Live
 pub mod Mapping
 pub mod Searching
+pub mod Changing
 pub mod Json
 pub mod Lines
 pub mod Replaying
@@ -25,6 +28,8 @@ pub mod Moving
 pub mod SoleNames
 pub mod Bundles
 pub mod Readings
+pub mod Due
+pub mod InRange
 pub mod Telling
 pub mod Suffixes
 pub mod Adds

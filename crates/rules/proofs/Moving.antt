@@ -9,16 +9,16 @@ use lib.ListN.{length}
 use Rattle.rules.specs.Bytes.{Bytes, Order, less, equal, more, order, same, holds, allAmong, keepIf}
 use Rattle.rules.specs.Bundle.{File}
 use Rattle.rules.specs.Lines.{lines, anyObject}
-use Rattle.rules.specs.Actions.{Facts, Protocol, MetaData, Action, add, remove, protocol, metaData, mergeskip, other, action}
-use Rattle.rules.specs.Live.{Row, pathOf, putBeside, takeIf, put, takeOut}
+use Rattle.rules.specs.Actions.{Facts, Skip, Protocol, MetaData, Action, add, remove, protocol, metaData, mergeskip, other, action}
+use Rattle.rules.specs.Live.{Row, pathOf, skipped, putBeside, takeIf, changeIf, put, takeOut, change}
 use Rattle.rules.specs.Refusals.{_>>=_, Answer, accepted, orRefuse, require, malformed, foreignKeys}
-use Rattle.rules.specs.Refusals.{tooManyLive, noSuchColumn, readerTooHigh, unknownFeature}
-use Rattle.rules.specs.History.{State, Origin, ofCheckpoint, fits, Said, effect, withinLimit, act, readLine, readLines, readFile}
+use Rattle.rules.specs.Refusals.{tooManyLive, noSuchColumn, valueOutOfRange, readerTooHigh, unknownFeature}
+use Rattle.rules.specs.History.{State, Origin, ofCheckpoint, fits, Said, added, effect, withinLimit, act, readLine, readLines, readFile}
 use Rattle.rules.specs.History.{say, saidNothing, zeroLines, orUnstated, readZero}
 use Rattle.rules.specs.Starts.{nothingLive}
 use Rattle.rules.specs.Gate.{knownReader, knownWriter, readerNames, writerNames, gate, writable}
 use Rattle.rules.specs.Query.{Condition, columnOf}
-use Rattle.rules.specs.Picking.{meetsValue, meetsAll, picked}
+use Rattle.rules.specs.Picking.{meetsValue, meetsAll, picked, outOf, anyOutOf, inRangeAll}
 use Rattle.rules.specs.Reading.{Listing, listing}
 use Rattle.rules.specs.Same.{SameFacts, SameRows, no-rows, row, SameProtocol, SameState, SameListing, SameAnswer, both-accepted}
 use Rattle.rules.proofs.Tests.{tests-equal}
@@ -28,46 +28,65 @@ use Rattle.rules.proofs.Answers.{same-bind, same-orRefuse, same-require
 
 -- ---- rows
 
-putBeside-same : (o : Order) (r s x y : Row) {xs ys : List Row} (k l : Unit {0} → List Row) → SameFacts (r .facts) (s .facts) → SameFacts (x .facts) (y .facts)
+-- the same file: its facts, and what was said of it since
+SameRow : Row → Row → Type 0
+SameRow r s = SameFacts (r .facts) (s .facts) × (r .skip ≡ s .skip)
+
+putBeside-same : (o : Order) (r s x y : Row) {xs ys : List Row} (k l : Unit {0} → List Row) → SameRow r s → SameRow x y
     → SameRows xs ys → SameRows (k tt) (l tt) → SameRows (putBeside o r x xs k) (putBeside o s y ys l)
-unfolding putBeside
-putBeside-same less r s x y k l a b c d = row a (row b c)
-putBeside-same equal r s x y k l a b c d = row a c
-putBeside-same more r s x y k l a b c d = row b d
+unfolding putBeside SameRow
+putBeside-same less r s x y k l a b c d = row (a .0) (a .1) (row (b .0) (b .1) c)
+putBeside-same equal r s x y k l a b c d = row (a .0) (a .1) c
+putBeside-same more r s x y k l a b c d = row (b .0) (b .1) d
 
-pub put-same : (r s : Row) {xs ys : List Row} → SameFacts (r .facts) (s .facts) → SameRows xs ys → SameRows (put pathOf r xs) (put pathOf s ys)
-unfolding put pathOf
-put-same r s a no-rows = row a no-rows
-put-same r s a (row {r = x} {s = y} {rs = xs} {ss = ys} b c) =
+pub put-same : (r s : Row) {xs ys : List Row} → SameFacts (r .facts) (s .facts) → r .skip ≡ s .skip → SameRows xs ys
+    → SameRows (put pathOf r xs) (put pathOf s ys)
+unfolding put pathOf SameRow
+put-same r s a t no-rows = row a t no-rows
+put-same r s a t (row {r = x} {s = y} {rs = xs} {ss = ys} b u c) =
     subst (λ (o : Order). SameRows (put pathOf r (x ∷ xs)) (putBeside o s y ys (λ _. put pathOf s ys))) (ap₂ order (a .path) (b .path))
-    (putBeside-same (order (r .facts .path) (x .facts .path)) r s x y (λ _. put pathOf r xs) (λ _. put pathOf s ys) a b c (put-same r s a c))
+    (putBeside-same (order (r .facts .path) (x .facts .path)) r s x y (λ _. put pathOf r xs) (λ _. put pathOf s ys) (a, t) (b, u) c (put-same r s a t c))
 
-takeIf-same : (o : Bool) (x y : Row) {xs ys : List Row} (k l : Unit {0} → List Row) → SameFacts (x .facts) (y .facts)
+takeIf-same : (o : Bool) (x y : Row) {xs ys : List Row} (k l : Unit {0} → List Row) → SameRow x y
     → SameRows xs ys → SameRows (k tt) (l tt) → SameRows (takeIf o x xs k) (takeIf o y ys l)
-unfolding takeIf
+unfolding takeIf SameRow
 takeIf-same true x y k l b c d = c
-takeIf-same false x y k l b c d = row b d
+takeIf-same false x y k l b c d = row (b .0) (b .1) d
 
 pub takeOut-same : (p : Bytes) {xs ys : List Row} → SameRows xs ys → SameRows (takeOut pathOf p xs) (takeOut pathOf p ys)
-unfolding takeOut pathOf
+unfolding takeOut pathOf SameRow
 takeOut-same p no-rows = no-rows
-takeOut-same p (row {r = x} {s = y} {rs = xs} {ss = ys} b c) =
+takeOut-same p (row {r = x} {s = y} {rs = xs} {ss = ys} b u c) =
     subst (λ (o : Bool). SameRows (takeOut pathOf p (x ∷ xs)) (takeIf o y ys (λ _. takeOut pathOf p ys))) (ap (same p) (b .path))
-    (takeIf-same (same p (x .facts .path)) x y (λ _. takeOut pathOf p xs) (λ _. takeOut pathOf p ys) b c (takeOut-same p c))
+    (takeIf-same (same p (x .facts .path)) x y (λ _. takeOut pathOf p xs) (λ _. takeOut pathOf p ys) (b, u) c (takeOut-same p c))
+
+changeIf-same : (o : Bool) (t : Skip) (x y : Row) {xs ys : List Row} (k l : Unit {0} → List Row) → SameRow x y
+    → SameRows xs ys → SameRows (k tt) (l tt) → SameRows (changeIf o (skipped t) x xs k) (changeIf o (skipped t) y ys l)
+unfolding changeIf skipped SameRow
+changeIf-same true t x y k l b c d = row (b .0) refl c
+changeIf-same false t x y k l b c d = row (b .0) (b .1) d
+
+pub change-same : (p : Bytes) (t : Skip) {xs ys : List Row} → SameRows xs ys → SameRows (change pathOf p (skipped t) xs) (change pathOf p (skipped t) ys)
+unfolding change pathOf SameRow
+change-same p t no-rows = no-rows
+change-same p t (row {r = x} {s = y} {rs = xs} {ss = ys} b u c) =
+    subst (λ (o : Bool). SameRows (change pathOf p (skipped t) (x ∷ xs)) (changeIf o (skipped t) y ys (λ _. change pathOf p (skipped t) ys)))
+    (ap (same p) (b .path))
+    (changeIf-same (same p (x .facts .path)) t x y (λ _. change pathOf p (skipped t) xs) (λ _. change pathOf p (skipped t) ys) (b, u) c (change-same p t c))
 
 -- ---- states
 
 pub effect-same : (at at′ n n′ : ℕ) (a : Action) (s t : State) → SameState s t → SameState (effect at n a s) (effect at′ n′ a t)
-unfolding effect
+unfolding effect added
 effect-same at at′ n n′ (add f) s t h = record {
   table = h .table;
   inForce = h .inForce;
-  live = put-same (record { at = at; size = n; facts = f }) (record { at = at′; size = n′; facts = f }) (same-facts-refl f) (h .live);
+  live = put-same (added at n f) (added at′ n′ f) (same-facts-refl f) refl (h .live);
 }
 effect-same at at′ n n′ (remove p) s t h = record { table = h .table; inForce = h .inForce; live = takeOut-same p (h .live) }
 effect-same at at′ n n′ (protocol p) s t h = record { table = h .table; inForce = same-protocol-refl p; live = h .live }
 effect-same at at′ n n′ (metaData m) s t h = record { table = refl; inForce = h .inForce; live = h .live }
-effect-same at at′ n n′ mergeskip s t h = h
+effect-same at at′ n n′ (mergeskip p k) s t h = record { table = h .table; inForce = h .inForce; live = change-same p k (h .live) }
 effect-same at at′ n n′ other s t h = h
 
 module _ (limit : ℕ) (of : Origin) where
@@ -206,36 +225,52 @@ meetsAll-same [] f g h = refl
 meetsAll-same (c ∷ cs) f g h =
     ap₂ (λ (v : Option (Option Bytes)) (b : Bool). elim (meetsValue c v) [ true ↦ b | false ↦ false ]) (h .partitionValues (c .column)) (meetsAll-same cs f g h)
 
-keepIf-same : (b : Bool) (r s : Row) {rs ss : List Row} → SameFacts (r .facts) (s .facts) → SameRows rs ss → SameRows (keepIf b r rs) (keepIf b s ss)
+anyOutOf-same : (cs : List Condition) (f g : Facts) → SameFacts f g → anyOutOf cs f ≡ anyOutOf cs g
+unfolding anyOutOf
+anyOutOf-same [] f g h = refl
+anyOutOf-same (c ∷ cs) f g h =
+    ap₂ (λ (v : Option (Option Bytes)) (b : Bool). elim (outOf c v) [ true ↦ true | false ↦ b ]) (h .partitionValues (c .column)) (anyOutOf-same cs f g h)
+
+-- the same rows have the same values out of range
+pub inRangeAll-same : (cs : List Condition) {rs ss : List Row} → SameRows rs ss → inRangeAll cs rs ≡ inRangeAll cs ss
+unfolding inRangeAll
+inRangeAll-same cs no-rows = refl
+inRangeAll-same cs (row {r} {s} a k h) =
+    ap₂ (λ (b c : Bool). elim b [ true ↦ false | false ↦ c ]) (anyOutOf-same cs (r .facts) (s .facts) a) (inRangeAll-same cs h)
+
+pub keepIf-same : (b : Bool) (r s : Row) {rs ss : List Row} → SameFacts (r .facts) (s .facts) → r .skip ≡ s .skip → SameRows rs ss
+    → SameRows (keepIf b r rs) (keepIf b s ss)
 unfolding keepIf
-keepIf-same true r s a h = row a h
-keepIf-same false r s a h = h
+keepIf-same true r s a k h = row a k h
+keepIf-same false r s a k h = h
 
 pub picked-same : (cs : List Condition) {rs ss : List Row} → SameRows rs ss → SameRows (picked cs rs) (picked cs ss)
 unfolding picked
 picked-same cs no-rows = no-rows
-picked-same cs (row {r} {s} {rs} {ss} a h) =
+picked-same cs (row {r} {s} {rs} {ss} a k h) =
     subst (λ (b : Bool). SameRows (picked cs (r ∷ rs)) (keepIf b s (picked cs ss))) (meetsAll-same cs (r .facts) (s .facts) a)
-    (keepIf-same (meetsAll cs (r .facts)) r s a (picked-same cs h))
+    (keepIf-same (meetsAll cs (r .facts)) r s a k (picked-same cs h))
 
 pub listing-same : (cs : List Condition) (v : ℕ) (s t : State) → SameState s t → SameAnswer SameListing (listing cs v s) (listing cs v t)
 unfolding listing
 listing-same cs v s t h =
-    same-bind (λ _. require noSuchColumn (known s) >>= (λ _. accepted (listed s))) (λ _. require noSuchColumn (known t) >>= (λ _. accepted (listed t)))
+    same-bind (λ _. require noSuchColumn (known s) >>= (λ _. ranged s)) (λ _. require noSuchColumn (known t) >>= (λ _. ranged t))
     (subst (λ (a : Answer (Unit {0})). SameAnswer (_≡_ {A = Unit {0}}) (gate (s .inForce)) a) (gate-same (h .inForce))
     (same-answer-refl (λ a. refl) (gate (s .inForce))))
     (λ _ _ _.
     subst
-    (λ (b : Bool). SameAnswer SameListing (require noSuchColumn (known s) >>= (λ _. accepted (listed s)))
-    (require noSuchColumn b >>= (λ _. accepted (listed t))))
+    (λ (b : Bool). SameAnswer SameListing (require noSuchColumn (known s) >>= (λ _. ranged s)) (require noSuchColumn b >>= (λ _. ranged t)))
     (ap (λ (m : MetaData). allAmong (m .partitionColumns) (map columnOf cs)) (h .table))
-    (same-require noSuchColumn noSuchColumn refl (known s) (accepted (listed s)) (accepted (listed t)) (both-accepted same-listed)))
+    (same-require noSuchColumn noSuchColumn refl (known s) (ranged s) (ranged t) same-ranged))
   where
     known : State → Bool
     known st = allAmong (st .table .partitionColumns) (map columnOf cs)
 
     listed : State → Listing
     listed st = record { version = v; table = st .table; inForce = st .inForce; canWrite = writable (st .inForce); rows = picked cs (st .live) }
+
+    ranged : State → Answer Listing
+    ranged st = require valueOutOfRange (inRangeAll cs (st .live)) >>= (λ _. accepted (listed st))
 
     same-listed : SameListing (listed s) (listed t)
     same-listed = record {
@@ -245,3 +280,10 @@ listing-same cs v s t h =
       canWrite = writable-same (h .inForce);
       rows = picked-same cs (h .live);
     }
+
+    same-ranged : SameAnswer SameListing (ranged s) (ranged t)
+    same-ranged =
+        subst
+        (λ (b : Bool). SameAnswer SameListing (ranged s) (require valueOutOfRange b >>= (λ _. accepted (listed t))))
+        (inRangeAll-same cs (h .live))
+        (same-require valueOutOfRange valueOutOfRange refl (inRangeAll cs (s .live)) (accepted (listed s)) (accepted (listed t)) (both-accepted same-listed))

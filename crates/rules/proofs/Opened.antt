@@ -20,6 +20,7 @@ use Rattle.rules.specs.Picking
 use Rattle.rules.specs.Manifests
 use Rattle.rules.specs.Rooms
 use Rattle.rules.specs.Reading
+use Rattle.rules.specs.Due
 use Rattle.rules.specs.Keeping
 use Rattle.rules.specs.Agreement
 use Rattle.rules.specs.Cleaning
@@ -28,6 +29,8 @@ use Rattle.rules.specs.Samples
 use Rattle.rules.specs.Edges
 use Rattle.rules.specs.Examples
 use Rattle.rules.specs.ForeignColumns
+use Rattle.rules.specs.SecondMerges
+use Rattle.rules.specs.PupilNumbers
 
 unfoldable pub inBytes : Unit {0}
 unfolding Bytes.ascii Bytes.isSome Bytes.first Bytes.among Bytes.isEmpty Bytes.keepIf Bytes.same Bytes.begins Bytes.order Bytes.isLess Bytes.isEqual
@@ -80,7 +83,8 @@ inLines = tt
 
 unfoldable pub inActions : Unit {0}
 unfolding Actions.inLine Actions.inAction Actions.inField Actions.pathAt Actions.pairs Actions.partitionValuesAt Actions.addOf Actions.unstated
-    Actions.protocolNumberAt Actions.orEmpty Actions.featuresAt Actions.protocolOf Actions.mostColumns Actions.idAt Actions.metaDataOf Actions.keyOf
+    Actions.protocolNumberAt Actions.orEmpty Actions.featuresAt Actions.protocolOf Actions.mostColumns Actions.idAt Actions.metaDataOf Actions.noSkip
+    Actions.skipCountIn Actions.orAtOnce Actions.skipOf Actions.keyOf
     Actions.actionBy Actions.onlyOne Actions.lineMember Actions.action Actions.isLine Actions.orNothing Actions.pathWritten Actions.pathIn Actions.pathShown
     Actions.recordsOf Actions.recordsIn Actions.recordsShown
 inActions = tt
@@ -90,11 +94,11 @@ unfolding JsonValues.memberLeft JsonValues.membersLeft Actions.pathLeft Actions.
 inPathPlaces = tt
 
 unfoldable pub inLive : Unit {0}
-unfolding Live.mostLive Live.pathOf Live.putBeside Live.takeIf Live.put Live.takeOut
+unfolding Live.mostLive Live.pathOf Live.skipped Live.putBeside Live.takeIf Live.changeIf Live.put Live.takeOut Live.change
 inLive = tt
 
 unfoldable pub inHistory : Unit {0}
-unfolding History.noTable History.fits History.effect History.withinLimit History.act History.readLine History.readLines History.readFile
+unfolding History.noTable History.fits History.added History.effect History.withinLimit History.act History.readLine History.readLines History.readFile
     History.saidNothing History.sayTable History.sayProtocol History.say History.zeroLines History.orUnstated History.readZero
 inHistory = tt
 
@@ -113,12 +117,13 @@ unfolding Gate.knownReader Gate.knownWriter Gate.readerNames Gate.writerNames Ga
 inGate = tt
 
 unfoldable pub inQuery : Unit {0}
-unfolding Query.mostDigits Query.inRange Query.positive Query.negative Query.digitsIn Query.numberOf Query.isNumber Query.asOf Query.opOf Query.fits
-    Query.stands Query.conditionIn Query.conditionsIn Query.columnOf Query.mostQuery Query.mostConditions Query.query
+unfolding Query.mostDigits Query.inRange Query.positive Query.negative Query.digitsIn Query.numberOf Query.isNumber Query.isOutOfRange Query.asOf Query.opOf
+    Query.fits Query.stands Query.conditionIn Query.conditionsIn Query.columnOf Query.mostQuery Query.mostConditions Query.query
 inQuery = tt
 
 unfoldable pub inPicking : Unit {0}
 unfolding Picking.meets Picking.orderOfNumbers Picking.meetsNumber Picking.meetsAs Picking.valueAt Picking.meetsValue Picking.meetsAll Picking.picked
+    Picking.outOfAs Picking.outOf Picking.anyOutOf Picking.inRangeAll
 inPicking = tt
 
 unfoldable pub inManifests : Unit {0}
@@ -128,7 +133,7 @@ unfolding Manifests.boundsOf Manifests.columnsIn Manifests.columnsOf Manifests.o
 inManifests = tt
 
 unfoldable pub inRooms : Unit {0}
-unfolding Rooms.rowsRoom Rooms.keptRoom Rooms.namesRoom Rooms.filled Rooms.leaves Rooms.rowNumbers Rooms.rowsNumbers
+unfolding Rooms.rowsRoom Rooms.keptRoom Rooms.namesRoom Rooms.filled Rooms.leaves Rooms.rowWidth Rooms.rowNumbers Rooms.rowsNumbers
 inRooms = tt
 
 unfoldable pub inReading : Unit {0}
@@ -136,13 +141,17 @@ unfolding Reading.versionAsked Reading.stateWithin Reading.listing Reading.listi
     Reading.roomAfterReading
 inReading = tt
 
+unfoldable pub inDue : Unit {0}
+unfolding Due.isDue Due.dueRows Due.dueListing Due.due
+inDue = tt
+
 unfoldable pub inKeeping : Unit {0}
 unfolding Keeping.keeping Keeping.roomAfterKeeping
 inKeeping = tt
 
 unfoldable pub inAgreement : Unit {0}
-unfolding Agreement.agreeValue Agreement.agreeFound Agreement.agreeOn Agreement.agreePairs Agreement.agreeRecords Agreement.agreeFacts Agreement.agreeRows
-    Agreement.agreeProtocols Agreement.agreeTables Agreement.agree
+unfolding Agreement.agreeValue Agreement.agreeFound Agreement.agreeOn Agreement.agreePairs Agreement.agreeRecords Agreement.agreeFacts Agreement.agreeSkip
+    Agreement.agreeRow Agreement.agreeRows Agreement.agreeProtocols Agreement.agreeTables Agreement.agree
 inAgreement = tt
 
 unfoldable pub inCleaning : Unit {0}
@@ -160,7 +169,8 @@ unfolding Samples.quotes Samples.json Samples.bodyOf Samples.file Samples.little
 inSamples = tt
 
 unfoldable pub inEdges : Unit {0}
-unfolding Edges.saysState Edges.saysListing Edges.saysNumbers Edges.rule Edges.addOf Edges.removeOf Edges.v0 Edges.v1 Edges.v3 Edges.tableOf
+unfolding Edges.saysState Edges.marksOf Edges.saysMarks Edges.saysTable Edges.saysListing Edges.saysNumbers Edges.rule Edges.addOf Edges.removeOf Edges.v0
+    Edges.v1 Edges.v3 Edges.tableOf
     Edges.checkpointAtTwo Edges.c2 Edges.bare2
     Edges.m2 Edges.edges
 inEdges = tt
@@ -180,14 +190,27 @@ unfolding ForeignColumns.keyed ForeignColumns.onLineThree ForeignColumns.without
     ForeignColumns.renamedBelow ForeignColumns.heldTo ForeignColumns.orders
 inForeignColumns = tt
 
+unfoldable pub inSecondMerges : Unit {0}
+unfolding SecondMerges.skipWith SecondMerges.skipA SecondMerges.repeated SecondMerges.ofA SecondMerges.saidOfA SecondMerges.skipCounts
+    SecondMerges.retryTimes SecondMerges.malformedSkips SecondMerges.effects SecondMerges.skippedLater SecondMerges.byVersion SecondMerges.waiting
+    SecondMerges.theOne SecondMerges.dues SecondMerges.comparedWith SecondMerges.cleanings
+inSecondMerges = tt
+
+unfoldable pub inPupilNumbers : Unit {0}
+unfolding PupilNumbers.numbered PupilNumbers.anyNumber PupilNumbers.picksIt PupilNumbers.picksNone PupilNumbers.values PupilNumbers.both
+    PupilNumbers.bothTurned PupilNumbers.tooLong PupilNumbers.conditions PupilNumbers.good PupilNumbers.long PupilNumbers.inTwo PupilNumbers.liveOnes
+    PupilNumbers.bounded PupilNumbers.on PupilNumbers.bounds
+inPupilNumbers = tt
+
 unfoldable pub inTexts : Unit {0}
 unfolding inBytes inNumbers inBundle inNames inJsonText inJsonNumbers inJsonStrings inJsonValues inJsonFields inLines inActions inPathPlaces
 inTexts = tt
 
 unfoldable pub inTables : Unit {0}
-unfolding inSamples inEdges inNamesAndNumbers inExamples inForeignColumns
+unfolding inSamples inEdges inNamesAndNumbers inExamples inForeignColumns inSecondMerges inPupilNumbers
 inTables = tt
 
 unfoldable pub rules : Unit {0}
-unfolding inTexts inLive inHistory inStarts inMarker inGate inQuery inPicking inManifests inRooms inReading inKeeping inAgreement inCleaning inProgram inTables
+unfolding inTexts inLive inHistory inStarts inMarker inGate inQuery inPicking inManifests inRooms inReading inDue inKeeping inAgreement inCleaning
+    inProgram inTables
 rules = tt

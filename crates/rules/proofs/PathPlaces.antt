@@ -136,7 +136,7 @@ kind line = go (isLine line) refl (action line) refl
     go true l (some (remove p)) e = none-by (rw (pathStart, l, e)) (rw (pathShown, l, e))
     go true l (some (protocol p)) e = none-by (rw (pathStart, l, e)) (rw (pathShown, l, e))
     go true l (some (metaData m)) e = none-by (rw (pathStart, l, e)) (rw (pathShown, l, e))
-    go true l (some mergeskip) e = none-by (rw (pathStart, l, e)) (rw (pathShown, l, e))
+    go true l (some (mergeskip p s)) e = none-by (rw (pathStart, l, e)) (rw (pathShown, l, e))
     go true l (some other) e = none-by (rw (pathStart, l, e)) (rw (pathShown, l, e))
 
 pub place-shown : (line : Text) → take (pathPlace line .1) (drop (pathPlace line .0) line) ≡ pathShown line

@@ -15,10 +15,10 @@ use Rattle.rules.specs.Bytes.{Bytes}
 use Rattle.rules.specs.Bundle.{File}
 use Rattle.rules.specs.Lines.{lines, anyObject}
 use Rattle.rules.specs.Actions.{MetaData, Action, add, remove, protocol, metaData, mergeskip, other, action}
-use Rattle.rules.specs.Live.{mostLive, pathOf}
+use Rattle.rules.specs.Live.{mostLive, pathOf, skipped}
 use Rattle.rules.specs.Refusals.{Refusal, Answer, accepted, refused, _>>=_, orRefuse, require}
 use Rattle.rules.specs.Refusals.{malformed, foreignKeys, tooManyLive, noVersionZero, notKept}
-use Rattle.rules.specs.History.{State, Origin, ofVersion, ofCheckpoint, fits, Said, effect, withinLimit, act, readLine, readLines, readFile}
+use Rattle.rules.specs.History.{State, Origin, ofVersion, ofCheckpoint, fits, Said, added, effect, withinLimit, act, readLine, readLines, readFile}
 use Rattle.rules.specs.History.{saidNothing, zeroLines, orUnstated, readZero}
 use Rattle.rules.specs.Starts.{Log, Way, fromZero, fromCheckpoint, andThen, nothingLive, follow}
 use Rattle.rules.specs.Reading.{stateWithin, stateBy}
@@ -26,6 +26,7 @@ use Rattle.rules.specs.Keyed.{Ascends}
 use Rattle.rules.proofs.Tests.{apart}
 use Rattle.rules.proofs.Lines.{lines-part, lines-part-none}
 use Rattle.rules.proofs.Live.{ascends-put, ascends-takeOut}
+use Rattle.rules.proofs.Changing.{ascends-change}
 
 -- ---- answers
 
@@ -40,12 +41,12 @@ require-accepted r false e = apart (cc)
 -- ---- one line
 
 pub effect-ascends : (at size : ℕ) (a : Action) (st : State) → Ascends pathOf (st .live) → Ascends pathOf (effect at size a st .live)
-unfolding effect
-effect-ascends at size (add f) st s = ascends-put pathOf (record { at = at; size = size; facts = f }) (st .live) s
+unfolding effect pathOf skipped
+effect-ascends at size (add f) st s = ascends-put pathOf (added at size f) (st .live) s
 effect-ascends at size (remove p) st s = ascends-takeOut pathOf p (st .live) s
 effect-ascends at size (protocol p) st s = s
 effect-ascends at size (metaData m) st s = s
-effect-ascends at size mergeskip st s = s
+effect-ascends at size (mergeskip p k) st s = ascends-change pathOf p (skipped k) (λ r. refl) (st .live) s
 effect-ascends at size other st s = s
 
 pub withinLimit-accepted : (limit e k : ℕ) (st : State) {to : State} → withinLimit limit e k st ≡ accepted to → (st ≡ to) × (length (st .live) ≤ limit)

@@ -37,19 +37,19 @@ same-facts-trans s t = record {
 
 pub same-rows-refl : (rs : List Row) → SameRows rs rs
 same-rows-refl [] = no-rows
-same-rows-refl (r ∷ rs) = row (same-facts-refl (r .facts)) (same-rows-refl rs)
+same-rows-refl (r ∷ rs) = row (same-facts-refl (r .facts)) refl (same-rows-refl rs)
 
 pub same-rows-sym : {rs ss : List Row} → SameRows rs ss → SameRows ss rs
 same-rows-sym no-rows = no-rows
-same-rows-sym (row f s) = row (same-facts-sym f) (same-rows-sym s)
+same-rows-sym (row f k s) = row (same-facts-sym f) (sym k) (same-rows-sym s)
 
 pub same-rows-trans : {rs ss ts : List Row} → SameRows rs ss → SameRows ss ts → SameRows rs ts
 same-rows-trans no-rows no-rows = no-rows
-same-rows-trans (row f s) (row g t) = row (same-facts-trans f g) (same-rows-trans s t)
+same-rows-trans (row f k s) (row g l t) = row (same-facts-trans f g) (k ∙ l) (same-rows-trans s t)
 
 pub length-same-rows : {rs ss : List Row} → SameRows rs ss → length rs ≡ length ss
 length-same-rows no-rows = refl
-length-same-rows (row f s) = ap suc (length-same-rows s)
+length-same-rows (row f k s) = ap suc (length-same-rows s)
 
 -- ---- protocols
 

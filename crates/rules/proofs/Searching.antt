@@ -25,7 +25,7 @@ module _ {A : Type 0} (key : A → Bytes) where
   -- ---- at the place m of the key
 
   -- it stands after the head
-  head-below : (k : Bytes) (x : A) (xs : List A) (m : ℕ) (d : A) → Ascends key (x ∷ xs) → m < length xs → key (getD xs m d) ≡ k → order (key x) k ≡ less
+  pub head-below : (k : Bytes) (x : A) (xs : List A) (m : ℕ) (d : A) → Ascends key (x ∷ xs) → m < length xs → key (getD xs m d) ≡ k → order (key x) k ≡ less
   head-below k x xs m d s l e = rw (← e) (All-at (Below key x) xs m d l (s .0))
 
   pub put-found : (r : A) (xs : List A) (m : ℕ) (d : A) → Ascends key xs → m < length xs → key (getD xs m d) ≡ key r → put key r xs ≡ set xs m r

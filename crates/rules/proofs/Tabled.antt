@@ -13,7 +13,7 @@ use Rattle.rules.specs.Lines.{lines, anyObject}
 use Rattle.rules.specs.Json.Text.{Text}
 use Rattle.rules.specs.Json.Values.{Member, objectOf}
 use Rattle.rules.specs.Json.Fields.{stringAt, once, stringsOf}
-use Rattle.rules.specs.Actions.{inAction, inField, pathAt, addOf, Protocol, protocolOf, MetaData, mostColumns, idAt, metaDataOf}
+use Rattle.rules.specs.Actions.{inAction, inField, pathAt, addOf, Protocol, protocolOf, MetaData, mostColumns, idAt, metaDataOf, skipOf}
 use Rattle.rules.specs.Actions.{Key, keyAdd, keyRemove, keyProtocol, keyMetaData, keyMergeskip, keyOther, keyOf}
 use Rattle.rules.specs.Actions.{Action, add, remove, protocol, metaData, mergeskip, other, actionBy, lineMember, action}
 use Rattle.rules.specs.Refusals.{Answer, accepted, _>>=_, orRefuse, require, malformed}
@@ -63,7 +63,8 @@ actionBy-id keyRemove v m h = bound (objectOf inAction v) _ h (λ ms a b. bound 
 actionBy-id keyProtocol v m h = bound (objectOf inAction v) _ h (λ ms a b. bound (protocolOf ms) _ b (λ p c d. apart (cc)))
 actionBy-id keyMetaData v m h =
     bound (objectOf inAction v) _ h (λ ms a b. bound (metaDataOf ms) _ b (λ n c d. subst HasId (metaData-same d) (metaDataOf-id ms n c)))
-actionBy-id keyMergeskip v m h = apart (cc)
+actionBy-id keyMergeskip v m h =
+    bound (objectOf inAction v) _ h (λ ms a b. bound (pathAt ms) _ b (λ p c d. bound (skipOf ms) _ d (λ s g i. apart (cc))))
 actionBy-id keyOther v m h = apart (cc)
 
 pub action-id : (l : Bytes) (m : MetaData) → action l ≡ some (metaData m) → HasId m
@@ -81,7 +82,7 @@ id-kept limit of e k at l st to h p = go (readLine-accepted limit of e k at l st
     of-effect (remove x) q = p
     of-effect (protocol x) q = p
     of-effect (metaData m) q = action-id l m q
-    of-effect mergeskip q = p
+    of-effect (mergeskip x y) q = p
     of-effect other q = p
 
     go : (st ≡ to) ⊎ Applied limit at l st to → HasId (to .table)
@@ -98,7 +99,7 @@ readLine-table limit of e k at l st to h n = go (readLine-accepted limit of e k 
     of-effect (remove x) q = refl
     of-effect (protocol x) q = refl
     of-effect (metaData m) q = apart (cc)
-    of-effect mergeskip q = refl
+    of-effect (mergeskip x y) q = refl
     of-effect other q = refl
 
     go : (st ≡ to) ⊎ Applied limit at l st to → to .table ≡ st .table
@@ -169,7 +170,7 @@ say-id (metaData m) l s next q e p = go (s .ofTable) e
     go : (o : Option MetaData) → sayTable o m s ≡ some next → SaidId next
     go none e = subst SaidId (some-same e) (λ n t. subst HasId (some-same t) (action-id l m q))
     go (some n) e = apart (cc)
-say-id mergeskip l s next q e p = apart (cc)
+say-id (mergeskip x y) l s next q e p = apart (cc)
 say-id other l s next q e p = subst SaidId (some-same e) p
 
 zeroLines-id : (e k : ℕ) (ls : List Bytes) (s to : Said) → zeroLines e k ls s ≡ accepted to → SaidId s → SaidId to

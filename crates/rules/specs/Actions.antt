@@ -10,7 +10,7 @@ use Rattle.rules.specs.Bytes.{Bytes, ascii, _>>=_, guard, first, among, 
 use Rattle.rules.specs.Json.Text.{Text, byte}
 use Rattle.rules.specs.Json.Numbers.{whole}
 use Rattle.rules.specs.Json.Values.{Member, objectOf, membersLeft}
-use Rattle.rules.specs.Json.Fields.{once, optional, ifThere, stringAt, wholeAt, boolOf, stringOrNull, stringsOf, unquoted}
+use Rattle.rules.specs.Json.Fields.{under, once, optional, ifThere, stringAt, wholeAt, boolOf, stringOrNull, stringsOf, unquoted}
 
 -- JSON nests at most 32 objects and arrays deep, line object included: what stands inside of 1, 2 and 3 of them
 unfoldable pub inLine : ℕ
@@ -141,6 +141,43 @@ metaDataOf ms = do
   _ ← guard (distinct cs)
   some (record { id = i; partitionColumns = cs })
 
+-- ---- mergeskip
+
+-- how often a file was skipped, and when it may be tried again
+pub record Skip : Type 0 where
+  pub count : ℕ
+  pub retryAfter : ℕ
+
+-- without a mergeskip line both are zero
+unfoldable pub noSkip : Skip
+noSkip = record { count = 0; retryAfter = 0 }
+
+-- 0 to 2,147,483,647
+abbrev pub skipNumber : ℕ → Option ℕ
+skipNumber n = do
+  _ ← guard (leb n 2_147_483_647)
+  some n
+
+-- 1 if missing; null is not as missing; twice is malformed
+unfoldable pub skipCountIn : List Text → Option ℕ
+skipCountIn [] = some 1
+skipCountIn (v ∷ []) = do
+  n ← whole v
+  skipNumber n
+skipCountIn (v ∷ w ∷ vs) = none
+
+-- zero, at once, if missing or null
+unfoldable pub orAtOnce : Option ℕ → ℕ
+orAtOnce none = 0
+orAtOnce (some t) = t
+
+unfoldable pub skipOf : List Member → Option Skip
+skipOf ms = do
+  n ← skipCountIn (under (ascii "skipCount") ms)
+  v ← optional "retryAfter" ms
+  t ← ifThere whole v
+  some (record { count = n; retryAfter = orAtOnce t })
+
 -- ---- the line
 
 pub data Key : Type 0 where
@@ -162,10 +199,10 @@ pub data Action : Type 0 where
   remove : (path : Bytes) → Action
   protocol : Protocol → Action
   metaData : MetaData → Action
-  mergeskip : Action
+  mergeskip : (path : Bytes) → Skip → Action
   other : Action
 
--- protocol, metaData, add and remove need an object; any other key has any JSON value
+-- protocol, metaData, add, remove and mergeskip need an object; any other key has any JSON value
 unfoldable pub actionBy : Key → (value : Text) → Option Action
 actionBy keyAdd v = do
   ms ← objectOf inAction v
@@ -183,7 +220,11 @@ actionBy keyMetaData v = do
   ms ← objectOf inAction v
   m ← metaDataOf ms
   some (metaData m)
-actionBy keyMergeskip v = some mergeskip
+actionBy keyMergeskip v = do
+  ms ← objectOf inAction v
+  p ← pathAt ms
+  s ← skipOf ms
+  some (mergeskip p s)
 actionBy keyOther v = some other
 
 unfoldable pub onlyOne : List Member → Option Member
@@ -228,7 +269,7 @@ pathIn (some (add f)) line = orNothing (pathWritten line)
 pathIn (some (remove p)) line = []
 pathIn (some (protocol p)) line = []
 pathIn (some (metaData m)) line = []
-pathIn (some mergeskip) line = []
+pathIn (some (mergeskip p s)) line = []
 pathIn (some other) line = []
 
 -- the raw path between its quotes; empty if the line is no well-formed add
@@ -254,7 +295,7 @@ startIn (some (add f)) line = startOf line (pathLeft line)
 startIn (some (remove p)) line = 0
 startIn (some (protocol p)) line = 0
 startIn (some (metaData m)) line = 0
-startIn (some mergeskip) line = 0
+startIn (some (mergeskip p s)) line = 0
 startIn (some other) line = 0
 
 unfoldable pub pathStart : Text → ℕ
@@ -279,7 +320,7 @@ recordsIn (some (add f)) = recordsOf (f .numRecords)
 recordsIn (some (remove p)) = noAdd
 recordsIn (some (protocol p)) = noAdd
 recordsIn (some (metaData m)) = noAdd
-recordsIn (some mergeskip) = noAdd
+recordsIn (some (mergeskip p s)) = noAdd
 recordsIn (some other) = noAdd
 
 -- an add's number of records

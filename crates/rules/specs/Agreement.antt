@@ -1,12 +1,12 @@
 -- Whether two states agree, as the cleaner tests it: id and partition columns, protocol numbers, feature sets, paths, size, modificationTime,
--- numRecords, partition pairs.
+-- numRecords, partition pairs, skipCount, retryAfter.
 use mathlib.Core.Bool.{Bool, true, false, _&&_}
 use mathlib.Core.Option.{Option, none, some}
 use mathlib.Core.List.{List, [], _∷_}
 use Prim.Native.Nat.{ℕ}
 use lib.Dec.{eqb}
 use Rattle.rules.specs.Bytes.{Bytes, same, sameSet, sameEach}
-use Rattle.rules.specs.Actions.{Facts, Pairs, Protocol, MetaData}
+use Rattle.rules.specs.Actions.{Facts, Pairs, Skip, Protocol, MetaData}
 use Rattle.rules.specs.Live.{Row}
 use Rattle.rules.specs.Picking.{valueAt}
 use Rattle.rules.specs.History.{State}
@@ -48,12 +48,18 @@ agreeFacts f g =
     && (agreeRecords (f .numRecords) (g .numRecords)
     && agreePairs (f .partitionValues) (g .partitionValues))))
 
+unfoldable pub agreeSkip : Skip → Skip → Bool
+agreeSkip a b = eqb (a .count) (b .count) && eqb (a .retryAfter) (b .retryAfter)
+
+unfoldable pub agreeRow : Row → Row → Bool
+agreeRow r s = agreeFacts (r .facts) (s .facts) && agreeSkip (r .skip) (s .skip)
+
 -- rows are in path order on both sides
 unfoldable pub agreeRows : List Row → List Row → Bool
 agreeRows [] [] = true
 agreeRows [] (s ∷ ss) = false
 agreeRows (r ∷ rs) [] = false
-agreeRows (r ∷ rs) (s ∷ ss) = elim (agreeFacts (r .facts) (s .facts)) [ true ↦ agreeRows rs ss | false ↦ false ]
+agreeRows (r ∷ rs) (s ∷ ss) = elim (agreeRow r s) [ true ↦ agreeRows rs ss | false ↦ false ]
 
 unfoldable pub agreeProtocols : Protocol → Protocol → Bool
 agreeProtocols p q =

@@ -9,14 +9,15 @@ use Rattle.rules.specs.Bytes.{Bytes, ascii}
 use Rattle.rules.specs.Names.{Name, version, checkpoint, tooLarge, nameOf}
 use Rattle.rules.specs.Lines.{lines}
 use Rattle.rules.specs.Actions.{pathPlace}
-use Rattle.rules.specs.Live.{mostLive, pathOf}
+use Rattle.rules.specs.Live.{mostLive, Row, pathOf}
 use Rattle.rules.specs.History.{State, ofVersion, readLines}
 use Rattle.rules.specs.Starts.{nothingLive}
 use Rattle.rules.specs.Query.{Number, number, outOfRange, numberOf, asText, asNumber, Op, eq, lt, le, gt, ge}
 use Rattle.rules.specs.Picking.{meetsAs}
 use Rattle.rules.specs.Manifests.{outsideAs}
-use Rattle.rules.specs.Rooms.{rowsRoom, keptRoom, namesRoom}
+use Rattle.rules.specs.Rooms.{rowsRoom, keptRoom, namesRoom, rowsNumbers}
 use Rattle.rules.specs.Reading.{Asked, theLatest, theVersion, Listing, reading}
+use Rattle.rules.specs.Due.{due}
 use Rattle.rules.specs.Keeping.{keeping}
 use Rattle.rules.specs.Cleaning.{cleaning}
 use Rattle.rules.specs.Program.{printed}
@@ -31,10 +32,15 @@ pub data Question : Type 0 where
   meet : Op → (value bound : String) → Question
   apply : List String → Question
   within : (limit : ℕ) → List String → Question
+  mark : List String → Question
   drops : Op → (bound min max : String) → Question
   read : Asked → (query : String) → (bundle : Bytes) → Question
+  lent : (room : ℕ) → (bundle : Bytes) → Question
+  table : Asked → (bundle : Bytes) → Question
+  awaits : (time : ℕ) → (bundle : Bytes) → Question
   keep : (state query : Bytes) → Question
   clean : (now retention : ℕ) → (bundle : Bytes) → Question
+  cleanLent : (table₁ table₂ : ℕ) → (bundle : Bytes) → Question
   print : (bundle : Bytes) → Question
   show : (line : String) → Question
 
@@ -42,6 +48,7 @@ pub data Says : Type 0 where
   named : Name → Says
   value : Number → Says
   live : (paths : List Bytes) → Says
+  marked : List (Bytes × (ℕ × ℕ)) → Says
   test : Bool → Says
   listed : (version : ℕ) (paths : List Bytes) → Says
   numbers : List ℕ → Says
@@ -52,6 +59,20 @@ pub data Says : Type 0 where
 unfoldable pub saysState : Answer State → Says
 saysState (accepted st) = live (map pathOf (st .live))
 saysState (refused r) = refusal (r .number) (r .entry) (r .line)
+
+-- each path with its skip count and retry time
+unfoldable pub marksOf : List Row → List (Bytes × (ℕ × ℕ))
+marksOf [] = []
+marksOf (r ∷ rs) = (pathOf r, (r .skip .count, r .skip .retryAfter)) ∷ marksOf rs
+
+unfoldable pub saysMarks : Answer State → Says
+saysMarks (accepted st) = marked (marksOf (st .live))
+saysMarks (refused r) = refusal (r .number) (r .entry) (r .line)
+
+-- the numbers of the rows
+unfoldable pub saysTable : Answer Listing → Says
+saysTable (accepted l) = numbers (rowsNumbers (l .rows))
+saysTable (refused r) = refusal (r .number) (r .entry) (r .line)
 
 unfoldable pub saysListing : Answer Listing → Says
 saysListing (accepted l) = listed (l .version) (map pathOf (l .rows))
@@ -67,10 +88,15 @@ rule (numeral s) = value (numberOf (ascii s))
 rule (meet op x b) = test (meetsAs asNumber op (ascii x) (ascii b))
 rule (apply ls) = saysState (readLines mostLive ofVersion 0 1 0 (lines (bodyOf ls)) nothingLive)
 rule (within limit ls) = saysState (readLines limit ofVersion 0 1 0 (lines (bodyOf ls)) nothingLive)
+rule (mark ls) = saysMarks (readLines mostLive ofVersion 0 1 0 (lines (bodyOf ls)) nothingLive)
 rule (drops op b lo hi) = test (outsideAs asText op (ascii b) (ascii lo) (ascii hi))
 rule (read asked q s) = saysListing (reading rowsRoom s (json q) asked)
+rule (lent room s) = saysListing (reading room s (ascii "[]") theLatest)
+rule (table asked s) = saysTable (reading rowsRoom s (ascii "[]") asked)
+rule (awaits time s) = saysListing (due rowsRoom s theLatest time)
 rule (keep state q) = saysNumbers (keeping keptRoom state q)
 rule (clean now retention s) = saysNumbers (cleaning (record { names = namesRoom; table₁ = rowsRoom; table₂ = rowsRoom }) s now retention)
+rule (cleanLent t₁ t₂ s) = saysNumbers (cleaning (record { names = namesRoom; table₁ = t₁; table₂ = t₂ }) s 100 10)
 rule (print s) = text (printed s)
 rule (show l) = let p = pathPlace (json l) in place (p .0) (p .1)
 

@@ -8,8 +8,8 @@ use lib.ListN.{length}
 use Rattle.rules.specs.Bytes.{Bytes, sameSet, firsts}
 use Rattle.rules.specs.Bundle.{File}
 use Rattle.rules.specs.Lines.{lines, anyObject}
-use Rattle.rules.specs.Actions.{Protocol, unstated, MetaData, Action, add, remove, protocol, metaData, mergeskip, other, action}
-use Rattle.rules.specs.Live.{Row, pathOf, put, takeOut}
+use Rattle.rules.specs.Actions.{Facts, Protocol, unstated, MetaData, noSkip, Action, add, remove, protocol, metaData, mergeskip, other, action}
+use Rattle.rules.specs.Live.{Row, pathOf, skipped, put, takeOut, change}
 use Rattle.rules.specs.Refusals.{Answer, accepted, _>>=_, orRefuse, require, malformed, foreignKeys, tooManyLive}
 
 -- what a log says: the metadata and the protocol in force, and the live files
@@ -34,19 +34,23 @@ fits ofVersion (add f) m = sameSet (firsts (f .partitionValues)) (m .partitionCo
 fits ofVersion (remove p) m = true
 fits ofVersion (protocol p) m = true
 fits ofVersion (metaData n) m = true
-fits ofVersion mergeskip m = true
+fits ofVersion (mergeskip p s) m = true
 fits ofVersion other m = true
 fits ofCheckpoint a m = true
 
 -- ---- one line
 
+-- the row that an add puts: nothing was said of the file since
+unfoldable pub added : (at size : ℕ) → Facts → Row
+added at size f = record { at = at; size = size; facts = f; skip = noSkip }
+
 -- what the action of a line of `size` bytes at `at` does: the last metaData and the last protocol are in force
 unfoldable pub effect : (at size : ℕ) → Action → State → State
-effect at size (add f) st = record { table = st .table; inForce = st .inForce; live = put pathOf (record { at = at; size = size; facts = f }) (st .live) }
+effect at size (add f) st = record { table = st .table; inForce = st .inForce; live = put pathOf (added at size f) (st .live) }
 effect at size (remove p) st = record { table = st .table; inForce = st .inForce; live = takeOut pathOf p (st .live) }
 effect at size (protocol p) st = record { table = st .table; inForce = p; live = st .live }
 effect at size (metaData m) st = record { table = m; inForce = st .inForce; live = st .live }
-effect at size mergeskip st = st
+effect at size (mergeskip p s) st = record { table = st .table; inForce = st .inForce; live = change pathOf p (skipped s) (st .live) }
 effect at size other st = st
 
 -- at most `limit` files are live
@@ -105,7 +109,7 @@ say (add f) s = none
 say (remove p) s = none
 say (protocol p) s = sayProtocol (s .ofProtocol) p s
 say (metaData m) s = sayTable (s .ofTable) m s
-say mergeskip s = none
+say (mergeskip p k) s = none
 say other s = some s
 
 unfoldable pub zeroLines : (entry number : ℕ) → List Bytes → Said → Answer Said

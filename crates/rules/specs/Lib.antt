@@ -17,6 +17,7 @@ pub mod Manifests
 pub mod Rooms
 pub mod Refusals
 pub mod Reading
+pub mod Due
 pub mod Keeping
 pub mod Agreement
 pub mod Cleaning
@@ -26,4 +27,6 @@ pub mod Samples
 pub mod Edges
 pub mod Examples
 pub mod ForeignColumns
+pub mod SecondMerges
+pub mod PupilNumbers
 pub mod Keyed

@@ -1,4 +1,4 @@
--- Which files a query picks: a function of a file's facts alone.
+-- Which files a query picks: a function of a file's facts alone. And whether a live file has a value out of range under it.
 use mathlib.Core.Bool.{Bool, true, false, not}
 use mathlib.Core.Option.{Option, none, some}
 use mathlib.Core.List.{List, [], _∷_}
@@ -7,7 +7,7 @@ use lib.Signed.{ltZ}
 use Rattle.rules.specs.Bytes.{Bytes, same, Order, less, equal, more, order, isLess, isEqual, isMore, keepIf}
 use Rattle.rules.specs.Actions.{Facts, Pairs}
 use Rattle.rules.specs.Live.{Row}
-use Rattle.rules.specs.Query.{Number, number, outOfRange, notNumber, numberOf, As, asText, asNumber, Op, eq, lt, le, gt, ge, Condition}
+use Rattle.rules.specs.Query.{Number, number, outOfRange, notNumber, numberOf, isOutOfRange, As, asText, asNumber, Op, eq, lt, le, gt, ge, Condition}
 
 -- ---- one value
 
@@ -55,3 +55,26 @@ meetsAll (c ∷ cs) f = elim (meetsValue c (valueAt (c .column) (f .partitionVal
 unfoldable pub picked : List Condition → List Row → List Row
 picked cs [] = []
 picked cs (r ∷ rs) = keepIf (meetsAll cs (r .facts)) r (picked cs rs)
+
+-- ---- values out of range
+
+-- under a condition that reads numbers; a text is never out of range
+unfoldable pub outOfAs : As → Bytes → Bool
+outOfAs asText x = false
+outOfAs asNumber x = isOutOfRange (numberOf x)
+
+-- a missing or null value is not out of range
+unfoldable pub outOf : Condition → Option (Option Bytes) → Bool
+outOf c none = false
+outOf c (some none) = false
+outOf c (some (some x)) = outOfAs (c .kind) x
+
+-- of some condition, whether the others are met or not
+unfoldable pub anyOutOf : List Condition → Facts → Bool
+anyOutOf [] f = false
+anyOutOf (c ∷ cs) f = elim (outOf c (valueAt (c .column) (f .partitionValues))) [ true ↦ true | false ↦ anyOutOf cs f ]
+
+-- no file has one, picked or not
+unfoldable pub inRangeAll : List Condition → List Row → Bool
+inRangeAll cs [] = true
+inRangeAll cs (r ∷ rs) = elim (anyOutOf cs (r .facts)) [ true ↦ false | false ↦ inRangeAll cs rs ]

@@ -51,6 +51,11 @@ isNumber (number z) = true
 isNumber outOfRange = false
 isNumber notNumber = false
 
+unfoldable pub isOutOfRange : Number → Bool
+isOutOfRange (number z) = false
+isOutOfRange outOfRange = true
+isOutOfRange notNumber = false
+
 -- ---- conditions
 
 pub data As : Type 0 where

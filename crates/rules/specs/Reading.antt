@@ -15,10 +15,10 @@ use Rattle.rules.specs.Starts.{Log, logOf, Way, wayTo, historyTo, follow
 use Rattle.rules.specs.Marker.{latest}
 use Rattle.rules.specs.Gate.{gate, writable}
 use Rattle.rules.specs.Query.{Condition, columnOf, query}
-use Rattle.rules.specs.Picking.{picked}
+use Rattle.rules.specs.Picking.{picked, inRangeAll}
 use Rattle.rules.specs.Rooms.{Room, rowsRoom, leaves, rowsNumbers}
 use Rattle.rules.specs.Refusals.{Answer, accepted, refused, _>>=_, orRefuse, require, roomTooShort, bundleMalformed}
-use Rattle.rules.specs.Refusals.{versionTooLarge, noVersionZero, notKept, queryMalformed, noSuchColumn}
+use Rattle.rules.specs.Refusals.{versionTooLarge, noVersionZero, notKept, queryMalformed, noSuchColumn, valueOutOfRange}
 
 pub data Asked : Type 0 where
   theLatest : Asked
@@ -65,11 +65,12 @@ stateWithin limit log way = do
 abbrev pub stateBy : Log → Option Way → Answer State
 stateBy log way = stateWithin mostLive log way
 
--- refusals 8, 9 and 11: what a state at version v answers
+-- refusals 8, 9, 11 and 18: what a state at version v answers
 unfoldable pub listing : List Condition → ℕ → State → Answer Listing
 listing cs v st = do
   _ ← gate (st .inForce)
   _ ← require noSuchColumn (allAmong (st .table .partitionColumns) (map columnOf cs))
+  _ ← require valueOutOfRange (inRangeAll cs (st .live))
   accepted (record { version = v; table = st .table; inForce = st .inForce; canWrite = writable (st .inForce); rows = picked cs (st .live) })
 
 -- what the log's files answer at version v, come to by `way`
@@ -88,7 +89,7 @@ listingAt cs log v = listingBy cs log v (wayTo log v)
 unfoldable pub historyListing : List Condition → Log → ℕ → Answer Listing
 historyListing cs log v = listingBy cs log v (historyTo log v)
 
--- refusals 1, 10, 2, 3, 4, 5, then 6, 21 or 7 by first line met, 8, 9, 11; `room` is how many u64 are lent
+-- refusals 1, 10, 2, 3, 4, 5, then 6, 21 or 7 by first line met, 8, 9, 11, 18; `room` is how many u64 are lent
 unfoldable pub reading : (room : ℕ) → (s q : Bytes) → Asked → Answer Listing
 reading room s q asked = do
   _ ← require roomTooShort (leb rowsRoom room)

@@ -63,6 +63,10 @@ stateMalformed = plain 14
 abbrev pub tooManyManifests : Refusal
 tooManyManifests = plain 15
 
+-- a value of a live file is a number out of range, under a condition that reads numbers
+abbrev pub valueOutOfRange : Refusal
+valueOutOfRange = plain 18
+
 -- foreign partition keys: those of an add are not the partition columns in force at its line
 abbrev pub foreignKeys : (entry line : ℕ) → Refusal
 foreignKeys e l = record { number = 21; entry = e; line = l }

@@ -12,7 +12,7 @@ Room = List ℕ
 
 -- u64 for the rows of a reading, u32 for the manifests kept, u32 for the entries a cleaner names
 unfoldable pub rowsRoom : ℕ
-rowsRoom = 4_096
+rowsRoom = 6_144
 
 unfoldable pub keptRoom : ℕ
 keptRoom = 256
@@ -36,9 +36,13 @@ counted (refused r) = refused r
 
 -- ---- rows
 
--- position in the bundle and length of the add's line, size, modificationTime
+-- how many numbers a row has
+unfoldable pub rowWidth : ℕ
+rowWidth = 6
+
+-- position in the bundle and length of the add's line, size, modificationTime, skipCount, retryAfter
 unfoldable pub rowNumbers : Row → List ℕ
-rowNumbers r = r .at ∷ r .size ∷ r .facts .size ∷ r .facts .modificationTime ∷ []
+rowNumbers r = r .at ∷ r .size ∷ r .facts .size ∷ r .facts .modificationTime ∷ r .skip .count ∷ r .skip .retryAfter ∷ []
 
 unfoldable pub rowsNumbers : List Row → List ℕ
 rowsNumbers [] = []

@@ -13,7 +13,7 @@ use Rattle.rules.specs.Picking.{valueAt}
 use Rattle.rules.specs.Reading.{Listing, stateBy}
 use Rattle.rules.specs.Refusals.{Refusal, Answer, accepted, refused}
 
--- size, modificationTime, numRecords (null is as missing) and partition pairs in any order (null is a value)
+-- what its add says of a file: size, modificationTime, numRecords (null is as missing) and partition pairs in any order (null is a value)
 pub record SameFacts (f g : Facts) : Type 0 where
   pub path : f .path ≡ g .path
   pub size : f .size ≡ g .size
@@ -21,10 +21,10 @@ pub record SameFacts (f g : Facts) : Type 0 where
   pub numRecords : f .numRecords ≡ g .numRecords
   pub partitionValues : (column : Bytes) → valueAt column (f .partitionValues) ≡ valueAt column (g .partitionValues)
 
--- the same paths, each with the same facts; rows are in path order
+-- the same paths, each with the same facts, skip count and retry time; rows are in path order
 pub data SameRows : List Row → List Row → Type 0 where
   no-rows : SameRows [] []
-  row : {r s : Row} {rs ss : List Row} → SameFacts (r .facts) (s .facts) → SameRows rs ss → SameRows (r ∷ rs) (s ∷ ss)
+  row : {r s : Row} {rs ss : List Row} → SameFacts (r .facts) (s .facts) → r .skip ≡ s .skip → SameRows rs ss → SameRows (r ∷ rs) (s ∷ ss)
 
 -- the same protocol numbers and feature sets
 pub record SameProtocol (p q : Protocol) : Type 0 where

@@ -46,7 +46,7 @@ isTable (some (add f)) = false
 isTable (some (remove p)) = false
 isTable (some (protocol p)) = false
 isTable (some (metaData m)) = true
-isTable (some mergeskip) = false
+isTable (some (mergeskip p s)) = false
 isTable (some other) = false
 
 -- a line says the metadata

@@ -48,7 +48,7 @@ records-none (some (add f)) e = apart (cc)
 records-none (some (remove p)) e = refl
 records-none (some (protocol p)) e = refl
 records-none (some (metaData m)) e = refl
-records-none (some mergeskip) e = refl
+records-none (some (mergeskip p k)) e = refl
 records-none (some other) e = refl
 
 module _ (s : Text) (line : isLine s ≡ true) where

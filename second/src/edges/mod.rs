@@ -1,13 +1,15 @@
-//! Tests of the paper's own examples (P1 to P12, the program) of its other edges, and of C-11 and C-22.
+//! Tests of the paper's own examples (P1 to P12, the program) of its other edges, and of C-11, C-14, C-15 and C-22.
 
 mod clauses;
 mod cleaning;
 mod foreign_keys;
 mod later_meta_data;
 mod paper;
+mod ranges;
+mod skips;
 
 use crate::bundle::{self, File};
-use crate::reading::{self, Ask, Reading, TABLE};
+use crate::reading::{self, Ask, Reading, ROW, TABLE};
 use crate::refusal::Refusal;
 
 const META: &str = "{\"metaData\":{\"id\":\"t\",\"partitionColumns\":[]}}\n";
@@ -81,7 +83,7 @@ fn read(ask: Ask, query: &str, bundle: &[u8]) -> Result<Reading, Refusal> {
     let mut room = vec![9; TABLE + 1];
     let result = reading::read(ask, query.as_bytes(), bundle, &mut room);
     let rows = result.map_or(0, |reading| reading.rows as usize);
-    assert!(room[4 * rows..TABLE].iter().all(|&number| number == 0), "the rest of the room is zero");
+    assert!(room[ROW * rows..TABLE].iter().all(|&number| number == 0), "the rest of the room is zero");
     assert_eq!(room[TABLE], 9, "numbers beyond the room stay");
     result
 }

@@ -4,7 +4,7 @@ use super::*;
 use crate::listing;
 use crate::manifests;
 use crate::names::{self, Name};
-use crate::query::read_number;
+use crate::query::{read_number, Number};
 
 #[test]
 fn p1_leading_zeros_are_decimal() {
@@ -28,14 +28,14 @@ fn p2_p3_the_largest_version() {
 
 #[test]
 fn p4_p5_p6_numbers() {
-    assert_eq!(read_number(b"09"), Some(9));
-    assert_eq!(read_number(b"-0"), Some(0));
-    assert_eq!(read_number(b"9223372036854775808"), None);
-    assert_eq!(read_number(b"-9223372036854775808"), Some(i64::MIN));
-    assert_eq!(read_number(b"00000000000000000010"), Some(10));
-    assert_eq!(read_number(b"000000000000000000010"), None);
-    for unreadable in ["", "-", "+1", "1.0", " 1", "99999999999999999999"] {
-        assert_eq!(read_number(unreadable.as_bytes()), None);
+    assert_eq!(read_number(b"09"), Number::InRange(9));
+    assert_eq!(read_number(b"-0"), Number::InRange(0));
+    assert_eq!(read_number(b"9223372036854775808"), Number::OutOfRange);
+    assert_eq!(read_number(b"-9223372036854775808"), Number::InRange(i64::MIN));
+    assert_eq!(read_number(b"00000000000000000010"), Number::InRange(10));
+    assert_eq!(read_number(b"000000000000000000010"), Number::None);
+    for no_number in ["", "-", "+1", "1.0", " 1", "1 ", "--1"] {
+        assert_eq!(read_number(no_number.as_bytes()), Number::None);
     }
 }
 

@@ -2,6 +2,7 @@
 
 use super::dice::Dice;
 use super::foreign;
+use super::lines;
 use super::logs::{checkpoint_name, version_name, Log};
 use crate::bundle::{self, File};
 
@@ -87,7 +88,7 @@ pub fn largest(log: &Log, beyond: usize) -> Vec<u8> {
 
 /// What stands behind 1,024 live files.
 pub enum Behind {
-    /// Another add of one of them, and a new one for one that goes.
+    /// Another add of one of them, a new one for one that goes, and mergeskips of the last and of none.
     NoMore,
     /// So many new ones.
     More(usize),
@@ -113,7 +114,10 @@ pub fn full_of_files(dice: &mut Dice, behind: Behind, in_checkpoint: bool) -> Lo
     let add = |number: usize| add_with(number, &good);
     let all: String = (0..1_024).map(add).collect();
     let more: String = match behind {
-        Behind::NoMore => format!("{}{{\"remove\":{{\"path\":\"5\"}}}}\n{}", add(7), add(5_000)),
+        Behind::NoMore => {
+            let [last, none] = ["3ff", "none"].map(|path| lines::merge_skip(dice, path, 3, 100));
+            format!("{}{{\"remove\":{{\"path\":\"5\"}}}}\n{}{last}\n{none}\n", add(7), add(5_000))
+        }
         Behind::More(count) => (0..count).map(|number| add(2_000 + number)).collect(),
         Behind::Foreign => match dice.below(5) {
             0 => add_with(2_000, &foreign),

@@ -6,17 +6,17 @@ use super::foreign::foreign_add;
 use super::lines;
 use super::logs::{checkpoint_name, version_name, Log, MARKER};
 use super::markers::{odd_marker, put_odd_marker};
-use super::readings::{enough_room, odd_room};
-use super::twists::{odd_line_somewhere, twist};
+use super::readings::{enough_room, odd_room, MOST_TABLE, TABLE};
+use super::twists::{odd_line_somewhere, odd_names, skip_somewhere, twist};
 use crate::request::Request;
 
 const NAMES: u64 = 1_024;
-const TABLE: u64 = 4_096;
 
 fn request(dice: &mut Dice, bundle: &[u8]) -> Request {
     let now = dice.pick_number(&[0, 999, 1_000, 1_001, 1_002, 2_000, 2_001, 5_000, u64::MAX]);
     let retention = dice.pick_number(&[0, 0, 0, 1, 999, 1_000, 1_001, u64::MAX]);
-    let rooms = [enough_room(dice, NAMES, 1_100), enough_room(dice, TABLE, 4_200), enough_room(dice, TABLE, 4_200)];
+    let rooms =
+        [enough_room(dice, NAMES, 1_100), enough_room(dice, TABLE, MOST_TABLE), enough_room(dice, TABLE, MOST_TABLE)];
     Request::new('c', &[now, retention, rooms[0], rooms[1], rooms[2]], &[bundle])
 }
 
@@ -97,6 +97,23 @@ pub fn foreign(dice: &mut Dice) -> Request {
     request(dice, &log.bundle())
 }
 
+/// The marked checkpoint, or another below it, lacks a mergeskip line, or has one that the history lacks,
+/// or an odd one, or is true.
+pub fn skipped(dice: &mut Dice) -> Request {
+    let (mut log, marked) = marked(dice, 5);
+    let version = if dice.one_in(4) { dice.below(marked as usize + 1) as u64 } else { marked };
+    let mut state = log.states[version as usize].clone();
+    match dice.below(6) {
+        0..=2 => state.falsify_skip(dice),
+        3 => skip_somewhere(dice, &mut log),
+        _ => (),
+    }
+    if !dice.one_in(4) {
+        log.put_checkpoint(dice, version, &state);
+    }
+    request(dice, &log.bundle())
+}
+
 pub fn twisted(dice: &mut Dice) -> Request {
     let (mut log, _) = marked(dice, 4);
     for _ in 0..1 + dice.below(6) / 4 {
@@ -167,6 +184,16 @@ pub fn ages(dice: &mut Dice) -> Request {
     Request::new('c', &[now, retention, NAMES, TABLE, TABLE], &[&log.bundle()])
 }
 
+/// Names on either side of the rules, and version 0 missing.
+pub fn names(dice: &mut Dice) -> Request {
+    let (mut log, _) = marked(dice, 2);
+    if dice.one_in(4) {
+        log.take_out(&version_name(0));
+    }
+    odd_names(dice, &mut log);
+    request(dice, &log.bundle())
+}
+
 pub fn damaged_bundle(dice: &mut Dice) -> Request {
     let (log, _) = marked(dice, 2);
     let bundle = bundles::damaged(dice, &log);
@@ -177,7 +204,7 @@ pub fn odd_rooms(dice: &mut Dice) -> Request {
     let mut request = if dice.one_in(2) { twisted(dice) } else { plain(dice) };
     for room in 2..5 {
         if dice.one_in(2) {
-            let (least, most) = if room == 2 { (NAMES, 1_100) } else { (TABLE, 4_200) };
+            let (least, most) = if room == 2 { (NAMES, 1_100) } else { (TABLE, MOST_TABLE) };
             request.numbers[room] = odd_room(dice, least, most);
         }
     }

@@ -3,7 +3,7 @@
 use super::dice::Dice;
 use super::writing::{any_value, member, object, quoted, shuffled_object, strings, Members};
 
-/// The facts of one add.
+/// The facts of a file: those of its add, and what a mergeskip line said of it since.
 #[derive(Clone, Debug)]
 pub struct FileFacts {
     pub path: String,
@@ -11,6 +11,8 @@ pub struct FileFacts {
     pub time: u64,
     pub records: Option<u64>,
     pub values: Vec<(String, Option<String>)>,
+    pub skips: u64,
+    pub retry: u64,
 }
 
 #[derive(Clone, Debug)]
@@ -55,6 +57,30 @@ const VALUES: [&str; 28] = [
     "0x10",
 ];
 
+/// Numbers around the ends of the range, on either side of them, and around 20 digits.
+const EDGES: [&str; 20] = [
+    "9223372036854775806",
+    "9223372036854775807",
+    "09223372036854775807",
+    "-9223372036854775808",
+    "-09223372036854775808",
+    "-9223372036854775807",
+    "9223372036854775808",
+    "09223372036854775808",
+    "-9223372036854775809",
+    "-09223372036854775809",
+    "18446744073709551615",
+    "18446744073709551616",
+    "18446744073709551617",
+    "-18446744073709551616",
+    "99999999999999999999",
+    "-99999999999999999999",
+    "100000000000000000000",
+    "009223372036854775807",
+    "009223372036854775808",
+    "-009223372036854775809",
+];
+
 pub const COLUMNS: [&str; 7] = ["year", "class", "n\u{E4}me", "", "a\"b", "month", "\u{1F600}"];
 
 pub const KNOWN_FEATURES: [&str; 6] =
@@ -64,12 +90,24 @@ pub const UNKNOWN_FEATURES: [&str; 5] = ["avroState", "multiPartCheckpoint", "",
 
 const NUMBERS: [u64; 8] = [0, 1, 7, 50, 60, 100, 1_696_000_000_000, i64::MAX as u64];
 
+/// Retry times: few, so that times asked for meet them.
+const RETRIES: [u64; 6] = [0, 0, 100, 101, 1_000, i64::MAX as u64];
+
 /// A partition value; half of them of a few only, so that values and bounds meet.
 pub fn value(dice: &mut Dice) -> String {
     if dice.one_in(2) {
         dice.pick(&["9", "10", "2024-01-01", "2024-01-31"]).to_string()
     } else {
         dice.pick(&VALUES).to_string()
+    }
+}
+
+/// A value around the ends of the range of numbers, or any.
+pub fn edge_value(dice: &mut Dice) -> String {
+    match dice.below(4) {
+        0 | 1 => dice.pick(&EDGES).to_string(),
+        2 => dice.pick(&EDGES[..6]).to_string(),
+        _ => value(dice),
     }
 }
 
@@ -100,6 +138,8 @@ pub fn facts(dice: &mut Dice, path: &str, columns: &[String]) -> FileFacts {
         time: dice.pick_number(&NUMBERS),
         records: if dice.one_in(2) { Some(dice.pick_number(&NUMBERS)) } else { None },
         values,
+        skips: 0,
+        retry: 0,
     }
 }
 
@@ -161,6 +201,37 @@ pub fn remove(dice: &mut Dice, path: &str) -> String {
     action(dice, "remove", fields)
 }
 
+/// A skip count and a retry time.
+pub fn skip_numbers(dice: &mut Dice) -> (u64, u64) {
+    (dice.pick_number(&[0, 1, 1, 2, 7, 2_147_483_647]), dice.pick_number(&RETRIES))
+}
+
+/// The fields of a mergeskip; what need not be written is written now and then.
+pub fn merge_skip_fields(dice: &mut Dice, path: &str, skips: u64, retry: u64) -> Members {
+    let mut fields = vec![("path".to_string(), quoted(dice, path))];
+    if skips != 1 || dice.one_in(2) {
+        fields.push(member("skipCount", skips));
+    }
+    match (retry, dice.below(3)) {
+        (0, 0) => (),
+        (0, 1) => fields.push(member("retryAfter", "null")),
+        _ => fields.push(member("retryAfter", retry)),
+    }
+    if dice.one_in(6) {
+        let unknown = dice.pick(&["reason", "skipTimestamp", "operation", "size", "partitionValues", "skipcount"]);
+        for _ in 0..1 + dice.below(2) {
+            let value = any_value(dice);
+            fields.push(member(unknown, value));
+        }
+    }
+    fields
+}
+
+pub fn merge_skip(dice: &mut Dice, path: &str, skips: u64, retry: u64) -> String {
+    let fields = merge_skip_fields(dice, path, skips, retry);
+    action(dice, "mergeskip", fields)
+}
+
 pub fn protocol_fields(dice: &mut Dice, facts: &ProtocolFacts) -> Members {
     let mut fields = vec![member("minReaderVersion", facts.reader), member("minWriterVersion", facts.writer)];
     for (name, features) in [("readerFeatures", &facts.reader_features), ("writerFeatures", &facts.writer_features)] {
@@ -208,7 +279,7 @@ pub fn protocol_facts(dice: &mut Dice, edges: bool) -> ProtocolFacts {
 
 /// A line without effect.
 pub fn other(dice: &mut Dice) -> String {
-    let key = dice.pick(&["mergeskip", "skip", "txn", "", "Add", "commitInfo"]);
+    let key = dice.pick(&["mergeSkip", "skip", "txn", "", "Add", "commitInfo"]);
     let value = any_value(dice);
     object(dice, &[member(key, value)])
 }

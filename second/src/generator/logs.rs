@@ -107,7 +107,7 @@ impl Log {
                 continue;
             }
             let path = dice.pick(&lines::PATHS[..]);
-            lines.push(match dice.below(19) {
+            lines.push(match dice.below(22) {
                 0..=11 => {
                     let facts = lines::facts(dice, path, &state.columns());
                     let line = lines::add(dice, &facts);
@@ -122,12 +122,68 @@ impl Log {
                     state.protocol = lines::protocol_facts(dice, false);
                     lines::protocol(dice, &state.protocol)
                 }
+                18..=20 => {
+                    let path = state.some_path(dice, path);
+                    let (skips, retry) = lines::skip_numbers(dice);
+                    state.skip(&path, skips, retry);
+                    lines::merge_skip(dice, &path, skips, retry)
+                }
                 _ => lines::other(dice),
             });
         }
         let body = join(dice, &lines);
         self.put(dice, version_name(self.states.len() as u64), body);
         self.states.push(state);
+    }
+
+    /// A version more: some files under the columns in force, and mergeskips of most of those that are live.
+    pub fn skip_many(&mut self, dice: &mut Dice) {
+        let mut state = self.states[self.states.len() - 1].clone();
+        let mut lines = Vec::new();
+        for path in lines::PATHS.iter().take(dice.below(5)) {
+            let facts = lines::facts(dice, path, &state.columns());
+            lines.push(lines::add(dice, &facts));
+            state.live.insert(path.to_string(), facts);
+        }
+        let mut paths: Vec<String> = state.live.keys().cloned().collect();
+        dice.shuffle(&mut paths);
+        paths.truncate(paths.len() - dice.below(paths.len() / 3 + 1));
+        for path in &paths {
+            let (skips, retry) = lines::skip_numbers(dice);
+            lines.push(lines::merge_skip(dice, path, skips, retry));
+            state.skip(path, skips, retry);
+        }
+        if lines.is_empty() {
+            lines.push(lines::other(dice));
+        }
+        let body = join(dice, &lines);
+        self.put(dice, version_name(self.states.len() as u64), body);
+        self.states.push(state);
+    }
+
+    /// One or two versions more: files with values around the ends of the range of numbers, of which some
+    /// go or come anew.
+    pub fn range_far(&mut self, dice: &mut Dice) {
+        for _ in 0..1 + dice.below(2) {
+            let mut state = self.states[self.states.len() - 1].clone();
+            let mut lines = Vec::new();
+            for path in lines::PATHS.iter().take(1 + dice.below(4)) {
+                if dice.one_in(3) {
+                    state.live.remove(*path);
+                    lines.push(lines::remove(dice, path));
+                    continue;
+                }
+                let mut facts = lines::facts(dice, path, &state.columns());
+                for (_, value) in facts.values.iter_mut().filter(|(_, value)| value.is_some()) {
+                    *value = Some(lines::edge_value(dice));
+                }
+                lines.push(lines::add(dice, &facts));
+                state.live.insert(path.to_string(), facts);
+            }
+            let body = join(dice, &lines);
+            self.put(dice, version_name(self.states.len() as u64), body);
+            self.states.push(state);
+        }
     }
 
     fn know_columns(&mut self, state: &Model) {

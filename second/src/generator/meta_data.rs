@@ -4,6 +4,9 @@ use super::dice::Dice;
 use super::lines::{self, COLUMNS};
 use super::writing::{quoted, strings};
 
+/// The most partition columns of a table.
+const MOST_COLUMNS: usize = 16;
+
 /// The facts of one metaData.
 #[derive(Clone, Debug)]
 pub struct MetaFacts {
@@ -29,6 +32,9 @@ impl MetaFacts {
             3 if count >= 1 => {
                 self.columns.remove(dice.below(count));
             }
+            6 | 7 if count == MOST_COLUMNS => {
+                self.columns.remove(dice.below(count));
+            }
             4 | 5 if count >= 1 => self.columns[dice.below(count)] = self.new_column(dice),
             _ => self.columns.insert(dice.below(count + 1), self.new_column(dice)),
         }
@@ -38,7 +44,8 @@ impl MetaFacts {
         let is_new = |name: &&str| !self.columns.iter().any(|column| column == name);
         let new: Vec<&str> = COLUMNS.into_iter().filter(is_new).collect();
         if new.is_empty() {
-            return format!("c{}", self.columns.len());
+            let mut numbered = (0..).map(|number| format!("c{number}"));
+            return numbered.find(|name| !self.columns.contains(name)).unwrap_or_default();
         }
         dice.pick(&new).to_string()
     }

@@ -4,6 +4,7 @@
 mod bundles;
 mod cleanings;
 mod dice;
+mod dues;
 mod foreign;
 mod lines;
 mod logs;
@@ -25,7 +26,7 @@ use dice::Dice;
 type Kind = fn(&mut Dice) -> Request;
 
 /// The kinds of requests, and how often each is made among the others.
-const KINDS: [(usize, Kind); 40] = [
+const KINDS: &[(usize, Kind)] = &[
     (1000, readings::plain),
     (2000, readings::twisted),
     (1600, readings::odd_line),
@@ -35,6 +36,8 @@ const KINDS: [(usize, Kind); 40] = [
     (900, readings::queried),
     (700, readings::renamed),
     (900, readings::foreign),
+    (600, readings::skipped),
+    (800, readings::ranged),
     (300, readings::damaged_bundle),
     (150, readings::odd_rooms),
     (2, readings::most_entries),
@@ -45,6 +48,13 @@ const KINDS: [(usize, Kind); 40] = [
     (3, readings::too_many_live_at_version),
     (3, readings::too_many_live_at_latest),
     (4, readings::foreign_when_full),
+    (600, dues::skipped),
+    (500, dues::any),
+    (60, dues::gate),
+    (80, dues::names),
+    (60, dues::odd_rooms),
+    (3, dues::all_live),
+    (3, dues::too_many_live),
     (900, states::bounded),
     (60, states::many),
     (600, states::odd),
@@ -53,12 +63,14 @@ const KINDS: [(usize, Kind); 40] = [
     (500, cleanings::disagreeing),
     (400, cleanings::renamed),
     (400, cleanings::foreign),
+    (600, cleanings::skipped),
     (700, cleanings::twisted),
     (300, cleanings::gate),
     (250, cleanings::nothing_to_name),
     (200, cleanings::marker),
     (300, cleanings::ages),
     (100, cleanings::damaged_bundle),
+    (80, cleanings::names),
     (80, cleanings::odd_rooms),
     (3, cleanings::full),
     (3, cleanings::too_many_live),
@@ -76,7 +88,7 @@ pub fn make(seed: u64, number: u64) -> Request {
     }
     let all: usize = KINDS.iter().map(|(weight, _)| weight).sum();
     let mut drawn = dice.below(all);
-    for (weight, kind) in KINDS {
+    for &(weight, kind) in KINDS {
         if drawn < weight {
             return kind(&mut dice);
         }
@@ -120,13 +132,35 @@ mod tests {
         }
     }
 
+    /// Values out of range are often refused, and often stand where they are not.
+    #[test]
+    fn values_out_of_range_are_met_and_not_met() {
+        let counts = reached(readings::ranged, 1_000);
+        assert!(counts["18"] > 150 && counts["0"] > 300 && counts["10"] > 5 && counts["11"] > 50, "{counts:?}");
+    }
+
+    /// Mergeskip lines are often in force, often malformed, and checkpoints often have them and often not.
+    #[test]
+    fn skips_are_met_and_not_met() {
+        let counts = reached(cleanings::skipped, 1_000);
+        assert!(counts["0"] > 300 && counts["13"] > 100, "{counts:?}");
+        let counts = reached(dues::skipped, 1_000);
+        assert!(counts["0"] > 500 && counts["6"] > 50, "{counts:?}");
+        let mut due = 0;
+        for number in 0..1_000 {
+            let line = crate::probe::answer(&dues::skipped(&mut Dice::new(15, number))).line;
+            due += usize::from(line.starts_with("0 ") && line.split(' ').nth(4) != Some("0"));
+        }
+        assert!((200..800).contains(&due), "{due}");
+    }
+
     /// Logs within the rules have no foreign add.
     #[test]
     fn logs_within_the_rules_have_no_foreign_add() {
         let mut dice = Dice::new(22, 0);
         for number in 0..200 {
             let log = logs::Log::grow_renamed(&mut dice, 4, 3);
-            let request = Request::new('r', &[4, 4_096], &[b"[]", &log.bundle()]);
+            let request = Request::new('r', &[4, readings::TABLE], &[b"[]", &log.bundle()]);
             assert_eq!(crate::probe::answer(&request).reached, "0", "{number}");
         }
     }

@@ -38,15 +38,16 @@ impl Model {
     pub fn checkpoint_lines(&self, dice: &mut Dice) -> Vec<String> {
         let mut lines = Vec::new();
         if !self.has_plain_protocol() || dice.one_in(2) {
-            lines.push(lines::protocol(dice, &self.protocol));
+            lines.push((None, lines::protocol(dice, &self.protocol)));
         }
         for facts in self.live.values() {
-            lines.push(lines::add(dice, facts));
+            lines.push((Some(facts), lines::add(dice, facts)));
         }
         if (lines.is_empty() && self.meta_data.is_none()) || dice.one_in(6) {
-            lines.push(lines::other(dice));
+            lines.push((None, lines::other(dice)));
         }
         dice.shuffle(&mut lines);
+        let mut lines = with_skips(dice, lines);
         if dice.one_in(6) {
             let passing = lines::facts(dice, "passing", &[]);
             lines.splice(0..0, [lines::add(dice, &passing), lines::remove(dice, "passing")]);
@@ -55,6 +56,29 @@ impl Model {
             put_meta_data(dice, meta_data, &mut lines);
         }
         lines
+    }
+
+    /// One of the live paths, or seldom, or where there is none, this one.
+    pub fn some_path(&self, dice: &mut Dice, otherwise: &str) -> String {
+        if self.live.is_empty() || dice.one_in(5) {
+            return otherwise.to_string();
+        }
+        self.live.keys().nth(dice.below(self.live.len())).cloned().unwrap_or_default()
+    }
+
+    /// A mergeskip line for this path.
+    pub fn skip(&mut self, path: &str, skips: u64, retry: u64) {
+        if let Some(facts) = self.live.get_mut(path) {
+            (facts.skips, facts.retry) = (skips, retry);
+        }
+    }
+
+    /// Another skip count or retry time of a live file, or neither.
+    pub fn falsify_skip(&mut self, dice: &mut Dice) {
+        let path = self.some_path(dice, "a");
+        if let Some(facts) = self.live.get_mut(&path) {
+            falsify_skip(dice, facts);
+        }
     }
 
     /// Changes exactly one fact, of a kind taken by chance.
@@ -96,6 +120,39 @@ impl Model {
     }
 }
 
+/// The lines with the mergeskip line of each file that has one behind its add; now and then another before
+/// it, which it overwrites, or before the add, which clears it.
+fn with_skips(dice: &mut Dice, lines: Vec<(Option<&FileFacts>, String)>) -> Vec<String> {
+    let mut written: Vec<String> = lines.iter().map(|(_, line)| line.clone()).collect();
+    for (facts, line) in &lines {
+        let facts = match facts {
+            Some(facts) => facts,
+            None => continue,
+        };
+        let place = written.iter().position(|other| other == line).unwrap_or(0);
+        let mut behind = Vec::new();
+        if dice.one_in(10) {
+            let (skips, retry) = lines::skip_numbers(dice);
+            behind.push(lines::merge_skip(dice, &facts.path, skips, retry));
+        }
+        if (facts.skips, facts.retry) != (0, 0) || !behind.is_empty() || dice.one_in(12) {
+            behind.push(lines::merge_skip(dice, &facts.path, facts.skips, facts.retry));
+        }
+        let mut from = place + 1;
+        for line in behind {
+            from += dice.below(written.len() - from + 1);
+            written.insert(from, line);
+            from += 1;
+        }
+        if dice.one_in(10) {
+            let (skips, retry) = lines::skip_numbers(dice);
+            let line = lines::merge_skip(dice, &facts.path, skips, retry);
+            written.insert(dice.below(place + 1), line);
+        }
+    }
+    written
+}
+
 /// Puts the metaData line among the others; now and then another or the same before it.
 fn put_meta_data(dice: &mut Dice, meta_data: &MetaFacts, lines: &mut Vec<String>) {
     let place = dice.below(lines.len() + 1);
@@ -117,15 +174,26 @@ fn change_features(features: &mut Vec<String>, name: &str) {
     }
 }
 
+/// Changes one or both of the numbers that a mergeskip line sets.
+fn falsify_skip(dice: &mut Dice, facts: &mut FileFacts) {
+    match dice.below(4) {
+        0 => facts.skips ^= 1,
+        1 => facts.retry ^= 1,
+        2 if (facts.skips, facts.retry) != (0, 0) => (facts.skips, facts.retry) = (0, 0),
+        _ => (facts.skips, facts.retry) = (facts.skips ^ 1, 100),
+    }
+}
+
 /// Changes one fact of a file; false if the file is to go altogether.
 fn falsify_file(dice: &mut Dice, facts: &mut FileFacts) -> bool {
-    match dice.below(9) {
+    match dice.below(12) {
         0 => return false,
         1 => facts.size ^= 1,
         2 => facts.time ^= 1,
         3 => facts.records = if facts.records.is_some() { None } else { Some(0) },
         4 => facts.records = Some(facts.records.unwrap_or(0) ^ 1),
         5 => facts.path.push('\''),
+        9..=11 => falsify_skip(dice, facts),
         6 => facts.values.push(("beside".to_string(), None)),
         _ => match facts.values.first_mut() {
             None => facts.values.push(("beside".to_string(), Some(String::new()))),

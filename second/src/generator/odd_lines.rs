@@ -25,11 +25,12 @@ fn string_of(dice: &mut Dice, length: usize) -> String {
 /// Any line: an action with one odd thing about it, or an odd form of the line itself. Adds have
 /// these columns, most of them.
 pub fn odd_line(dice: &mut Dice, columns: &[String]) -> Vec<u8> {
-    match dice.below(11) {
+    match dice.below(13) {
         0..=3 => odd_add(dice, columns),
         4 | 5 => odd_protocol(dice),
         6 | 7 => odd_meta_data(dice),
         8 => odd_remove(dice),
+        9 | 10 => odd_merge_skip(dice),
         _ => odd_form(dice, columns),
     }
 }
@@ -200,6 +201,40 @@ fn odd_remove(dice: &mut Dice) -> Vec<u8> {
     finish(dice, "remove", fields)
 }
 
+/// A mergeskip at the edge of a clause, for a path that may be live.
+pub fn odd_merge_skip(dice: &mut Dice) -> Vec<u8> {
+    let path = dice.pick(&lines::PATHS);
+    let (skips, retry) = lines::skip_numbers(dice);
+    let mut fields = lines::merge_skip_fields(dice, path, skips, retry);
+    match dice.below(8) {
+        0 => {
+            let length = [0, 1, 512, 513][dice.below(4)];
+            fields[0].1 = string_of(dice, length);
+        }
+        1 => fields[0].1 = "\"@@\"".to_string(),
+        2 | 3 => {
+            fields.retain(|(name, _)| name != "skipCount");
+            fields.push(member("skipCount", dice.pick(&NUMBERS)));
+        }
+        4 => {
+            fields.retain(|(name, _)| name != "retryAfter");
+            fields.push(member("retryAfter", dice.pick(&NUMBERS)));
+        }
+        5 => {
+            let name = dice.pick(&["skipCount", "retryAfter", "reason"]);
+            let (one, two) = (dice.pick(&["1", "0", "null"]), dice.pick(&["1", "null"]));
+            fields.retain(|(other, _)| other != name);
+            fields.extend([member(name, one), member(name, two)]);
+        }
+        6 => {
+            let value = any_value(dice);
+            return object(dice, &[member("mergeskip", value)]).into_bytes();
+        }
+        _ => odd_field(dice, &mut fields),
+    }
+    finish(dice, "mergeskip", fields)
+}
+
 fn finish(dice: &mut Dice, key: &str, fields: Members) -> Vec<u8> {
     let line = lines::action(dice, key, fields);
     let bytes = odd_string_bytes(dice);
@@ -231,7 +266,7 @@ fn odd_form(dice: &mut Dice, columns: &[String]) -> Vec<u8> {
             form.replace('#', &format!("\"add\":{fields}")).replace('@', "\"txn\":1")
         }
         8 => {
-            let key = dice.pick(&["add", "remove", "protocol", "metaData"]);
+            let key = dice.pick(&["add", "remove", "protocol", "metaData", "mergeskip"]);
             let value = any_value(dice);
             object(dice, &[member(key, value)])
         }

@@ -84,6 +84,34 @@ pub fn on_one(dice: &mut Dice, columns: &[String]) -> Vec<u8> {
     array(&[object(dice, &members)]).into_bytes()
 }
 
+/// A well-formed query of number conditions on some of the columns, and a text condition now and then; now
+/// and then with a value out of range, or on another column.
+pub fn on_numbers(dice: &mut Dice, columns: &[String]) -> Vec<u8> {
+    let mut columns = columns.to_vec();
+    dice.shuffle(&mut columns);
+    columns.truncate(1 + dice.below(3));
+    if dice.one_in(15) {
+        columns.push("no column".to_string());
+    }
+    let mut conditions = Vec::new();
+    for column in &columns {
+        let text = dice.one_in(5);
+        let value = match dice.below(30) {
+            0 => lines::edge_value(dice),
+            _ if text => lines::value(dice),
+            _ => dice.pick(&NUMBERS).to_string(),
+        };
+        let members = [
+            ("column".to_string(), quoted(dice, column)),
+            member("as", if text { "\"text\"" } else { "\"number\"" }),
+            member("op", dice.pick(&["\"eq\"", "\"lt\"", "\"le\"", "\"gt\"", "\"ge\"", "\"ge\""])),
+            ("value".to_string(), quoted(dice, &value)),
+        ];
+        conditions.push(object(dice, &members));
+    }
+    array(&conditions).into_bytes()
+}
+
 /// Mostly well formed on these columns; now and then on another column, or malformed.
 pub fn some(dice: &mut Dice, columns: &[String]) -> Vec<u8> {
     match dice.below(20) {

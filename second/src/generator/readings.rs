@@ -6,10 +6,12 @@ use super::foreign::foreign_add;
 use super::logs::{version_name, Log};
 use super::markers::put_odd_marker;
 use super::queries;
-use super::twists::{later_meta_data, odd_line_somewhere, odd_names, put_gate_edge, twist};
+use super::twists::{later_meta_data, odd_line_somewhere, odd_names, put_gate_edge, skip_somewhere, twist};
 use crate::request::Request;
 
-const TABLE: u64 = 4_096;
+/// The least room of a reading table, and the most that the probe lends.
+pub const TABLE: u64 = 6_144;
+pub const MOST_TABLE: u64 = 6_300;
 
 /// A room that is long enough, now and then longer.
 pub fn enough_room(dice: &mut Dice, least: u64, most: u64) -> u64 {
@@ -35,7 +37,7 @@ fn some_version(dice: &mut Dice, last: u64) -> u64 {
 }
 
 fn ask(dice: &mut Dice, last: u64, query: &[u8], bundle: &[u8]) -> Request {
-    let room = enough_room(dice, TABLE, 4_200);
+    let room = enough_room(dice, TABLE, MOST_TABLE);
     if dice.one_in(3) {
         Request::new('l', &[room], &[query, bundle])
     } else {
@@ -95,7 +97,7 @@ pub fn marker(dice: &mut Dice) -> Request {
     log.put_checkpoint(dice, version, &state);
     log.take_out(&version_name(version.max(1)));
     put_odd_marker(dice, &mut log, version);
-    let room = enough_room(dice, TABLE, 4_200);
+    let room = enough_room(dice, TABLE, MOST_TABLE);
     Request::new('l', &[room], &[b"[]", &log.bundle()])
 }
 
@@ -176,6 +178,38 @@ pub fn foreign(dice: &mut Dice) -> Request {
     ask(dice, log.last(), &query, &log.bundle())
 }
 
+/// Number conditions over values around the ends of the range, of files that are live, that went, or that
+/// come later; the gate may stand before them.
+pub fn ranged(dice: &mut Dice) -> Request {
+    let mut log = Log::grow_with_checkpoints(dice, 2);
+    log.range_far(dice);
+    match dice.below(12) {
+        0 => put_gate_edge(dice, &mut log),
+        1 => odd_line_somewhere(dice, &mut log),
+        2 | 3 => {
+            let (last, state) = (log.last(), log.states[log.states.len() - 1].clone());
+            log.put_checkpoint(dice, last, &state);
+        }
+        4 => later_meta_data(dice, &mut log),
+        _ => (),
+    }
+    let columns = log.some_columns(dice);
+    let query = queries::on_numbers(dice, &columns);
+    ask(dice, log.last(), &query, &log.bundle())
+}
+
+/// Mergeskip lines in many places, within the rules or odd, in checkpoints as well.
+pub fn skipped(dice: &mut Dice) -> Request {
+    let mut log = Log::grow_with_checkpoints(dice, 4);
+    if !dice.one_in(4) {
+        log.skip_many(dice);
+    }
+    for _ in 0..dice.below(4) {
+        skip_somewhere(dice, &mut log);
+    }
+    ask(dice, log.last(), b"[]", &log.bundle())
+}
+
 pub fn damaged_bundle(dice: &mut Dice) -> Request {
     let log = Log::grow_with_checkpoints(dice, 2);
     let bundle = bundles::damaged(dice, &log);
@@ -188,7 +222,7 @@ pub fn damaged_bundle(dice: &mut Dice) -> Request {
 pub fn odd_rooms(dice: &mut Dice) -> Request {
     let mut request = if dice.one_in(2) { twisted(dice) } else { queried(dice) };
     let last = request.numbers.len() - 1;
-    request.numbers[last] = odd_room(dice, TABLE, 4_200);
+    request.numbers[last] = odd_room(dice, TABLE, MOST_TABLE);
     request
 }
 

@@ -16,7 +16,7 @@ fn bound(dice: &mut Dice, members: &mut Members, name: &str) {
         0 => (),
         1 => members.push(member(name, "null")),
         _ => {
-            let value = lines::value(dice);
+            let value = if dice.one_in(4) { lines::edge_value(dice) } else { lines::value(dice) };
             members.push((name.to_string(), quoted(dice, &value)));
         }
     }

@@ -6,12 +6,12 @@ use super::lines;
 use super::logs::{checkpoint_name, version_name, Log};
 use super::markers::odd_marker;
 use super::meta_data::MetaFacts;
-use super::odd_lines::{odd_add, odd_line, odd_meta_data};
+use super::odd_lines::{odd_add, odd_line, odd_merge_skip, odd_meta_data};
 use crate::bundle::File;
 
 type Twist = fn(&mut Dice, &mut Log);
 
-const TWISTS: [Twist; 20] = [
+const TWISTS: [Twist; 22] = [
     gap,
     files_missing,
     odd_line_somewhere,
@@ -24,6 +24,8 @@ const TWISTS: [Twist; 20] = [
     later_meta_data,
     foreign_add,
     foreign_add,
+    skip_somewhere,
+    skip_somewhere,
     odd_marker,
     odd_marker,
     odd_version_zero,
@@ -156,6 +158,22 @@ pub fn later_meta_data(dice: &mut Dice, log: &mut Log) {
     }
 }
 
+/// A mergeskip line more in a file: within the rules, or odd.
+pub fn skip_somewhere(dice: &mut Dice, log: &mut Log) {
+    let path = log.states[dice.below(log.states.len())].some_path(dice, "none");
+    let line = if dice.one_in(4) {
+        odd_merge_skip(dice)
+    } else {
+        let (skips, retry) = lines::skip_numbers(dice);
+        lines::merge_skip(dice, &path, skips, retry).into_bytes()
+    };
+    if let Some(file) = some_file(dice, log) {
+        if file.name != version_name(0) || dice.one_in(3) {
+            insert_line(dice, &mut file.body, &line);
+        }
+    }
+}
+
 /// Version 0 on either side of its own rules.
 fn odd_version_zero(dice: &mut Dice, log: &mut Log) {
     let name = version_name(0);
@@ -165,7 +183,7 @@ fn odd_version_zero(dice: &mut Dice, log: &mut Log) {
         1 => lines::remove(dice, "a").into_bytes(),
         2 => b"{\"mergeskip\":null}".to_vec(),
         3 => b"{\"skip\":[]}".to_vec(),
-        4 => b"{\"merge\\u0073kip\":{}}".to_vec(),
+        4 => lines::merge_skip(dice, "a", 1, 0).into_bytes(),
         5 => MetaFacts::first(dice).line(dice).into_bytes(),
         6 => {
             let protocol = lines::protocol_facts(dice, false);

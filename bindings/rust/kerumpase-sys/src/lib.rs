@@ -1,4 +1,4 @@
-//! The seven functions and the structs of `kerumpase.h`, as C has them. What each answers stands in that header; the crate
+//! The eight functions and the structs of `kerumpase.h`, as C has them. What each answers stands in that header; the crate
 //! `kerumpase` has safe functions over slices. What a caller owes: every pointer is aligned and not null, also where the length
 //! is 0; at least that many elements are there; and a room shares no byte with another room or with a byte string.
 
@@ -10,12 +10,13 @@ pub const ENTRIES_MOST: usize = 1_024;
 pub const NAME_MOST: usize = 96;
 
 /// Minimum lengths of the rooms, in elements.
-pub const ROWS_ROOM: usize = 4_096;
+pub const ROWS_ROOM: usize = 6_144;
 pub const NAMES_ROOM: usize = 1_024;
 pub const KEPT_ROOM: usize = 256;
 
-/// Numbers in a row: the place and the length of the line that adds the file, its size, its modificationTime.
-pub const ROW: usize = 4;
+/// Numbers in a row: the place and the length of the line that adds the file, its size, its modificationTime; how often merging has skipped it,
+/// and from when on it may be tried again.
+pub const ROW: usize = 6;
 
 /// What `kerumpase_records::stated` says.
 pub const NO_ADD: u32 = 0;
@@ -56,6 +57,8 @@ pub struct Row {
     pub length: u64,
     pub size: u64,
     pub time: u64,
+    pub skip_count: u64,
+    pub retry_after: u64,
 }
 
 #[repr(C)]
@@ -95,6 +98,14 @@ extern "C" {
         bundle_length: usize,
         query: *const u8,
         query_length: usize,
+        rows: *mut u64,
+        rows_length: usize,
+    ) -> Listed;
+
+    pub fn kerumpase_read_due(
+        bundle: *const u8,
+        bundle_length: usize,
+        time: u64,
         rows: *mut u64,
         rows_length: usize,
     ) -> Listed;

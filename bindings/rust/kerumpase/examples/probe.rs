@@ -9,9 +9,10 @@ use kerumpase::{lent, Refusal};
 fn shape(letter: u8) -> Option<(&'static [u64], &'static [u64])> {
     const ANY: u64 = u64::MAX;
     match letter {
-        b'r' => Some((&[ANY, 4_200], &[5_000, 1_100_000])),
-        b'l' => Some((&[4_200], &[5_000, 1_100_000])),
-        b'c' => Some((&[ANY, ANY, 1_100, 4_200, 4_200], &[1_100_000])),
+        b'r' => Some((&[ANY, 6_300], &[5_000, 1_100_000])),
+        b'l' => Some((&[6_300], &[5_000, 1_100_000])),
+        b'q' => Some((&[ANY, 6_300], &[1_100_000])),
+        b'c' => Some((&[ANY, ANY, 1_100, 6_300, 6_300], &[1_100_000])),
         b'm' => Some((&[1_100], &[5_000, 1_100_000])),
         b'd' => Some((&[], &[70_000, 70_000])),
         b'p' | b'n' => Some((&[], &[70_000])),
@@ -96,6 +97,10 @@ fn answer(input: &mut &[u8]) -> Option<String> {
         b'l' => {
             let mut rows = room_64(n[0]);
             told(lent::read_latest(s[1], s[0], &mut rows), &rows)
+        }
+        b'q' => {
+            let mut rows = room_64(n[1]);
+            told(lent::read_due(s[0], n[0], &mut rows), &rows)
         }
         b'c' => {
             let (mut names, mut one, mut two) = (room_32(n[2]), room_64(n[3]), room_64(n[4]));

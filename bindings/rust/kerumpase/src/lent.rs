@@ -1,7 +1,9 @@
 //! The entries over lent rooms. A room that is shorter than `ROWS_ROOM`, `NAMES_ROOM` or `KEPT_ROOM` gives refusal 1 and stays as it is; after
 //! any other refusal its first numbers, up to that length, are 0. What is beyond never changes.
 
-use kerumpase_sys::{kerumpase_clean, kerumpase_keep, kerumpase_read_at, kerumpase_read_latest, Listed};
+use kerumpase_sys::{
+    kerumpase_clean, kerumpase_keep, kerumpase_read_at, kerumpase_read_due, kerumpase_read_latest, Listed,
+};
 pub use kerumpase_sys::{KEPT_ROOM, NAMES_ROOM, ROW, ROWS_ROOM};
 
 use crate::Refusal;
@@ -48,6 +50,12 @@ pub fn read_latest(bundle: &[u8], query: &[u8], rows: &mut [u64]) -> Result<Told
     told(unsafe {
         kerumpase_read_latest(bundle.as_ptr(), bundle.len(), query.as_ptr(), query.len(), rows.as_mut_ptr(), rows.len())
     })
+}
+
+/// The files of the latest version that are due for a second merge at a time, in milliseconds.
+#[inline]
+pub fn read_due(bundle: &[u8], time: u64, rows: &mut [u64]) -> Result<Told, Refusal> {
+    told(unsafe { kerumpase_read_due(bundle.as_ptr(), bundle.len(), time, rows.as_mut_ptr(), rows.len()) })
 }
 
 /// The entry numbers of the version files that may go, ascending, and how many there are. The two tables are lent for the work.

@@ -22,5 +22,5 @@ mod refusal;
 
 pub use lines::{path_of, records_of, Records};
 pub use manifests::{directory, keep};
-pub use reading::{clean, read_at, read_latest, File, Listing, Row};
+pub use reading::{clean, read_at, read_due, read_latest, File, Listing, Row};
 pub use refusal::{Reason, Refusal};

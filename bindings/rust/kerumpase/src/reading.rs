@@ -3,13 +3,16 @@
 use crate::lent::{self, Told, NAMES_ROOM, ROW, ROWS_ROOM};
 use crate::{path_of, records_of, Records, Refusal};
 
-/// A row of a listing: where the line that adds the file stands in the bundle, and what it states.
+/// A row of a listing: where the line that adds the file stands in the bundle, and what it states; then how often merging has skipped the file, and
+/// from when on it may be tried again, both 0 where no line says so.
 #[derive(Clone, Copy, Debug, PartialEq, Eq)]
 pub struct Row {
     pub place: usize,
     pub length: usize,
     pub size: u64,
     pub modification_time: u64,
+    pub skip_count: u64,
+    pub retry_after: u64,
 }
 
 /// The files of a table at a version.
@@ -30,6 +33,8 @@ pub struct File<'a> {
     pub size: u64,
     pub modification_time: u64,
     pub num_records: Option<u64>,
+    pub skip_count: u64,
+    pub retry_after: u64,
 }
 
 impl<'a> Listing<'a> {
@@ -44,17 +49,26 @@ impl<'a> Listing<'a> {
             Records::Number(number) => Some(number),
             Records::Missing | Records::NoAdd => None,
         };
-        File { path: path_of(line), size: row.size, modification_time: row.modification_time, num_records }
+        let &Row { size, modification_time, skip_count, retry_after, .. } = row;
+        File { path: path_of(line), size, modification_time, num_records, skip_count, retry_after }
     }
 }
 
 fn listing<'a>(bundle: &'a [u8], told: Told, room: &[u64]) -> Listing<'a> {
     let Told { version, rows, reader, writer, writable } = told;
-    let row = |n: &[u64]| Row { place: n[0] as usize, length: n[1] as usize, size: n[2], modification_time: n[3] };
+    let row = |n: &[u64]| Row {
+        place: n[0] as usize,
+        length: n[1] as usize,
+        size: n[2],
+        modification_time: n[3],
+        skip_count: n[4],
+        retry_after: n[5],
+    };
     Listing { version, reader, writer, writable, rows: room.chunks_exact(ROW).take(rows).map(row).collect(), bundle }
 }
 
-/// The files that a query (JSON; `[]` picks all) picks at a version, by the partition columns in force there.
+/// The files that a query (JSON; `[]` picks all) picks at a version, by the partition columns in force there. Where a condition asks for numbers and a
+/// value of any live file is one out of range, it is refused (`ValueOutOfRange`).
 pub fn read_at<'a>(bundle: &'a [u8], query: &[u8], version: u64) -> Result<Listing<'a>, Refusal> {
     let mut room = [0; ROWS_ROOM];
     lent::read_at(bundle, query, version, &mut room).map(|told| listing(bundle, told, &room))
@@ -66,9 +80,15 @@ pub fn read_latest<'a>(bundle: &'a [u8], query: &[u8]) -> Result<Listing<'a>, Re
     lent::read_latest(bundle, query, &mut room).map(|told| listing(bundle, told, &room))
 }
 
+/// The files of the latest version that are due for a second merge at a time (milliseconds): skipped at least once, and not to be tried later.
+pub fn read_due(bundle: &[u8], time: u64) -> Result<Listing<'_>, Refusal> {
+    let mut room = [0; ROWS_ROOM];
+    lent::read_due(bundle, time, &mut room).map(|told| listing(bundle, told, &room))
+}
+
 /// The entries of the version files that may go, ascending: those below the marker's checkpoint that were modified more than `retention` before
-/// `today`, both in milliseconds, if another start reaches the checkpoint and says the same: files, protocol, id and
-/// partition columns.
+/// `today`, both in milliseconds, if another start reaches the checkpoint and says the same: files and their skips, protocol, id and partition
+/// columns.
 pub fn clean(bundle: &[u8], today: u64, retention: u64) -> Result<Vec<usize>, Refusal> {
     let mut names = [0; NAMES_ROOM];
     let (mut one, mut two) = ([0; ROWS_ROOM], [0; ROWS_ROOM]);

@@ -2,8 +2,8 @@
 
 use std::fmt;
 
-/// Why an entry refused. Those from `ListRefused` to `OtherSchema` are not given yet: they are for entries that are to come. Later editions of
-/// the paper have more numbers; one that this crate does not know is `Other`.
+/// Why an entry refused. `ListRefused`, `OutputTooShort`, `ContainerMalformed` and `OtherSchema` are not given yet: they are for entries that are to
+/// come. Later editions of the paper have more numbers; one that this crate does not know is `Other`.
 #[non_exhaustive]
 #[derive(Clone, Copy, Debug, PartialEq, Eq, Hash)]
 pub enum Reason {
@@ -24,6 +24,7 @@ pub enum Reason {
     TooManyManifests,
     ListRefused,
     OutputTooShort,
+    /// A value of a live file is a number out of range, and a condition asks for it as a number.
     ValueOutOfRange,
     ContainerMalformed,
     OtherSchema,

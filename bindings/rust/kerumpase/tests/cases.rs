@@ -24,7 +24,7 @@ fn stored_cases_are_answered_as_expected() {
     letters.sort_unstable();
     letters.dedup();
     assert!(all >= 145, "only {all} cases");
-    assert!(b"cdlmnpr".iter().all(|letter| letters.contains(letter)), "a letter has no case");
+    assert!(b"cdlmnpqr".iter().all(|letter| letters.contains(letter)), "a letter has no case");
 }
 
 #[test]
@@ -44,7 +44,29 @@ fn the_paper_s_example_by_the_safe_functions() {
         (refusal.reason, refusal.to_string()),
         (kerumpase::Reason::NotKept, "refused 5 entry 0 line 0".to_string())
     );
+    assert_eq!(kerumpase::read_due(&bundle, u64::MAX).expect("answered").files().count(), 0);
     assert_eq!(kerumpase::clean(&bundle, u64::MAX, 0), Ok(vec![]));
     assert_eq!(kerumpase::read_at(b"", b"[]", 0).expect_err("no bundle").reason, kerumpase::Reason::BundleMalformed);
+    assert_eq!(kerumpase::read_due(b"", 0).expect_err("no bundle").reason, kerumpase::Reason::BundleMalformed);
     assert_eq!(kerumpase::keep(br#"{"manifests":[{"path":"a"},{"path":"b"}]}"#, b"[]"), Ok(vec![0, 1]));
+}
+
+#[test]
+fn a_skipped_file_is_due_from_its_time_on() {
+    use kerumpase::bundle::{self, File};
+    let one = br#"{"add":{"path":"a","size":3,"modificationTime":7,"dataChange":true,"partitionValues":{}}}
+{"add":{"path":"b","size":4,"modificationTime":8,"dataChange":true,"partitionValues":{}}}
+{"mergeskip":{"path":"b","skipCount":2,"retryAfter":100}}
+"#;
+    let zero = br#"{"metaData":{"id":"t","partitionColumns":[]}}"#;
+    let files = [("00000000000000000000.json", &zero[..]), ("00000000000000000001.json", &one[..])];
+    let bundle =
+        bundle::write(&files.map(|(name, body)| File { name: name.as_bytes(), time: 0, body })).expect("it fits");
+    let noted = |rows: &[kerumpase::Row]| rows.iter().map(|row| (row.skip_count, row.retry_after)).collect::<Vec<_>>();
+    assert_eq!(noted(&kerumpase::read_latest(&bundle, b"[]").expect("answered").rows), [(0, 0), (2, 100)]);
+    assert_eq!(noted(&kerumpase::read_due(&bundle, 99).expect("answered").rows), []);
+    let due = kerumpase::read_due(&bundle, 100).expect("answered");
+    assert_eq!((due.version, noted(&due.rows)), (1, vec![(2, 100)]));
+    let file = due.files().next().expect("one is due");
+    assert_eq!((file.path, file.size, file.skip_count, file.retry_after), (&b"b"[..], 4, 2, 100));
 }

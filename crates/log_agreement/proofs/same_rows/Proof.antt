@@ -4,9 +4,10 @@ use native.Mathlib.Omega.{arith}
 use mathlib.Core.Path.{refl, sym, ap₂, _∙_, subst}
 use Prim.Native.Nat.{_-_, _*_, _≤_}
 use lib.ListN.{length}
-use Rattle.rules.specs.Agreement.{agreeFacts}
+use Rattle.rules.specs.Agreement.{agreeRow}
+use Rattle.row_table.specs.Table.{wide}
 use Rattle.row_table.specs.declared.Cells.{Cells}
-use Rattle.log_replay.specs.Views.{factsAt, Stands}
+use Rattle.log_replay.specs.Views.{rowOf, Stands}
 use Rattle.log_agreement.proofs.Views.{Going, going-end, going-same, going-differs, row-stands}
 use Rattle.log_agreement.proofs.same_rows.Statement.{statement}
 use Rattle.log_agreement.proofs.same_rows.Tie as tie
@@ -24,16 +25,16 @@ row-at-requires : tie.Need-row-at-requires Inv-loop μ-loop
 row-at-requires c κs =
     let b5 = c .before .before .before .before .before in
     let args = b5 .args in
-    let room : (args .n) * 4 ≤ length (args .ta .now) = b5 .pre .0 .room in omega (arith, c .loop-test .taken)
+    let room : (args .n) * wide ≤ length (args .ta .now) = b5 .pre .0 .room in omega (arith, c .loop-test .taken)
 
 row-at-requires-2 : tie.Need-row-at-requires-2 Inv-loop μ-loop
 row-at-requires-2 c κs =
     let b6 = c .before .before .before .before .before .before in
     let args = b6 .args in
-    let room : (args .n) * 4 ≤ length (args .tb .now) = b6 .pre .1 .room in omega (arith, c .before .loop-test .taken)
+    let room : (args .n) * wide ≤ length (args .tb .now) = b6 .pre .1 .room in omega (arith, c .before .loop-test .taken)
 
-same-facts-requires : tie.Need-same-facts-requires Inv-loop μ-loop
-same-facts-requires c κs =
+same-files-requires : tie.Need-same-files-requires Inv-loop μ-loop
+same-files-requires c κs =
     let b7 = c .before .before .before .before .before .before .before in
     let loop-test = c .before .before .loop-test in
     let loop = c .before .before .before .loop in
@@ -64,8 +65,8 @@ loop-again c =
     let src = args .src .now in (
       omega (arith, loop-test .taken),
       going-same src (args .n) (args .ta .now) (args .tb .now) (loop .k) (loop .inv .1) (loop-test .taken)
-          (sym (ap₂ (λ (p q : Cells). agreeFacts (factsAt src p) (factsAt src q)) (c .before .before .before .row-at .ensures (args .n) (loop-test .taken))
-          (c .before .before .row-at2 .ensures (args .n) (loop-test .taken))) ∙ sym (c .before .same-facts .ensures) ∙ c .if1 .taken),
+          (sym (ap₂ (λ (p q : Cells). agreeRow (rowOf src p) (rowOf src q)) (c .before .before .before .row-at .ensures (args .n) (loop-test .taken))
+          (c .before .before .row-at2 .ensures (args .n) (loop-test .taken))) ∙ sym (c .before .same-files .ensures) ∙ c .if1 .taken),
     )
 
 returns : tie.Need-returns Inv-loop μ-loop
@@ -75,8 +76,8 @@ returns c =
     let args = c .before .before .before .before .before .before .before .before .before .args in
     let src = args .src .now in
     sym (going-differs src (args .n) (args .ta .now) (args .tb .now) (loop .k) (loop .inv .1) (loop-test .taken)
-    (sym (ap₂ (λ (p q : Cells). agreeFacts (factsAt src p) (factsAt src q)) (c .before .before .before .row-at .ensures (args .n) (loop-test .taken))
-    (c .before .before .row-at2 .ensures (args .n) (loop-test .taken))) ∙ sym (c .before .same-facts .ensures) ∙ c .if1 .left))
+    (sym (ap₂ (λ (p q : Cells). agreeRow (rowOf src p) (rowOf src q)) (c .before .before .before .row-at .ensures (args .n) (loop-test .taken))
+    (c .before .before .row-at2 .ensures (args .n) (loop-test .taken))) ∙ sym (c .before .same-files .ensures) ∙ c .if1 .left))
 
 returns-2 : tie.Need-returns-2 Inv-loop μ-loop
 returns-2 c =
@@ -92,7 +93,7 @@ same-rows-spec =
     loop-holds
     row-at-requires
     row-at-requires-2
-    same-facts-requires
+    same-files-requires
     add-k
     loop-less
     loop-again

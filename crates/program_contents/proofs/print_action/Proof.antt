@@ -1,4 +1,4 @@
--- The path of a remove is well spelled.
+-- The paths of a remove and of a mergeskip are well spelled.
 use mathlib.Core.Path.{subst}
 use Rattle.line_actions.specs.Line.{ActionIs}
 use borrow.Author.Needs.{needs}
@@ -35,6 +35,12 @@ slice-aggregate-word c = search needs
 word-requires : tie.Need-word-requires
 word-requires c κs = search needs
 
+enum-known-k : tie.Need-enum-known-k
+enum-known-k c = search needs
+
+print-skipped-requires : tie.Need-print-skipped-requires
+print-skipped-requires c κs = (subst (ActionIs _ _) (c .before .k .given .1) (c .before .before .before .classify .ensures)) .spelled
+
 enum-told-2 : tie.Need-enum-told-2
 enum-told-2 c = search needs
 
@@ -52,15 +58,6 @@ slice-aggregate-word-3 c = search needs
 
 word-requires-3 : tie.Need-word-requires-3
 word-requires-3 c κs = search needs
-
-enum-told-4 : tie.Need-enum-told-4
-enum-told-4 c = search needs
-
-slice-aggregate-word-4 : tie.Need-slice-aggregate-word-4
-slice-aggregate-word-4 c = search needs
-
-word-requires-4 : tie.Need-word-requires-4
-word-requires-4 c κs = search needs
 
 returns : tie.Need-returns
 returns c = search needs
@@ -97,15 +94,14 @@ print-action-spec =
     enum-told
     slice-aggregate-word
     word-requires
+    enum-known-k
+    print-skipped-requires
     enum-told-2
     slice-aggregate-word-2
     word-requires-2
     enum-told-3
     slice-aggregate-word-3
     word-requires-3
-    enum-told-4
-    slice-aggregate-word-4
-    word-requires-4
     returns
     returns-2
     returns-3

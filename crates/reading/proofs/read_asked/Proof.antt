@@ -1,6 +1,7 @@
 -- `read_asked`: by the room, the query and the bundle, in the paper's order.
 use mathlib.Core.Path.{ap, subst}
 use borrow.Author.Tests.{not-true, not-false}
+use Rattle.rules.specs.Live.{mostLive}
 use Rattle.refusals.specs.Numbered.{numbered}
 use Rattle.rules.specs.Bytes.{isSome}
 use Rattle.file_bundle.specs.Answers.{OpenedAs}
@@ -18,7 +19,7 @@ read-requires : tie.Need-read-requires
 read-requires c κs = search needs
 
 refuse-requires : tie.Need-refuse-requires
-unfolding numbered
+unfolding numbered mostLive
 refuse-requires c κs = (c .before .before .before .before .if1 .left, λ n. omega arith)
 
 same-length : tie.Need-same-length
@@ -44,7 +45,7 @@ enum-told-2 : tie.Need-enum-told-2
 enum-told-2 c = search needs
 
 refuse-requires-2 : tie.Need-refuse-requires-2
-unfolding numbered
+unfolding numbered mostLive
 refuse-requires-2 c κs = (c .before .before .before .before .before .before .before .if1 .left, λ n. omega arith)
 
 same-length-2 : tie.Need-same-length-2
@@ -64,7 +65,7 @@ returns-3 c =
     (c .before .before .refuse2 .ensures)
 
 list-asked-requires : tie.Need-list-asked-requires
-unfolding isSome
+unfolding isSome mostLive
 list-asked-requires c κs =
     let read = c .before .before .before .before .before .before .read in
     let args = c .before .before .before .before .before .before .before .before .before .before .before .args in

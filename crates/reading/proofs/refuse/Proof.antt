@@ -1,11 +1,14 @@
--- `refuse`: zeros up to 4,096 are what a refusal leaves.
+-- `refuse`: zeros up to 6,144 are what a refusal leaves.
+use native.Mathlib.Omega.{arith}
+use Rattle.rules.specs.Live.{mostLive}
 use Rattle.reading.proofs.Rooms.{answer-refused}
 use borrow.Author.Needs.{needs}
 use Rattle.reading.proofs.refuse.Statement.{statement}
 use Rattle.reading.proofs.refuse.Tie as tie
 
 zero-requires : tie.Need-zero-requires
-zero-requires c κs = search needs
+unfolding mostLive
+zero-requires c κs = (omega arith, c .before .before .pre .0)
 
 same-length : tie.Need-same-length
 same-length c = search needs

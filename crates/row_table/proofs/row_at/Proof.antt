@@ -45,10 +45,28 @@ mul-t16 c = search needs
 shared-slice-read-t18 : tie.Need-shared-slice-read-t18
 shared-slice-read-t18 c = search needs
 
+add-t19 : tie.Need-add-t19
+add-t19 c = search needs
+
+mul-t20 : tie.Need-mul-t20
+mul-t20 c = search needs
+
+shared-slice-read-t22 : tie.Need-shared-slice-read-t22
+shared-slice-read-t22 c = search needs
+
+add-t23 : tie.Need-add-t23
+add-t23 c = search needs
+
+mul-t24 : tie.Need-mul-t24
+mul-t24 c = search needs
+
+shared-slice-read-t26 : tie.Need-shared-slice-read-t26
+shared-slice-read-t26 c = search needs
+
 returns : tie.Need-returns
 unfolding row
 returns c n h =
-    let s = c .before .before .before .before in
+    let s = c .before .before .before .before .before .before in
     rw (getD-rowsOf wide row n (s .args .k) (row []) (now (s .args .t)) h) (simp (getD-drop, add-zero))
 
 pub row-at-spec : {M : Type 1} → statement M
@@ -67,4 +85,10 @@ row-at-spec =
     add-t15
     mul-t16
     shared-slice-read-t18
+    add-t19
+    mul-t20
+    shared-slice-read-t22
+    add-t23
+    mul-t24
+    shared-slice-read-t26
     returns)

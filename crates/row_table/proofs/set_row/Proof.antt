@@ -1,4 +1,4 @@
--- `set_row` changes one row: its four stores are the row's numbers written where it lies.
+-- `set_row` changes one row: its six stores are the row's numbers written where it lies.
 use Prim.Native.Nat.{_*_}
 use mathlib.Core.Path.{sym, subst}
 use mathlib.Core.List.{[], _∷_}
@@ -50,6 +50,24 @@ mul-t-4 c = search needs
 slice-write-t-4 : tie.Need-slice-write-t-4
 slice-write-t-4 c = simp length-set (omega arith)
 
+add-t-4 : tie.Need-add-t-4
+add-t-4 c = search needs
+
+mul-t-5 : tie.Need-mul-t-5
+mul-t-5 c = search needs
+
+slice-write-t-5 : tie.Need-slice-write-t-5
+slice-write-t-5 c = simp length-set (omega arith)
+
+add-t-5 : tie.Need-add-t-5
+add-t-5 c = search needs
+
+mul-t-6 : tie.Need-mul-t-6
+mul-t-6 c = search needs
+
+slice-write-t-6 : tie.Need-slice-write-t-6
+slice-write-t-6 c = simp length-set (omega arith)
+
 same-length : tie.Need-same-length
 same-length c = search needs
 
@@ -60,7 +78,7 @@ returns c n h l =
     let t = now (a .t) in
     let r = a .c in
     subst (Changed n (set (rows n t) (a .k) r) n t)
-    (sym (putAt-stores (a .k * wide) (r .head) (r .len ∷ r .size ∷ r .time ∷ []) t (omega arith)))
+    (sym (putAt-stores (a .k * wide) (r .head) (r .len ∷ r .size ∷ r .time ∷ r .skips ∷ r .retry ∷ []) t (omega arith)))
     (changed-row n (a .k) r t h l)
 
 pub set-row-spec : {M : Type 1} → statement M
@@ -79,5 +97,11 @@ set-row-spec =
     add-t-3
     mul-t-4
     slice-write-t-4
+    add-t-4
+    mul-t-5
+    slice-write-t-5
+    add-t-5
+    mul-t-6
+    slice-write-t-6
     same-length
     returns)

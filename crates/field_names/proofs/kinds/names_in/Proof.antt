@@ -42,6 +42,9 @@ enum-told-9 c = search needs
 enum-told-10 : tie.Need-enum-told-10
 enum-told-10 c = search needs
 
+enum-told-11 : tie.Need-enum-told-11
+enum-told-11 c = search needs
+
 returns : tie.Need-returns
 unfolding namesOf
 returns c = told (c .enum-told .given .1) refl
@@ -82,6 +85,10 @@ returns-10 : tie.Need-returns-10
 unfolding namesOf
 returns-10 c = told (c .enum-told10 .given .1) refl
 
+returns-11 : tie.Need-returns-11
+unfolding namesOf
+returns-11 c = told (c .enum-told11 .given .1) refl
+
 pub names-in-spec : {M : Type 1} → statement M
 names-in-spec =
     tie.close
@@ -96,6 +103,7 @@ names-in-spec =
     enum-told-8
     enum-told-9
     enum-told-10
+    enum-told-11
     returns
     returns-2
     returns-3
@@ -105,4 +113,5 @@ names-in-spec =
     returns-7
     returns-8
     returns-9
-    returns-10)
+    returns-10
+    returns-11)

@@ -45,29 +45,35 @@ which-meta-data-requires c κs = search needs
 enum-told-6 : tie.Need-enum-told-6
 enum-told-6 c = search needs
 
-which-marker-requires : tie.Need-which-marker-requires
-which-marker-requires c κs = search needs
+which-mergeskip-requires : tie.Need-which-mergeskip-requires
+which-mergeskip-requires c κs = search needs
 
 enum-told-7 : tie.Need-enum-told-7
 enum-told-7 c = search needs
 
-which-state-requires : tie.Need-which-state-requires
-which-state-requires c κs = search needs
+which-marker-requires : tie.Need-which-marker-requires
+which-marker-requires c κs = search needs
 
 enum-told-8 : tie.Need-enum-told-8
 enum-told-8 c = search needs
 
-which-manifest-requires : tie.Need-which-manifest-requires
-which-manifest-requires c κs = search needs
+which-state-requires : tie.Need-which-state-requires
+which-state-requires c κs = search needs
 
 enum-told-9 : tie.Need-enum-told-9
 enum-told-9 c = search needs
 
-which-bounds-requires : tie.Need-which-bounds-requires
-which-bounds-requires c κs = search needs
+which-manifest-requires : tie.Need-which-manifest-requires
+which-manifest-requires c κs = search needs
 
 enum-told-10 : tie.Need-enum-told-10
 enum-told-10 c = search needs
+
+which-bounds-requires : tie.Need-which-bounds-requires
+which-bounds-requires c κs = search needs
+
+enum-told-11 : tie.Need-enum-told-11
+enum-told-11 c = search needs
 
 which-condition-requires : tie.Need-which-condition-requires
 which-condition-requires c κs = search needs
@@ -88,19 +94,22 @@ returns-5 : tie.Need-returns-5
 returns-5 c = told (c .before .before .before .before .args .name .now) (c .before .enum-told5 .given .1) (c .which-meta-data .ensures)
 
 returns-6 : tie.Need-returns-6
-returns-6 c = told (c .before .before .before .before .args .name .now) (c .before .enum-told6 .given .1) (c .which-marker .ensures)
+returns-6 c = told (c .before .before .before .before .args .name .now) (c .before .enum-told6 .given .1) (c .which-mergeskip .ensures)
 
 returns-7 : tie.Need-returns-7
-returns-7 c = told (c .before .before .before .before .args .name .now) (c .before .enum-told7 .given .1) (c .which-state .ensures)
+returns-7 c = told (c .before .before .before .before .args .name .now) (c .before .enum-told7 .given .1) (c .which-marker .ensures)
 
 returns-8 : tie.Need-returns-8
-returns-8 c = told (c .before .before .before .before .args .name .now) (c .before .enum-told8 .given .1) (c .which-manifest .ensures)
+returns-8 c = told (c .before .before .before .before .args .name .now) (c .before .enum-told8 .given .1) (c .which-state .ensures)
 
 returns-9 : tie.Need-returns-9
-returns-9 c = told (c .before .before .before .before .args .name .now) (c .before .enum-told9 .given .1) (c .which-bounds .ensures)
+returns-9 c = told (c .before .before .before .before .args .name .now) (c .before .enum-told9 .given .1) (c .which-manifest .ensures)
 
 returns-10 : tie.Need-returns-10
-returns-10 c = told (c .before .before .before .before .args .name .now) (c .before .enum-told10 .given .1) (c .which-condition .ensures)
+returns-10 c = told (c .before .before .before .before .args .name .now) (c .before .enum-told10 .given .1) (c .which-bounds .ensures)
+
+returns-11 : tie.Need-returns-11
+returns-11 c = told (c .before .before .before .before .args .name .now) (c .before .enum-told11 .given .1) (c .which-condition .ensures)
 
 pub place-of-spec : {M : Type 1} → statement M
 place-of-spec =
@@ -117,14 +126,16 @@ place-of-spec =
     enum-told-5
     which-meta-data-requires
     enum-told-6
-    which-marker-requires
+    which-mergeskip-requires
     enum-told-7
-    which-state-requires
+    which-marker-requires
     enum-told-8
-    which-manifest-requires
+    which-state-requires
     enum-told-9
-    which-bounds-requires
+    which-manifest-requires
     enum-told-10
+    which-bounds-requires
+    enum-told-11
     which-condition-requires
     returns
     returns-2
@@ -135,4 +146,5 @@ place-of-spec =
     returns-7
     returns-8
     returns-9
-    returns-10)
+    returns-10
+    returns-11)

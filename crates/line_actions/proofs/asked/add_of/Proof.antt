@@ -47,7 +47,7 @@ returns-4 c = ap addIn ((subst (ActionIs _ _) (c .enum-told3 .given .1) (c .befo
 
 returns-5 : tie.Need-returns-5
 unfolding addIn
-returns-5 c = ap addIn (subst (ActionIs _ _) (c .enum-told4 .given .1) (c .before .before .classify .ensures))
+returns-5 c = ap addIn ((subst (ActionIs _ _) (c .enum-told4 .given .1) (c .before .before .classify .ensures)) .says)
 
 returns-6 : tie.Need-returns-6
 unfolding addIn

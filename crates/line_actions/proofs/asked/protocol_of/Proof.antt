@@ -47,7 +47,7 @@ returns-4 c = ap protocolIn ((subst (ActionIs _ _) (c .enum-told3 .given .1) (c 
 
 returns-5 : tie.Need-returns-5
 unfolding protocolIn
-returns-5 c = ap protocolIn (subst (ActionIs _ _) (c .enum-told4 .given .1) (c .before .before .classify .ensures))
+returns-5 c = ap protocolIn ((subst (ActionIs _ _) (c .enum-told4 .given .1) (c .before .before .classify .ensures)) .says)
 
 returns-6 : tie.Need-returns-6
 unfolding protocolIn

@@ -48,7 +48,7 @@ returns-4 c = let a = subst (ActionIs _ _) (c .enum-told4 .given .1) (c .before 
 
 returns-5 : tie.Need-returns-5
 unfolding spokenIs
-returns-5 c = sym (ap spokenIs (subst (ActionIs _ _) (c .enum-told5 .given .1) (c .before .before .classify .ensures)))
+returns-5 c = let a = subst (ActionIs _ _) (c .enum-told5 .given .1) (c .before .before .classify .ensures) in sym (ap spokenIs (a .says))
 
 returns-6 : tie.Need-returns-6
 unfolding spokenIs

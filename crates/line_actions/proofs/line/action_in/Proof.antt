@@ -1,6 +1,6 @@
 -- `action_in` meets its contract, by the places.
 use Rattle.field_names.specs.Kinds.{namesOf}
-use Rattle.line_actions.proofs.Lines.{place-three}
+use Rattle.line_actions.proofs.Lines.{place-four}
 use Rattle.line_actions.proofs.Slotted.{lined-slots}
 use borrow.Author.Needs.{needs}
 use Rattle.line_actions.proofs.line.action_in.Statement.{statement}
@@ -78,17 +78,37 @@ element-copy-out-meta-data-in-2 c = search needs
 meta-data-in-requires : tie.Need-meta-data-in-requires
 unfolding namesOf
 meta-data-in-requires c κs =
-    let b6 = c .before .before .before .before .before .before in
-    let args = b6 .args in
-    let pre = b6 .pre in
-    lined-slots
-    (args .line .now)
-    (args .t3 .slots)
-    (place-three (args .k) (pre .0) (c .before .before .before .before .if1 .left) (c .before .before .before .if2 .left) (c .before .before .if3 .left))
-    (pre .1)
+    let b7 = c .before .before .before .before .before .before .before in
+    let args = b7 .args in
+    lined-slots (args .line .now) (args .t3 .slots) (c .before .before .if4 .taken) (b7 .pre .1)
 
 returns-4 : tie.Need-returns-4
 returns-4 c = search needs
+
+element-copy-out-mergeskip-in : tie.Need-element-copy-out-mergeskip-in
+element-copy-out-mergeskip-in c = search needs
+
+element-copy-out-mergeskip-in-2 : tie.Need-element-copy-out-mergeskip-in-2
+element-copy-out-mergeskip-in-2 c = search needs
+
+element-copy-out-mergeskip-in-3 : tie.Need-element-copy-out-mergeskip-in-3
+element-copy-out-mergeskip-in-3 c = search needs
+
+mergeskip-in-requires : tie.Need-mergeskip-in-requires
+unfolding namesOf
+mergeskip-in-requires c κs =
+    let b3 = c .before .before .before in
+    let b8 = b3 .before .before .before .before .before in
+    let args = b8 .args in
+    let pre = b8 .pre in
+    lined-slots
+    (args .line .now)
+    (args .t3 .slots)
+    (place-four (args .k) (pre .0) (b3 .before .before .before .if1 .left) (b3 .before .before .if2 .left) (b3 .before .if3 .left) (b3 .if4 .left))
+    (pre .1)
+
+returns-5 : tie.Need-returns-5
+returns-5 c = search needs
 
 pub action-in-spec : {M : Type 1} → statement M
 action-in-spec =
@@ -114,4 +134,9 @@ action-in-spec =
     element-copy-out-meta-data-in
     element-copy-out-meta-data-in-2
     meta-data-in-requires
-    returns-4)
+    returns-4
+    element-copy-out-mergeskip-in
+    element-copy-out-mergeskip-in-2
+    element-copy-out-mergeskip-in-3
+    mergeskip-in-requires
+    returns-5)

@@ -18,14 +18,14 @@ enum-told c = search needs
 returns : tie.Need-returns
 returns c = line-malformed (c .before .before .before .before .args .line .now) (subst (KeyedIs _) (c .enum-told .given .1) (c .before .before .head .ensures))
 
-object-at-requires : tie.Need-object-at-requires
-object-at-requires c κs = (c .if1 .taken, subst (KeyedIs _) (c .before .before .k .given .1) (c .before .before .before .before .head .ensures))
+other-at-requires : tie.Need-other-at-requires
+other-at-requires c κs = (c .if1 .taken, subst (KeyedIs _) (c .before .before .k .given .1) (c .before .before .before .before .head .ensures))
 
 returns-2 : tie.Need-returns-2
 returns-2 c = search needs
 
-other-at-requires : tie.Need-other-at-requires
-other-at-requires c κs = (c .if1 .left, subst (KeyedIs _) (c .before .before .k .given .1) (c .before .before .before .before .head .ensures))
+object-at-requires : tie.Need-object-at-requires
+object-at-requires c κs = (c .if1 .left, subst (KeyedIs _) (c .before .before .k .given .1) (c .before .before .before .before .head .ensures))
 
 returns-3 : tie.Need-returns-3
 returns-3 c = search needs
@@ -38,7 +38,7 @@ classify-spec =
     enum-known-k
     enum-told
     returns
-    object-at-requires
-    returns-2
     other-at-requires
+    returns-2
+    object-at-requires
     returns-3)

@@ -14,7 +14,12 @@ returns-3 : tie.Need-returns-3
 returns-3 c = search needs
 
 returns-4 : tie.Need-returns-4
-returns-4 c = kind-other (c .before .before .before .args .k) (c .before .before .if1 .left) (c .before .if2 .left) (c .if3 .left)
+returns-4 c = search needs
+
+returns-5 : tie.Need-returns-5
+returns-5 c =
+    let b3 = c .before .before .before in
+    kind-other (b3 .before .args .k) (b3 .if1 .left) (c .before .before .if2 .left) (c .before .if3 .left) (c .if4 .left)
 
 pub kind-at-spec : {M : Type 1} → statement M
-kind-at-spec = tie.close (tie.spec returns returns-2 returns-3 returns-4)
+kind-at-spec = tie.close (tie.spec returns returns-2 returns-3 returns-4 returns-5)

@@ -3,7 +3,7 @@ use mathlib.Core.Path.{sym, subst, _∙_}
 use Prim.Native.Nat.{_+_, _≤_}
 use Rattle.rules.specs.Actions.{inLine}
 use Rattle.json_tokens.specs.Answers.{Answer}
-use Rattle.line_actions.proofs.Lines.{begun-no-value, begun-unended, begun-mergeskip, begun-other, above}
+use Rattle.line_actions.proofs.Lines.{begun-no-value, begun-unended, begun-other}
 use native.Mathlib.Omega.{arith}
 use borrow.Author.Needs.{needs}
 use Rattle.line_actions.proofs.line.other_at.Statement.{statement}
@@ -31,34 +31,12 @@ line-ends-requires c κs = let q = subst (Answer _ _ _) (c .before .e .given .1)
 returns-2 : tie.Need-returns-2
 unfolding inLine
 returns-2 c =
-    let b8 = c .before .before .before .before .before .before .before .before in
-    let e = c .before .before .before .before .e .given in
-    let args = b8 .args in
-    let pre = b8 .pre in
-    let q = subst (Answer _ _ _) (e .1) (c .before .before .before .before .before .before .value .ensures) in
+    let b7 = c .before .before .before .before .before .before .before in
+    let e = c .before .before .before .e .given in
+    let args = b7 .args in
+    let pre = b7 .pre in
+    let q = subst (Answer _ _ _) (e .1) (c .before .before .before .before .before .value .ensures) in
     let l : args .v + 1 ≤ e .0 .0 = q .1 in
-    begun-mergeskip
-    (args .line .now)
-    (args .k)
-    (args .v)
-    (pre .1)
-    (e .0 .0)
-    (omega arith)
-    (q .2)
-    (q .0)
-    (sym (c .before .before .line-ends .ensures) ∙ c .before .if1 .taken)
-    (c .if2 .taken)
-
-returns-3 : tie.Need-returns-3
-unfolding inLine
-returns-3 c =
-    let b8 = c .before .before .before .before .before .before .before .before in
-    let e = c .before .before .before .before .e .given in
-    let args = b8 .args in
-    let pre = b8 .pre in
-    let q = subst (Answer _ _ _) (e .1) (c .before .before .before .before .before .before .value .ensures) in
-    let l : args .v + 1 ≤ e .0 .0 = q .1 in
-    let low : 4 ≤ args .k = pre .0 in
     begun-other
     (args .line .now)
     (args .k)
@@ -68,12 +46,12 @@ returns-3 c =
     (omega arith)
     (q .2)
     (q .0)
-    (sym (c .before .before .line-ends .ensures) ∙ c .before .if1 .taken)
-    (above (args .k) low (c .if2 .left))
+    (sym (c .before .line-ends .ensures) ∙ c .if1 .taken)
+    (pre .0)
 
-returns-4 : tie.Need-returns-4
+returns-3 : tie.Need-returns-3
 unfolding inLine
-returns-4 c =
+returns-3 c =
     let b7 = c .before .before .before .before .before .before .before in
     let e = c .before .before .before .e .given in
     let args = b7 .args in
@@ -91,5 +69,4 @@ other-at-spec =
     returns
     line-ends-requires
     returns-2
-    returns-3
-    returns-4)
+    returns-3)
