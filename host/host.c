@@ -16,7 +16,7 @@
 #include <stdlib.h>
 #include <string.h>
 
-enum { MOST_NUMBERS = 5, MOST_STRINGS = 2, MOST_ROOMS = 3, MOST_REQUESTS = 1000000, ENTRIES = 8 };
+enum { MOST_NUMBERS = 5, MOST_STRINGS = 2, MOST_ROOMS = 3, MOST_REQUESTS = 1000000, ENTRIES = 9 };
 
 #define ANY UINT64_MAX
 
@@ -37,6 +37,7 @@ static const shape shapes[ENTRIES] = {
     {'l', "kerumpase_read_latest", 1, {6300}, 2, {5000, 1100000}, 1, {8}},                             /* room; query, bundle */
     {'q', "kerumpase_read_due", 2, {ANY, 6300}, 1, {1100000}, 1, {8}},                                 /* time, room; bundle */
     {'c', "kerumpase_clean", 5, {ANY, ANY, 1100, 6300, 6300}, 1, {1100000}, 3, {4, 8, 8}},       /* today, retention, rooms; bundle */
+    {'w', "kerumpase_write_next", 3, {ANY, 1100000, 6300}, 2, {1100000, 1100000}, 2, {1, 8}},    /* at, room, table; list, bundle */
     {'m', "kerumpase_keep", 1, {1100}, 2, {5000, 1100000}, 1, {4}},                             /* room; query, state */
     {'d', "kerumpase_directory", 0, {0}, 2, {70000, 70000}, 0, {0}},                                 /* path, directory */
     {'p', "kerumpase_path_of", 0, {0}, 1, {70000}, 0, {0}},                                        /* line */
@@ -63,6 +64,7 @@ typedef struct {
     union {
         kerumpase_listed listed;
         kerumpase_counted counted;
+        kerumpase_written written;
         kerumpase_directory_shown directory;
         kerumpase_place place;
         kerumpase_records records;
@@ -166,6 +168,10 @@ static void call(void *asked)
         r->answer.counted = kerumpase_clean(s[0].bytes, s[0].length, r->number[0], r->number[1], m[0].numbers,
                                             m[0].length, m[1].numbers, m[1].length, m[2].numbers, m[2].length);
         break;
+    case 'w':
+        r->answer.written = kerumpase_write_next(s[1].bytes, s[1].length, s[0].bytes, s[0].length, m[0].numbers,
+                                                 m[0].length, (size_t)r->number[0], m[1].numbers, m[1].length);
+        break;
     case 'm':
         r->answer.counted = kerumpase_keep(s[1].bytes, s[1].length, s[0].bytes, s[0].length,
                                            m[0].numbers, m[0].length);
@@ -237,6 +243,13 @@ static void print_counted(const request *r)
     print_rooms(r);
 }
 
+static void print_written(const request *r)
+{
+    kerumpase_written a = r->answer.written;
+    printf("%" PRIu32 " %zu %zu %" PRIu64 " %zu", a.refused.number, a.refused.entry, a.refused.line, a.version, a.size);
+    print_rooms(r);
+}
+
 static void print_records(kerumpase_records a)
 {
     if (a.stated == KERUMPASE_STATED)
@@ -253,6 +266,7 @@ static void print(const request *r)
     case 'q': print_listed(r); break;
     case 'c':
     case 'm': print_counted(r); break;
+    case 'w': print_written(r); break;
     case 'd': print_bytes(r->string[r->answer.directory.of_path ? 0 : 1].bytes, r->answer.directory.length); break;
     case 'p': print_bytes(r->string[0].bytes + r->answer.place.start, r->answer.place.length); break;
     case 'n': print_records(r->answer.records); break;

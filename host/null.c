@@ -22,6 +22,8 @@ static void hold(bool test, const char *what, int line)
 
 static const uint8_t all[] = {'[', ']'};
 static const uint8_t some[] = {'s', 't', 'a', 't', 'e'};
+static const uint8_t list[] = {1, 0, 0, 0, 0, 0, 0, 0, 0, 0, 0, 0, 0, 0, 0, 0, 1, 0, 0, 0, 0, 0, 0, 0, 'a'}; /* one path to remove */
+static uint8_t out[64];
 static uint64_t rows[KERUMPASE_ROWS_ROOM], table[KERUMPASE_ROWS_ROOM];
 static uint32_t names[KERUMPASE_NAMES_ROOM];
 
@@ -42,6 +44,8 @@ static void no_bytes(const uint8_t *none)
     HOLD(refused(kerumpase_read_due(none, 0, 0, rows, KERUMPASE_ROWS_ROOM).refused, KERUMPASE_BUNDLE_MALFORMED));
     HOLD(refused(kerumpase_clean(none, 0, 0, 0, names, KERUMPASE_NAMES_ROOM, rows, KERUMPASE_ROWS_ROOM, table, KERUMPASE_ROWS_ROOM).refused,
                  KERUMPASE_BUNDLE_MALFORMED));
+    HOLD(refused(kerumpase_write_next(none, 0, none, 0, out, sizeof out, 0, rows, KERUMPASE_ROWS_ROOM).refused, KERUMPASE_LIST_REFUSED));
+    HOLD(refused(kerumpase_write_next(none, 0, list, sizeof list, NULL, 0, 0, rows, KERUMPASE_ROWS_ROOM).refused, KERUMPASE_BUNDLE_MALFORMED));
     HOLD(refused(kerumpase_keep(none, 0, all, 2, names, KERUMPASE_KEPT_ROOM).refused, KERUMPASE_STATE_MALFORMED));
     HOLD(refused(kerumpase_keep(some, 5, none, 0, names, KERUMPASE_KEPT_ROOM).refused, KERUMPASE_QUERY_MALFORMED));
     HOLD(kerumpase_path_of(none, 0).length == 0);
@@ -66,6 +70,7 @@ static void no_room(uint64_t *none_64, uint64_t *none_other, uint32_t *none_32)
     HOLD(refused(kerumpase_clean(all, 2, 0, 0, names, KERUMPASE_NAMES_ROOM, rows, KERUMPASE_ROWS_ROOM, none_64, 0).refused,
                  KERUMPASE_ROOM_TOO_SHORT));
     HOLD(refused(kerumpase_clean(all, 2, 0, 0, none_32, 0, none_64, 0, none_other, 0).refused, KERUMPASE_ROOM_TOO_SHORT));
+    HOLD(refused(kerumpase_write_next(all, 2, list, sizeof list, out, sizeof out, 0, none_64, 0).refused, KERUMPASE_ROOM_TOO_SHORT));
     HOLD(refused(kerumpase_keep(all, 2, all, 2, none_32, 0).refused, KERUMPASE_ROOM_TOO_SHORT));
     HOLD(rows[0] == 0xA5A5A5A5A5A5A5A5u && table[KERUMPASE_ROWS_ROOM - 1] == 0xA5A5A5A5A5A5A5A5u && names[0] == 0xA5A5A5A5u);
 }

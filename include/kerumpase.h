@@ -6,7 +6,7 @@
  * output, and it never ends the program.
  *
  * Everything is lent. A byte string is a pointer and a length; it is read during the call only and
- * never changed. A room is a pointer and its length in numbers; it is written during the call.
+ * never changed. A room is a pointer and its length in elements; it is written during the call.
  * Every call answers, whatever the bytes are; what it answers and what it leaves in the rooms is
  * proved of the functions behind these. The caller must guarantee, because nothing can check it:
  *   - a pointer whose length is not 0 is not NULL, is aligned for its type and points to at least
@@ -23,8 +23,8 @@
  * is the very same module, handed to the Arm side of the same compiler. So one also believes that
  * side of the compiler, and that nothing in the module means something else on Arm; tools/library
  * looks at every line of it and refuses what could (both machines are little-endian, with pointers
- * of 64 bits and the same alignments). On both: library/entries.c, a hundred lines of C that hand
- * over the arguments and answers. docs/LIBRARY.md says more, and what was run on each machine.
+ * of 64 bits and the same alignments). On both: library/entries.c, 150 lines of C that hand over
+ * the arguments and answers. docs/LIBRARY.md says more, and what was run on each machine.
  */
 #ifndef KERUMPASE_H
 #define KERUMPASE_H
@@ -84,21 +84,23 @@ typedef enum kerumpase_refusal {
     KERUMPASE_UNKNOWN_FEATURE = 9,       /* a reader feature */
     KERUMPASE_QUERY_MALFORMED = 10,
     KERUMPASE_NO_SUCH_COLUMN = 11,       /* a condition on no partition column in force at the version */
-    KERUMPASE_NOT_WRITABLE = 12,
+    KERUMPASE_NOT_WRITABLE = 12,         /* by the protocol in force: to the cleaner and to the next version */
     KERUMPASE_CHECKPOINT_DISAGREES = 13, /* with the other start: files and their skips, protocol, id, partition columns */
     KERUMPASE_STATE_MALFORMED = 14,
     KERUMPASE_TOO_MANY_MANIFESTS = 15,   /* over 256 */
-    KERUMPASE_LIST_REFUSED = 16,         /* not given yet, as 17, 19 and 20: for entries that are to come */
-    KERUMPASE_OUTPUT_TOO_SHORT = 17,
+    KERUMPASE_LIST_REFUSED = 16,         /* malformed, empty, or a value that no add or remove may have */
+    KERUMPASE_OUTPUT_TOO_SHORT = 17,     /* the buffer is untouched */
     KERUMPASE_VALUE_OUT_OF_RANGE = 18,   /* a value of a live file is a number out of range, under a number condition */
-    KERUMPASE_CONTAINER_MALFORMED = 19,
+    KERUMPASE_CONTAINER_MALFORMED = 19,  /* not given yet, as 20: for entries that are to come */
     KERUMPASE_OTHER_SCHEMA = 20,
     KERUMPASE_FOREIGN_KEYS = 21          /* an add in a version file whose partition keys are not exactly the
                                           * columns in force at its line; entry and line say which */
 } kerumpase_refusal;
 
 /* number is a kerumpase_refusal, 0 where the answer is accepted. Refusals 6, 7 and 21 name a file of the
- * bundle, from 0, and a line of it, from 1 (0: something is missing at the file's end). All else is 0. */
+ * bundle, from 0, and a line of it, from 1 (0: something is missing at the file's end). All else is 0.
+ * kerumpase_write_next names an entry of its list, from 1, by the line, with the number of the bundle's
+ * files as the file. */
 typedef struct kerumpase_refused {
     uint32_t number;
     size_t entry;
@@ -189,6 +191,43 @@ kerumpase_counted kerumpase_clean(const uint8_t *KERUMPASE_RESTRICT bundle, size
                                   uint32_t *KERUMPASE_RESTRICT names, size_t names_length,
                                   uint64_t *KERUMPASE_RESTRICT table_one, size_t table_one_length,
                                   uint64_t *KERUMPASE_RESTRICT table_two, size_t table_two_length);
+
+/*
+ * ---- the next version: files to add and paths to remove, written as the body of a version file ----
+ *
+ * The list is bytes. A number has 8 bytes, little-endian; a text is its length as a number, then its
+ * bytes, in UTF-8 and not escaped; a choice is the number 0 or 1.
+ *   list     the number of entries, then the entries, and nothing behind them
+ *   entry    0, path                                                       a path to remove
+ *            1, path, size, modificationTime, dataChange, records, pairs   a file to add
+ *   path     a text of 1 to 512 bytes; size and modificationTime are numbers, dataChange is a choice
+ *   records  0, or 1 and numRecords
+ *   pairs    how many, then for each the column (a text), and 0 for null, or 1 and the value (a text)
+ * Numbers of files are at most 2^63-1, and no column stands twice in an entry. host/commit.c is a pattern.
+ */
+
+/* The version of the body and its length; both 0 where refused. */
+typedef struct kerumpase_written {
+    kerumpase_refused refused;
+    uint64_t version;
+    size_t size;
+} kerumpase_written;
+
+/*
+ * Writes the body of the version after the latest into `out`, from out[at] on: `size` bytes, a line for
+ * each entry in the order of the list, for a file whose name is `version` in twenty digits and `.json`.
+ * The bytes before and behind the body stay. Whoever puts the file into the log must create it only if
+ * it is not there, whole: if it is, another station was first, and the log has to be read again. The
+ * table is lent for the work; its first 6,144 numbers are 0 at the end.
+ * Refusals 1 (the table), 16, 2, 3, 4, then 6, 7 or 21 as in reading, 8, 9, 12, 3 (there is no version
+ * after 2^63-1), then of the list 21 (an add's keys are not exactly the columns in force) and 7, last 17
+ * (also where `at` is beyond `out`). After any refusal `out` is untouched; after all but 1 the first
+ * 6,144 numbers of the table are 0.
+ */
+kerumpase_written kerumpase_write_next(const uint8_t *KERUMPASE_RESTRICT bundle, size_t bundle_length,
+                                       const uint8_t *KERUMPASE_RESTRICT list, size_t list_length,
+                                       uint8_t *KERUMPASE_RESTRICT out, size_t out_length, size_t at,
+                                       uint64_t *KERUMPASE_RESTRICT table, size_t table_length);
 
 /* ---- state manifests ---- */
 
@@ -283,6 +322,9 @@ KERUMPASE_ASSERT(sizeof(kerumpase_row) == 48 && offsetof(kerumpase_row, place) =
                  && offsetof(kerumpase_row, length) == 8 && offsetof(kerumpase_row, size) == 16
                  && offsetof(kerumpase_row, time) == 24 && offsetof(kerumpase_row, skip_count) == 32
                  && offsetof(kerumpase_row, retry_after) == 40, "layout of kerumpase_row");
+KERUMPASE_ASSERT(sizeof(kerumpase_written) == 40 && offsetof(kerumpase_written, refused) == 0
+                 && offsetof(kerumpase_written, version) == 24 && offsetof(kerumpase_written, size) == 32,
+                 "layout of kerumpase_written");
 KERUMPASE_ASSERT(sizeof(kerumpase_directory_shown) == 16 && offsetof(kerumpase_directory_shown, of_path) == 0
                  && offsetof(kerumpase_directory_shown, length) == 8, "layout of kerumpase_directory_shown");
 KERUMPASE_ASSERT(sizeof(kerumpase_place) == 16 && offsetof(kerumpase_place, start) == 0

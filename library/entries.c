@@ -28,6 +28,9 @@ void *kerumpase_proved_clean(kerumpase_counted *answer, const uint8_t *bundle, s
                              uint64_t today, uint64_t retention, uint32_t *names, size_t names_length,
                              uint64_t *table_one, size_t table_one_length,
                              uint64_t *table_two, size_t table_two_length);
+void *kerumpase_proved_write_next(kerumpase_written *answer, const uint8_t *bundle, size_t bundle_length,
+                                  const uint8_t *list, size_t list_length, uint8_t *out, size_t out_length, size_t at,
+                                  uint64_t *table, size_t table_length);
 void *kerumpase_proved_keep(kerumpase_counted *answer, const uint8_t *state, size_t state_length,
                             const uint8_t *query, size_t query_length, uint32_t *kept, size_t kept_length);
 pair kerumpase_proved_directory(const uint8_t *path, size_t path_length,
@@ -41,6 +44,11 @@ static const uint64_t nothing = 0;
 static const uint8_t *bytes(const uint8_t *p, size_t length)
 {
     return length != 0 ? p : (const uint8_t *)&nothing;
+}
+
+static uint8_t *room_8(uint8_t *p, size_t length)
+{
+    return length != 0 ? p : (uint8_t *)&nothing;
 }
 
 static uint32_t *room_32(uint32_t *p, size_t length)
@@ -93,6 +101,18 @@ ENTRY kerumpase_counted kerumpase_clean(const uint8_t *restrict bundle, size_t b
                            room_32(names, names_length), names_length,
                            room_64(table_one, table_one_length), table_one_length,
                            room_64(table_two, table_two_length), table_two_length);
+    return answer;
+}
+
+ENTRY kerumpase_written kerumpase_write_next(const uint8_t *restrict bundle, size_t bundle_length,
+                                             const uint8_t *restrict list, size_t list_length,
+                                             uint8_t *restrict out, size_t out_length, size_t at,
+                                             uint64_t *restrict table, size_t table_length)
+{
+    kerumpase_written answer;
+    kerumpase_proved_write_next(&answer, bytes(bundle, bundle_length), bundle_length, bytes(list, list_length),
+                                list_length, room_8(out, out_length), out_length, at,
+                                room_64(table, table_length), table_length);
     return answer;
 }
 

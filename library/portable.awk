@@ -1,6 +1,6 @@
 # portable.awk MODULE.ll: looks at every line of the proved module, printed by clang, for anything that could mean something else on Arm than
 # on x86-64, for which it was lowered. What is not known to mean the same is refused: the words of the language (instructions, types,
-# attributes), the functions outside, the layout of data and the eight functions for C. Prints what it refuses; the exit status is then 1.
+# attributes), the functions outside, the layout of data and the nine functions for C. Prints what it refuses; the exit status is then 1.
 
 function known(words,   all, n, i) {
     n = split(words, all, " ")
@@ -34,6 +34,7 @@ BEGIN {
     entry["kerumpase_read_latest"] = "ptr(ptr," four "," four "," four ")"
     entry["kerumpase_read_due"] = "ptr(ptr," four ",i64," four ")"
     entry["kerumpase_clean"] = "ptr(ptr," four ",i64,i64," four "," four "," four ")"
+    entry["kerumpase_write_next"] = "ptr(ptr," four "," four "," four ",i64," four ")"
     entry["kerumpase_keep"] = "ptr(ptr," four "," four "," four ")"
     entry["kerumpase_directory"] = "{i64,i64}(" four "," four ")"
     entry["kerumpase_path_of"] = "{i64,i64}(" four ")"

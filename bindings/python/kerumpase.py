@@ -14,13 +14,14 @@ import ctypes.util
 import os
 from typing import List, NamedTuple, Optional
 
-__all__ = ['Refused', 'LibraryMissing', 'Row', 'Listing', 'read_at', 'read_latest', 'read_due', 'clean', 'keep', 'directory', 'path_of',
-           'records_of', 'entry_name', 'refusal_text']
+__all__ = ['Refused', 'LibraryMissing', 'Row', 'Listing', 'read_at', 'read_latest', 'read_due', 'clean', 'Batch', 'Next', 'write_next',
+           'keep', 'directory', 'path_of', 'records_of', 'entry_name', 'refusal_text']
 __version__ = '2.0.0'
 
 ROWS_ROOM, NAMES_ROOM, KEPT_ROOM = 6144, 1024, 256
 ROW, ENTRY, NAME, MOST = 6, 112, 96, 2**64 - 1
 STATED, MISSING = 2, 1
+WIDEST = 6  # a byte of a list becomes at most so many of a body: an escape has six
 FILE = 'libkerumpase.so.' + __version__.split('.', maxsplit=1)[0]
 
 # The words of docs/REFUSALS.md.
@@ -45,11 +46,13 @@ class LibraryMissing(OSError):
 
 
 class Refused(Exception):
-    """A refusal: its number, the entry of the bundle and the line that 6, 7 and 21 name (otherwise 0), and the text for the number."""
+    """A refusal: its number, the entry of the bundle and the line that 6, 7 and 21 name (otherwise 0), and the text for the number. Where it is of an
+    entry of a batch, line is that entry's number, from 1, and name is None."""
 
     def __init__(self, number: int, entry: int = 0, line: int = 0, name: Optional[str] = None):
         self.number, self.entry, self.line, self.name, self.text = number, entry, line, name, refusal_text(number)
-        where = f', in {name or f"entry {entry}"}, line {line}' if number in OF_A_LINE else ''
+        where = f', in {name}, line {line}' if name else f', in entry {line} of the batch'
+        where = where if number in OF_A_LINE else ''
         super().__init__(f'refused {number}: {self.text}{where}')
 
     def __reduce__(self):
@@ -78,6 +81,17 @@ class Listing(NamedTuple):
     rows: List[Row]
 
 
+class Next(NamedTuple):
+    """The version after the latest, and the body of its file."""
+    version: int
+    body: bytes
+
+    @property
+    def name(self) -> str:
+        """The name of the file: twenty digits and .json."""
+        return f'{self.version:020d}.json'
+
+
 # ---- the library
 
 class _Refused(ctypes.Structure):
@@ -93,6 +107,10 @@ class _Listed(ctypes.Structure):
                 ('writer', ctypes.c_uint64), ('writable', ctypes.c_bool)]
 
 
+class _Written(ctypes.Structure):
+    _fields_ = [('refused', _Refused), ('version', ctypes.c_uint64), ('size', ctypes.c_size_t)]
+
+
 class _DirectoryShown(ctypes.Structure):
     _fields_ = [('of_path', ctypes.c_bool), ('length', ctypes.c_size_t)]
 
@@ -106,6 +124,7 @@ class _Records(ctypes.Structure):
 
 
 _BYTES = [ctypes.c_char_p, ctypes.c_size_t]
+_OUTPUT = [ctypes.POINTER(ctypes.c_uint8), ctypes.c_size_t, ctypes.c_size_t]
 _ROOM_32 = [ctypes.POINTER(ctypes.c_uint32), ctypes.c_size_t]
 _ROOM_64 = [ctypes.POINTER(ctypes.c_uint64), ctypes.c_size_t]
 _FUNCTIONS = {
@@ -113,6 +132,7 @@ _FUNCTIONS = {
     'read_latest': (_Listed, _BYTES + _BYTES + _ROOM_64),
     'read_due': (_Listed, _BYTES + [ctypes.c_uint64] + _ROOM_64),
     'clean': (_Counted, _BYTES + [ctypes.c_uint64, ctypes.c_uint64] + _ROOM_32 + _ROOM_64 + _ROOM_64),
+    'write_next': (_Written, _BYTES + _BYTES + _OUTPUT + _ROOM_64),
     'keep': (_Counted, _BYTES + _BYTES + _ROOM_32),
     'directory': (_DirectoryShown, _BYTES + _BYTES),
     'path_of': (_Place, _BYTES),
@@ -175,6 +195,11 @@ def _number(value, what):
     return value
 
 
+def _text(value, what):
+    """A text of a batch: bytes, or a str in UTF-8."""
+    return value.encode() if isinstance(value, str) else _bytes(value, what)
+
+
 def _room_32(length):
     return (ctypes.c_uint32 * length)()
 
@@ -185,7 +210,8 @@ def _room_64(length):
 
 def _unless_refused(refused, bundle=b''):
     if refused.number in OF_A_LINE:
-        raise Refused(refused.number, refused.entry, refused.line, entry_name(bundle, refused.entry))
+        of_batch = refused.entry == int.from_bytes(bundle[:4], 'little')
+        raise Refused(refused.number, refused.entry, refused.line, None if of_batch else entry_name(bundle, refused.entry))
     if refused.number:
         raise Refused(refused.number)
 
@@ -237,6 +263,60 @@ def clean(bundle, now: int, retention: int) -> List[int]:
     answer = _call('clean', bundle, len(bundle), _number(now, 'now'), _number(retention, 'retention'), names, NAMES_ROOM, one, ROWS_ROOM, two, ROWS_ROOM)
     _unless_refused(answer.refused, bundle)
     return names[:answer.count]
+
+
+class Batch:
+    """Files to add and paths to remove, one after the other. Paths, columns and values are str or bytes in UTF-8, and are not escaped. Values that no
+    add or remove may have are refused (16) when the batch is written."""
+
+    def __init__(self):
+        self._count, self._entries = 0, bytearray()
+
+    def __len__(self):
+        return self._count
+
+    def add(self, path, size: int, modification_time: int, partition_values=None, data_change: bool = True, num_records: Optional[int] = None):
+        """A file to add. The columns of partition_values, each with its value or None, are exactly the partition columns in force."""
+        pairs = dict(partition_values or {}).items()
+        entry = self._number(1) + self._string(path, 'path') + self._number(_number(size, 'size'))
+        entry += self._number(_number(modification_time, 'modification_time')) + self._number(1 if data_change else 0)
+        entry += self._number(0) if num_records is None else self._number(1) + self._number(_number(num_records, 'num_records'))
+        entry += self._number(len(pairs))
+        for column, value in pairs:
+            entry += self._string(column, 'a column') + (self._number(0) if value is None else self._number(1) + self._string(value, 'a value'))
+        self._put(entry)
+
+    def remove(self, path):
+        """A path to remove; it need not be in the table."""
+        self._put(self._number(0) + self._string(path, 'path'))
+
+    def list(self) -> bytes:
+        """The list as kerumpase_write_next takes it: the number of entries, then the entries."""
+        return self._number(self._count) + bytes(self._entries)
+
+    def _put(self, entry):
+        self._entries += entry
+        self._count += 1
+
+    @staticmethod
+    def _number(number):
+        return number.to_bytes(8, 'little')
+
+    @classmethod
+    def _string(cls, value, what):
+        text = _text(value, what)
+        return cls._number(len(text)) + text
+
+
+def write_next(bundle, batch: Batch) -> Next:
+    """The version after the latest, with the body of its file. Whoever puts the file into the log must create it whole, and only if it is not there:
+    if it is, another station was first, and the log has to be read again."""
+    bundle, listed, table = _bytes(bundle, 'bundle'), batch.list(), _room_64(ROWS_ROOM)
+    room = WIDEST * len(listed)
+    out = (ctypes.c_uint8 * room)()
+    answer = _call('write_next', bundle, len(bundle), listed, len(listed), out, room, 0, table, ROWS_ROOM)
+    _unless_refused(answer.refused, bundle)
+    return Next(answer.version, bytes(out[:answer.size]))
 
 
 def keep(state, query=b'[]') -> List[int]:

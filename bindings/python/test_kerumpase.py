@@ -25,13 +25,16 @@ from kerumpase import Refused  # noqa: E402
 from layout import META, Log, add, condition, meta_data, room_sum, sum_of, version  # noqa: E402
 
 # Of each letter: how many numbers and how many byte strings; the widths of its rooms, whose lengths are its last numbers.
-SHAPES = {'r': (2, 2, [8]), 'l': (1, 2, [8]), 'q': (2, 1, [8]), 'c': (5, 1, [4, 8, 8]), 'm': (1, 2, [4]), 'd': (0, 2, []), 'p': (0, 1, []), 'n': (0, 1, [])}
-LEAST = {'r': [6144], 'l': [6144], 'q': [6144], 'c': [1024, 6144, 6144], 'm': [256], 'd': [], 'p': [], 'n': []}
+SHAPES = {'r': (2, 2, [8]), 'l': (1, 2, [8]), 'q': (2, 1, [8]), 'c': (5, 1, [4, 8, 8]), 'w': (3, 2, [1, 8]), 'm': (1, 2, [4]),
+          'd': (0, 2, []), 'p': (0, 1, []), 'n': (0, 1, [])}
+LEAST = {'r': [6144], 'l': [6144], 'q': [6144], 'c': [1024, 6144, 6144], 'w': [0, 6144], 'm': [256], 'd': [], 'p': [], 'n': []}
 
 
 class Request:
-    def __init__(self, data):
-        self.letter, at = data[:1].decode(), 1
+    """A request that begins at a place of the data, and where it ends."""
+
+    def __init__(self, data, at=0):
+        self.letter, at = data[at:at + 1].decode(), at + 1
         numbers, strings, self.widths = SHAPES[self.letter]
         self.numbers, at = list(struct.unpack_from(f'<{numbers}Q', data, at)), at + 8 * numbers
         self.strings = []
@@ -39,7 +42,8 @@ class Request:
             length, = struct.unpack_from('<Q', data, at)
             self.strings.append(data[at + 8:at + 8 + length])
             at += 8 + length
-        assert at == len(data)
+        assert at <= len(data)
+        self.end = at
         self.lengths = self.numbers[len(self.numbers) - len(self.widths):]
 
     def enough(self):
@@ -51,12 +55,17 @@ def cases():
     for path in sorted(CASES.glob('*.request')):
         expected = path.with_suffix('.expected').read_text()
         if not path.stem.startswith('probe-') and not expected.endswith('end\n'):
-            yield path.stem, Request(path.read_bytes()), expected
+            data, at = path.read_bytes(), 0
+            for line in expected.splitlines(keepends=True):
+                request = Request(data, at)
+                at = request.end
+                yield path.stem, request, line
+            assert at == len(data), path.stem
 
 
 def by_rooms(r):
     """What the library answers, with rooms as long as the request says, filled as the cases want."""
-    rooms = [((ctypes.c_uint32 if width == 4 else ctypes.c_uint64) * length)() for width, length in zip(r.widths, r.lengths)]
+    rooms = [({1: ctypes.c_uint8, 4: ctypes.c_uint32, 8: ctypes.c_uint64}[width] * length)() for width, length in zip(r.widths, r.lengths)]
     for room in rooms:
         ctypes.memset(room, 0xA5, ctypes.sizeof(room))
     lent = [part for room in rooms for part in (room, len(room))]
@@ -70,6 +79,9 @@ def by_rooms(r):
     if r.letter == 'c':
         a = call('clean', *text, *r.numbers[:2], *lent)
         return f'{a.refused.number} {a.refused.entry} {a.refused.line} {a.count} {sums()}\n'
+    if r.letter == 'w':
+        a = call('write_next', *text, *lent[:2], r.numbers[0], *lent[2:])
+        return f'{a.refused.number} {a.refused.entry} {a.refused.line} {a.version} {a.size} {sums()}\n'
     if r.letter == 'm':
         a = call('keep', *text, *lent)
         return f'{a.refused.number} {a.count} {sums()}\n'
@@ -131,7 +143,7 @@ class Cases(unittest.TestCase):
 
     def test_every_case_with_enough_room(self):
         for name, request, expected in cases():
-            if request.enough():
+            if request.enough() and request.letter != 'w':
                 with self.subTest(name):
                     self.assertEqual(by_functions(request), expected)
 
@@ -154,6 +166,40 @@ class Functions(unittest.TestCase):
         self.assertEqual((due.version, [row.path for row in due.rows]), (2, [b'a\\u002fb', b'c']))
         self.assertEqual(kerumpase.read_due(bundle, 2**64 - 1), due)
         self.assertEqual(kerumpase.read_due(BUNDLE, 2**64 - 1).rows, [])
+
+    def test_a_batch_becomes_the_next_version(self):
+        bundle = Log(zero=meta_data(['year', 'class'])).bundle()
+        batch = kerumpase.Batch()
+        batch.remove('gone')
+        batch.add('é\n"', 2**63 - 1, 0, {'class': b'\x1f\\', 'year': None}, data_change=False, num_records=0)
+        self.assertEqual(len(batch), 2)
+        following = kerumpase.write_next(bundle, batch)
+        self.assertEqual((following.version, following.name), (1, version(1)))
+        self.assertEqual(following.body.decode().split('\n'), [
+            '{"remove":{"path":"gone","dataChange":true}}',
+            '{"add":{"path":"é\\u000a\\"","partitionValues":{"class":"\\u001f\\\\","year":null},"size":9223372036854775807,"modificationTime":0,'
+            '"dataChange":false,"numRecords":0}}', ''])
+        grown = Log({version(1): following.body.decode()}, zero=meta_data(['year', 'class'])).bundle()
+        self.assertEqual([(row.path, row.records) for row in kerumpase.read_latest(grown).rows], [('é\\u000a\\"'.encode(), 0)])
+
+    def test_a_batch_that_is_refused(self):
+        for fill, said in ((lambda batch: None, 'refused 16: list empty, or a value that no add or remove may have'),
+                           (lambda batch: batch.remove(''), 'refused 16: list empty, or a value that no add or remove may have'),
+                           (lambda batch: (batch.remove('a'), batch.add('a', 1, 1, {'x': None})),
+                            'refused 21: foreign partition keys, in entry 2 of the batch')):
+            batch = kerumpase.Batch()
+            fill(batch)
+            with self.assertRaises(Refused) as caught:
+                kerumpase.write_next(BUNDLE, batch)
+            self.assertEqual(str(caught.exception), said)
+            self.assertEqual(str(pickle.loads(pickle.dumps(caught.exception))), said)
+        batch = kerumpase.Batch()
+        for call in (lambda: batch.remove(None), lambda: batch.remove(5), lambda: batch.add('a', '1', 1), lambda: batch.add('a', 1, 1.0),
+                     lambda: batch.add('a', 1, 1, num_records=True), lambda: batch.add('a', 1, 1, {1: 'x'}), lambda: batch.add('a', 1, 1, {'x': 1})):
+            self.assertRaises(TypeError, call)
+        for call in (lambda: batch.add('a', -1, 1), lambda: batch.add('a', 2**64, 1), lambda: batch.remove('\ud800')):
+            self.assertRaises(ValueError, call)
+        self.assertEqual((len(batch), batch.list()), (0, bytes(8)))
 
     def test_a_refusal_says_where(self):
         with self.assertRaises(Refused) as caught:

@@ -237,3 +237,40 @@ fn written(
 pub fn path_shown(path: &Path) -> String {
     shown(&path.to_string_lossy())
 }
+
+/// What was done in a folder is on the disk.
+pub fn sync(folder: &Path) -> Result<(), Fail> {
+    match fs::File::open(folder).and_then(|folder| folder.sync_all()) {
+        // Some file systems cannot sync a folder, and say so by this.
+        Err(error) if error.kind() != io::ErrorKind::InvalidInput => {
+            system(format!("{} cannot be synced: {error}", path_shown(folder)))
+        }
+        _ => Ok(()),
+    }
+}
+
+/// Aborts after the number of steps that KERUMPASE_STOP_AFTER names; in debug builds alone, for the tests.
+pub fn stop_for_a_test(steps: usize) {
+    if cfg!(debug_assertions) && std::env::var("KERUMPASE_STOP_AFTER").map_or(false, |after| after == steps.to_string())
+    {
+        std::process::abort();
+    }
+}
+
+/// Waits at a place of which KERUMPASE_WAIT says `PLACE FILE`: makes FILE, and goes on when it is gone; in debug builds alone, for the tests.
+pub fn wait_for_a_test(place: &str) {
+    if !cfg!(debug_assertions) {
+        return;
+    }
+    if let Some((_, path)) = std::env::var("KERUMPASE_WAIT")
+        .ok()
+        .as_deref()
+        .and_then(|wait| wait.split_once(' '))
+        .filter(|(at, _)| *at == place)
+    {
+        let _ = fs::write(path, "");
+        while Path::new(path).exists() {
+            std::thread::sleep(std::time::Duration::from_millis(1));
+        }
+    }
+}

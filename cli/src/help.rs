@@ -15,6 +15,7 @@ kerumpase: reads the transaction log of an IndexTables table, by a proved librar
   kerumpase versions TABLE    which versions can be read, and which not
   kerumpase check TABLE...    reads every version, compares the checkpoint, says what is wrong
   kerumpase clean TABLE       which old log files may go; a dry run unless --apply
+  kerumpase commit DIR BATCH  writes a batch of adds and removes as the next version
   kerumpase manifests STATE   which manifests of a state manifest a query keeps
   kerumpase report TABLE      one page in HTML for the help desk
   kerumpase pack TABLE        writes the log as one file, a bundle
@@ -36,7 +37,7 @@ Examples:
   kerumpase help clean
 ";
 
-const TEXTS: [(&str, &str); 12] = [
+const TEXTS: [(&str, &str); 13] = [
     (
         "files",
         "\
@@ -171,6 +172,38 @@ files' times names nothing.
 Examples:
   kerumpase clean examples/cleaner --older-than 30d --now 2024-06-01
   kerumpase clean examples/cleaner --older-than 30d --now 2024-06-01 --json
+",
+    ),
+    (
+        "commit",
+        "\
+kerumpase commit TABLE BATCH [--dry-run] [--json]
+
+Writes a batch of files to add and paths to remove as the next version of the table, a folder.
+BATCH is a file of JSON, or -: an array of entries, which become the lines of the version file in
+their order:
+
+  {\"add\":{\"path\":\"year=2024/art-2.split\",\"size\":4096,\"modificationTime\":1717228800000,
+          \"dataChange\":true,\"partitionValues\":{\"year\":\"2024\"},\"numRecords\":12}}
+  {\"remove\":\"year=2024/art-1.split\"}
+
+numRecords may be missing or null. The keys of partitionValues are exactly the partition columns in
+force. The path of a remove need not be in the table.
+
+  --dry-run   prints the lines that it would write, and writes nothing
+  --json      one JSON object
+
+The version file is written under another name first, synced, and then gets its own name only if no
+file has it: stopped anywhere, the log is as it was or has the whole version, and of two stations
+that commit at once one is first. The other is told so, with exit status 2, and may commit again.
+
+Exit status: 0 committed, 1 refused, 2 wrong usage, a batch that is none, another station was
+first, or something cannot be read or written. Where it is not 0 nothing was committed, unless the
+line on standard error says that a version is.
+
+Examples:
+  kerumpase commit examples/station examples/station/list.json --dry-run
+  kerumpase commit examples/station examples/station/list.json
 ",
     ),
     (

@@ -172,6 +172,11 @@ pub fn marked_in(bytes: &[u8]) -> Option<u64> {
 const ZERO: File =
     File { name: b"00000000000000000000.json", time: 0, body: br#"{"metaData":{"id":"t","partitionColumns":[]}}"# };
 
+/// The bundle of a log of that version 0 alone.
+pub fn alone() -> Vec<u8> {
+    bundle::write(&[ZERO]).expect("it fits")
+}
+
 /// A version 0 of its own with these lines behind it, under a name of version 1.
 fn behind_zero(name: &[u8], body: &[u8]) -> Option<Vec<u8>> {
     bundle::write(&[ZERO, File { name, time: 0, body }]).ok()

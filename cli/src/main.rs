@@ -6,6 +6,7 @@
 mod clean;
 mod clock;
 mod commands;
+mod commit;
 mod ending;
 mod faults;
 mod folder;

@@ -50,6 +50,26 @@ pub struct Told {
     pub file: Option<String>,
     /// How the line that it names begins; or what is odd about the whole file.
     pub excerpt: Option<String>,
+    /// The entry of a batch that it is of, from 1.
+    pub of_entry: Option<usize>,
+}
+
+/// What a refusal means that is of an entry of a batch, and not of the log.
+fn of_batch(number: u32) -> Explained {
+    let row = explained(number);
+    let (means, todo) = match number {
+        7 => (
+            "With this entry the table would have more files at once than the box supports.",
+            "Remove files before it in the same batch, or have the box merge small files first. Nothing was committed.",
+        ),
+        21 => (
+            "The file would be added under other columns than those by which the table is divided: one is missing, one is too many, \
+             or one is spelled otherwise.",
+            "Give its partitionValues exactly the partitionColumns of the last metaData line, null where there is no value. Nothing was committed.",
+        ),
+        _ => (row.means, row.todo),
+    };
+    Explained { means, todo, ..row }
 }
 
 impl Told {
@@ -62,13 +82,24 @@ impl Told {
             body => bundle::line(body, refusal.line).map(|line| format!("the line begins: {}", excerpt(line, EXCERPT))),
         });
         let file = file.map(|file| String::from_utf8_lossy(file.name).to_string());
-        Told { refusal, explained: explained(refusal.number()), file, excerpt }
+        Told { refusal, explained: explained(refusal.number()), file, excerpt, of_entry: None }
+    }
+
+    /// Of an entry of a batch: its number, from 1, and what it is.
+    pub fn of_batch(refusal: Refusal, entry: usize, shown: &str) -> Told {
+        Told {
+            refusal,
+            explained: of_batch(refusal.number()),
+            file: None,
+            excerpt: Some(format!("the entry is: {shown}")),
+            of_entry: Some(entry),
+        }
     }
 
     /// The file and the line that it names.
     pub fn place(&self) -> String {
         match (&self.file, self.refusal.line) {
-            (None, _) => String::new(),
+            (None, _) => self.of_entry.map_or(String::new(), |entry| format!(", in entry {entry} of the batch")),
             (Some(file), 0) => format!(", in {file}, at its end"),
             (Some(file), line) => format!(", in {file}, line {line}"),
         }
@@ -80,7 +111,8 @@ impl Told {
     }
 
     pub fn json(&self) -> String {
-        object(&[
+        let of_entry = self.of_entry.map(|entry| ("ofEntry", entry.to_string()));
+        let mut members = vec![
             ("refused", self.refusal.number().to_string()),
             ("entry", self.refusal.entry.to_string()),
             ("line", self.refusal.line.to_string()),
@@ -88,17 +120,23 @@ impl Told {
             ("why", quoted(self.explained.words.as_bytes())),
             ("means", quoted(self.explained.means.as_bytes())),
             ("todo", quoted(self.explained.todo.as_bytes())),
-        ])
+        ];
+        members.extend(of_entry);
+        object(&members)
     }
 }
 
 /// Tells a refusal: as JSON on standard output, or the paper's line there and the words beside it on standard error.
 pub fn tell(refusal: Refusal, bytes: &[u8], json: bool, out: &mut dyn Write) -> Ended {
-    let told = Told::of(refusal, bytes);
+    tell_all(&Told::of(refusal, bytes), json, out)
+}
+
+/// The same of a refusal whose words are known.
+pub fn tell_all(told: &Told, json: bool, out: &mut dyn Write) -> Ended {
     if json {
         writeln!(out, "{}", told.json())?;
     } else {
-        writeln!(out, "{refusal}")?;
+        writeln!(out, "{}", told.refusal)?;
         out.flush()?;
         complain(&told.words());
         for line in told.excerpt.iter().map(String::as_str).chain([told.explained.means, told.explained.todo]) {

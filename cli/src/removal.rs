@@ -3,13 +3,13 @@
 //! Killed anywhere it is safe: the versions from the marker's checkpoint up, and the latest, keep their answers whichever of the named files are gone.
 //! That is a theorem about the rules (demand 3, its last sentence); nothing here depends on the order or the end of the removal.
 
-use std::fs::{self, File};
+use std::fs;
 use std::io;
 use std::path::Path;
 
 use crate::clean::{named, Ask, Named};
 use crate::ending::{system, usage, Fail};
-use crate::folder::{path_shown, Stamp, Times};
+use crate::folder::{path_shown, stop_for_a_test, sync, Stamp, Times};
 use crate::log::ALL;
 use crate::progress::Progress;
 use crate::table::Table;
@@ -105,25 +105,6 @@ fn remove_one(path: &Path, stamp: &Stamp) -> Result<(), String> {
     match fs::remove_file(path) {
         Err(error) if error.kind() != io::ErrorKind::NotFound => Err(format!("{name} cannot be removed: {error}")),
         _ => Ok(()),
-    }
-}
-
-fn sync(log: &Path) -> Result<(), Fail> {
-    match File::open(log).and_then(|folder| folder.sync_all()) {
-        // Some file systems cannot sync a folder, and say so by this.
-        Err(error) if error.kind() != io::ErrorKind::InvalidInput => {
-            system(format!("{} cannot be synced: {error}", path_shown(log)))
-        }
-        _ => Ok(()),
-    }
-}
-
-/// Aborts after the number of removals that KERUMPASE_STOP_AFTER names; in debug builds alone, for the tests.
-fn stop_for_a_test(removed: usize) {
-    if cfg!(debug_assertions)
-        && std::env::var("KERUMPASE_STOP_AFTER").map_or(false, |after| after == removed.to_string())
-    {
-        std::process::abort();
     }
 }
 

@@ -7,13 +7,14 @@ use std::process::Command;
 
 use common::{kerumpase, Folder, Said, KERUMPASE, TOP};
 
-const COMMANDS: [&str; 12] = [
+const COMMANDS: [&str; 13] = [
     "files",
     "due",
     "info",
     "versions",
     "check",
     "clean",
+    "commit",
     "manifests",
     "report",
     "pack",

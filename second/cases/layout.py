@@ -127,6 +127,32 @@ def due(log, time, room=TABLE):
     return b"q" + number(time) + number(room) + string(bundle_of(log))
 
 
+def to_remove(path):
+    """An entry of a list: a path to remove."""
+    return number(0) + string(path)
+
+
+def to_add(path, size=1, time=7, change=1, records=None, pairs=()):
+    """An entry of a list: a file to add; pairs are (column, value), the value a text or None."""
+    entry = number(1) + string(path) + number(size) + number(time) + number(change)
+    entry += number(0) if records is None else number(1) + number(records)
+    entry += number(len(pairs))
+    for column, value in pairs:
+        entry += string(column) + (number(0) if value is None else number(1) + string(value))
+    return entry
+
+
+def listed(*entries):
+    """A list: how many entries, then these."""
+    return number(len(entries)) + b"".join(entries)
+
+
+def write(log, entries, at=0, room=1000, table=TABLE):
+    """Asks for the next version; entries are a list's bytes, or a list of entries."""
+    data = entries if isinstance(entries, bytes) else listed(*entries)
+    return b"w" + number(at) + number(room) + number(table) + string(data) + string(bundle_of(log))
+
+
 def manifests(query, state, room=MANIFESTS):
     return b"m" + number(room) + string(query) + string(state)
 
@@ -176,6 +202,19 @@ def named(entries, refusal=0, entry=0, line=0, rooms=(NAMES, TABLE, TABLE)):
     sums = [room_sum(rooms[0], NAMES, 4, entries, short)]
     sums += [room_sum(room, TABLE, 8, (), short) for room in rooms[1:]]
     return "%d %d %d %d %d %d %d\n" % (refusal, entry, line, len(entries), *sums)
+
+
+def written(at_version, body, at=0, room=1000, table=TABLE):
+    """The answer with a body written: 0xA5 before it and behind it, the table zeros."""
+    data = body if isinstance(body, bytes) else body.encode()
+    out = b"\xa5" * at + data + b"\xa5" * (room - at - len(data))
+    assert len(out) == room
+    return "0 0 0 %d %d %d %d\n" % (at_version, len(data), sum_of(out), room_sum(table, TABLE, 8))
+
+
+def not_written(refusal, entry=0, line=0, room=1000, table=TABLE):
+    sums = (sum_of(b"\xa5" * room), room_sum(table, TABLE, 8, untouched=refusal == 1))
+    return "%d %d %d 0 0 %d %d\n" % (refusal, entry, line, *sums)
 
 
 def shown(text):

@@ -16,12 +16,13 @@ const MOST_KEPT: u64 = 200;
 const ENOUGH: u64 = 10_000;
 
 /// What each letter can answer: refusal numbers, or words where it refuses nothing.
-const REACHABLE: [(char, &str); 8] = [
+const REACHABLE: [(char, &str); 9] = [
     ('r', "0 1 2 3 4 5 6 7 8 9 10 11 18 21"),
     ('l', "0 1 2 3 4 6 7 8 9 10 11 18 21"),
     ('q', "0 1 2 3 4 6 7 8 9 21"),
     ('m', "0 1 10 14 15"),
     ('c', "0 1 2 3 4 6 7 8 9 12 13 21"),
+    ('w', "0 1 2 3 4 6 7 8 9 12 16 17 21"),
     ('d', "path state"),
     ('p', "path empty"),
     ('n', "number missing none"),

@@ -2,12 +2,12 @@
 
 use std::collections::{BTreeMap, BTreeSet};
 
-use crate::actions::{self, Action, Add, MetaData, PartitionValues, Protocol, Skip};
+use crate::actions::{self, Action, MetaData, PartitionValues, Protocol, Skip};
 use crate::lines;
 use crate::log::{Log, Start};
 use crate::refusal::{foreign_keys, malformed, too_many_live, Refusal};
 
-const MOST_LIVE: usize = 1_024;
+pub const MOST_LIVE: usize = 1_024;
 
 /// A live file: where its add's line stands in the bundle, its facts, and what mergeskip lines said
 /// of it since.
@@ -59,10 +59,9 @@ impl State {
     }
 
     /// An add is foreign when its partition keys are not exactly the columns in force, in any order.
-    fn is_foreign(&self, add: &Add) -> bool {
+    pub fn has_foreign_keys<'k>(&self, keys: impl Iterator<Item = &'k Vec<u8>>) -> bool {
         let columns: BTreeSet<&Vec<u8>> = self.columns().iter().collect();
-        let keys: BTreeSet<&Vec<u8>> = add.values.keys().collect();
-        keys != columns
+        keys.collect::<BTreeSet<&Vec<u8>>>() != columns
     }
 
     /// Equal states: the same protocol, the same metadata (id, and columns in order), and the same
@@ -88,7 +87,7 @@ impl State {
                 Action::Protocol(protocol) => self.protocol = protocol,
                 Action::MetaData(meta_data) => self.meta_data = Some(meta_data),
                 Action::Add(add) => {
-                    if kind == File::Version && self.is_foreign(&add) {
+                    if kind == File::Version && self.has_foreign_keys(add.values.keys()) {
                         return Err(foreign_keys(entry, line.number));
                     }
                     let live_file = LiveFile {

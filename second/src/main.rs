@@ -1,6 +1,7 @@
 //! Second implementation of the Kerumpase log reader's rules, to compare the proved one with.
 
 mod actions;
+mod batch;
 mod bundle;
 mod cleaner;
 mod comparer;
@@ -24,6 +25,7 @@ mod refusal;
 mod request;
 mod room;
 mod show;
+mod writer;
 
 use std::fs::File;
 use std::io::{self, BufReader, BufWriter, Read, Write};

@@ -10,6 +10,7 @@ use crate::reading::{self, Ask, Reading};
 use crate::refusal::Refusal;
 use crate::request::{Request, Stop};
 use crate::room;
+use crate::writer::{self, Written};
 
 const MOST_REQUESTS: usize = 1_000_000;
 const ACCEPTED: Refusal = Refusal { number: 0, entry: 0, line: 0 };
@@ -38,6 +39,7 @@ pub fn answer(request: &Request) -> Answer {
         ('q', &[time, room], &[bundle]) => listed(room, |room| reading::read_due(time, bundle, room)),
         ('m', &[room], &[query, state]) => keep(room, query, state),
         ('c', &[now, retention, room, one, two], &[bundle]) => clean(now, retention, [room, one, two], bundle),
+        ('w', &[at, room, table], &[list, bundle]) => write(at, [room, table], list, bundle),
         ('d', _, &[path, directory]) => match manifests::directory(path, directory) {
             Directory::PartOfPath(part) => shown(part, "path"),
             Directory::StateDirectory(name) => shown(name, "state"),
@@ -90,6 +92,18 @@ fn clean(now: u64, retention: u64, rooms: [u64; 3], bundle: &[u8]) -> Answer {
     let sums = [room::sum_of_numbers(&names), room::sum_of_table(&one), room::sum_of_table(&two)];
     let Refusal { entry, line, .. } = refusal;
     refusable(refusal, format!("{entry} {line} {count} {} {} {}", sums[0], sums[1], sums[2]))
+}
+
+fn write(at: u64, rooms: [u64; 2], list: &[u8], bundle: &[u8]) -> Answer {
+    let (mut out, mut table) = (room::bytes(rooms[0]), room::table(rooms[1]));
+    let result = writer::write_next(bundle, list, &mut out, at, &mut table);
+    let (refusal, written) = match result {
+        Ok(written) => (ACCEPTED, written),
+        Err(refusal) => (refusal, Written { version: 0, size: 0 }),
+    };
+    let sums = [room::sum(out), room::sum_of_table(&table)];
+    let Refusal { entry, line, .. } = refusal;
+    refusable(refusal, format!("{entry} {line} {} {} {} {}", written.version, written.size, sums[0], sums[1]))
 }
 
 fn count_or_refusal(result: Result<u64, Refusal>) -> (Refusal, u64) {

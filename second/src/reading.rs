@@ -76,7 +76,7 @@ fn list(room: &mut [u64], found: impl FnOnce() -> Result<(u64, State, Vec<Row>),
 }
 
 /// The version asked for and its state, if the gate lets it be read.
-fn read_state(ask: Ask, bundle: &[u8]) -> Result<(u64, State), Refusal> {
+pub fn read_state(ask: Ask, bundle: &[u8]) -> Result<(u64, State), Refusal> {
     let log = Log::read(bundle)?;
     let version = match ask {
         Ask::Version(version) => version,

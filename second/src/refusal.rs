@@ -24,6 +24,8 @@ pub const NOT_WRITABLE: Refusal = numbered(12);
 pub const CHECKPOINT_DISAGREES: Refusal = numbered(13);
 pub const STATE_MALFORMED: Refusal = numbered(14);
 pub const TOO_MANY_MANIFESTS: Refusal = numbered(15);
+pub const LIST_NOT_ALLOWED: Refusal = numbered(16);
+pub const OUTPUT_TOO_SHORT: Refusal = numbered(17);
 pub const VALUE_OUT_OF_RANGE: Refusal = numbered(18);
 
 /// Refusal 6: a line, or with line 0 a whole file, is malformed.

@@ -13,11 +13,12 @@ pub struct Shape {
 const ANY: u64 = u64::MAX;
 const TABLE: u64 = 6_300;
 const NUMBERS: u64 = 1_100;
+const OUTPUT: u64 = 1_100_000;
 const QUERY: (&str, u64) = ("query", 5_000);
 const BUNDLE: (&str, u64) = ("bundle", 1_100_000);
 const SHORT: u64 = 70_000;
 
-pub const SHAPES: [Shape; 8] = [
+pub const SHAPES: [Shape; 9] = [
     Shape { letter: 'r', numbers: &[("version", ANY), ("room", TABLE)], strings: &[QUERY, BUNDLE] },
     Shape { letter: 'l', numbers: &[("room", TABLE)], strings: &[QUERY, BUNDLE] },
     Shape { letter: 'q', numbers: &[("time", ANY), ("room", TABLE)], strings: &[BUNDLE] },
@@ -26,6 +27,11 @@ pub const SHAPES: [Shape; 8] = [
         letter: 'c',
         numbers: &[("now", ANY), ("retention", ANY), ("room", NUMBERS), ("table one", TABLE), ("table two", TABLE)],
         strings: &[BUNDLE],
+    },
+    Shape {
+        letter: 'w',
+        numbers: &[("at", ANY), ("room", OUTPUT), ("table", TABLE)],
+        strings: &[("list", 1_100_000), BUNDLE],
     },
     Shape { letter: 'd', numbers: &[], strings: &[("path", SHORT), ("directory", SHORT)] },
     Shape { letter: 'p', numbers: &[], strings: &[("line", SHORT)] },

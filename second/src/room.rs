@@ -11,6 +11,10 @@ pub fn numbers(length: u64) -> Vec<u32> {
     vec![u32::from_le_bytes([FILL; 4]); length as usize]
 }
 
+pub fn bytes(length: u64) -> Vec<u8> {
+    vec![FILL; length as usize]
+}
+
 /// The sum of bytes: from 7, for each byte b, h = (h * 257 + b) % 4294967291.
 pub fn sum(bytes: impl IntoIterator<Item = u8>) -> u64 {
     bytes.into_iter().fold(7, |sum, byte| (sum * 257 + u64::from(byte)) % MODULUS)

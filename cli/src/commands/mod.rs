@@ -14,7 +14,7 @@ use std::io::Write;
 
 use crate::ending::Ended;
 use crate::words::{Opt, Words};
-use crate::{clean, help, report};
+use crate::{clean, commit, help, report};
 
 pub struct Command {
     pub name: &'static str,
@@ -33,13 +33,14 @@ const OLDER_THAN: Opt = Opt::Value("--older-than");
 const NOW: Opt = Opt::Value("--now");
 
 /// In the order in which help lists them.
-pub const ALL: [Command; 13] = [
+pub const ALL: [Command; 14] = [
     Command { name: "files", options: &[AT, TEXT, NUMBER, QUERY, JSON], run: files::run },
     Command { name: "due", options: &[AT, JSON], run: due::run },
     Command { name: "info", options: &[AT, JSON], run: info::run },
     Command { name: "versions", options: &[TIME, JSON, PROGRESS], run: versions::run },
     Command { name: "check", options: &[Opt::Value("--jobs"), JSON, PROGRESS], run: check::run },
     Command { name: "clean", options: &[OLDER_THAN, NOW, Opt::Flag("--apply"), TIME, JSON, PROGRESS], run: clean::run },
+    Command { name: "commit", options: &[Opt::Flag("--dry-run"), JSON], run: commit::run },
     Command {
         name: "manifests",
         options: &[TEXT, NUMBER, QUERY, Opt::Value("--state-dir"), JSON],

@@ -1,4 +1,4 @@
-//! Tests of the paper's own examples (P1 to P12, the program) of its other edges, and of C-11, C-14, C-15 and C-22.
+//! Tests of the paper's own examples (P1 to P12, the program) of its other edges, and of C-11, C-12, C-14, C-15 and C-22.
 
 mod clauses;
 mod cleaning;
@@ -7,6 +7,7 @@ mod later_meta_data;
 mod paper;
 mod ranges;
 mod skips;
+mod writing;
 
 use crate::bundle::{self, File};
 use crate::reading::{self, Ask, Reading, ROW, TABLE};

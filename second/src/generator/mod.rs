@@ -1,8 +1,10 @@
 //! The generator: requests that together reach every rule and every refusal, on both sides
 //! of each edge. Request `number` of a seed is always the same.
 
+mod batches;
 mod bundles;
 mod cleanings;
+mod commits;
 mod dice;
 mod dues;
 mod foreign;
@@ -50,7 +52,7 @@ const KINDS: &[(usize, Kind)] = &[
     (4, readings::foreign_when_full),
     (600, dues::skipped),
     (500, dues::any),
-    (60, dues::gate),
+    (150, dues::gate),
     (80, dues::names),
     (60, dues::odd_rooms),
     (3, dues::all_live),
@@ -75,6 +77,18 @@ const KINDS: &[(usize, Kind)] = &[
     (3, cleanings::full),
     (3, cleanings::too_many_live),
     (3, cleanings::foreign_when_full),
+    (700, commits::plain),
+    (500, commits::twisted),
+    (600, commits::odd_list),
+    (300, commits::foreign),
+    (300, commits::gate),
+    (100, commits::highest),
+    (100, commits::names),
+    (80, commits::damaged_bundle),
+    (150, commits::odd_line),
+    (60, commits::odd_rooms),
+    (6, commits::full),
+    (2, commits::one_too_many),
     (200, showings::directory),
     (500, showings::path),
     (500, showings::records),
@@ -130,6 +144,21 @@ mod tests {
             let counts = reached(kind, 60);
             assert!(["21", "7", "6"].iter().all(|number| counts.contains_key(*number)), "{counts:?}");
         }
+    }
+
+    /// Lists are often written and often refused, each clause on both sides.
+    #[test]
+    fn lists_are_written_and_refused() {
+        let counts = reached(commits::plain, 300);
+        assert!(counts["0"] > 80 && counts["17"] > 20, "{counts:?}");
+        let counts = reached(commits::odd_list, 300);
+        assert!(counts["0"] > 8 && counts["16"] > 100, "{counts:?}");
+        let counts = reached(commits::foreign, 300);
+        assert!(counts["21"] > 100 && counts["0"] > 2, "{counts:?}");
+        let counts = reached(commits::highest, 100);
+        assert!(counts["3"] > 12 && counts["0"] > 12, "{counts:?}");
+        let counts = reached(commits::full, 30);
+        assert!(counts["7"] > 3 && counts["0"] > 0, "{counts:?}");
     }
 
     /// Values out of range are often refused, and often stand where they are not.

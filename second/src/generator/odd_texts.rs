@@ -62,7 +62,7 @@ const ESCAPES: [&str; 26] = [
 ];
 
 /// Bytes in strings: UTF-8 on both sides of its edges, and control bytes.
-const RAW_BYTES: [&[u8]; 26] = [
+pub const RAW_BYTES: [&[u8]; 26] = [
     &[0x7F],
     &[0xC2, 0x80],
     &[0xDF, 0xBF],

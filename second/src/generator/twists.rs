@@ -293,7 +293,7 @@ pub fn odd_names(dice: &mut Dice, log: &mut Log) {
 }
 
 /// Checkpoints and version files at the highest version numbers there are.
-fn highest_versions(dice: &mut Dice, log: &mut Log) {
+pub fn highest_versions(dice: &mut Dice, log: &mut Log) {
     let highest = i64::MAX as u64;
     let first = highest - dice.below(3) as u64;
     let state = log.states[log.states.len() - 1].clone();

@@ -1,4 +1,4 @@
-//! The eight functions and the structs of `kerumpase.h`, as C has them. What each answers stands in that header; the crate
+//! The nine functions and the structs of `kerumpase.h`, as C has them. What each answers stands in that header; the crate
 //! `kerumpase` has safe functions over slices. What a caller owes: every pointer is aligned and not null, also where the length
 //! is 0; at least that many elements are there; and a room shares no byte with another room or with a byte string.
 
@@ -63,6 +63,14 @@ pub struct Row {
 
 #[repr(C)]
 #[derive(Clone, Copy, Debug, PartialEq, Eq)]
+pub struct Written {
+    pub refused: Refused,
+    pub version: u64,
+    pub size: usize,
+}
+
+#[repr(C)]
+#[derive(Clone, Copy, Debug, PartialEq, Eq)]
 pub struct DirectoryShown {
     pub of_path: bool,
     pub length: usize,
@@ -122,6 +130,18 @@ extern "C" {
         table_two: *mut u64,
         table_two_length: usize,
     ) -> Counted;
+
+    pub fn kerumpase_write_next(
+        bundle: *const u8,
+        bundle_length: usize,
+        list: *const u8,
+        list_length: usize,
+        out: *mut u8,
+        out_length: usize,
+        at: usize,
+        table: *mut u64,
+        table_length: usize,
+    ) -> Written;
 
     pub fn kerumpase_keep(
         state: *const u8,

@@ -13,6 +13,7 @@ fn shape(letter: u8) -> Option<(&'static [u64], &'static [u64])> {
         b'l' => Some((&[6_300], &[5_000, 1_100_000])),
         b'q' => Some((&[ANY, 6_300], &[1_100_000])),
         b'c' => Some((&[ANY, ANY, 1_100, 6_300, 6_300], &[1_100_000])),
+        b'w' => Some((&[ANY, 1_100_000, 6_300], &[1_100_000, 1_100_000])),
         b'm' => Some((&[1_100], &[5_000, 1_100_000])),
         b'd' => Some((&[], &[70_000, 70_000])),
         b'p' | b'n' => Some((&[], &[70_000])),
@@ -109,6 +110,14 @@ fn answer(input: &mut &[u8]) -> Option<String> {
                 Err(r) => format!("{} {} {} 0", r.number(), r.entry, r.line),
             };
             format!("{said} {} {} {}", sum_32(&names), sum_64(&one), sum_64(&two))
+        }
+        b'w' => {
+            let (mut out, mut table) = (vec![0xA5; n[1] as usize], room_64(n[2]));
+            let said = match lent::write_next(s[1], s[0], &mut out, n[0] as usize, &mut table) {
+                Ok(written) => format!("0 0 0 {} {}", written.version, written.size),
+                Err(r) => format!("{} {} {} 0 0", r.number(), r.entry, r.line),
+            };
+            format!("{said} {} {}", sum(out.iter().copied()), sum_64(&table))
         }
         b'm' => {
             let mut kept = room_32(n[0]);

@@ -2,7 +2,8 @@
 //! any other refusal its first numbers, up to that length, are 0. What is beyond never changes.
 
 use kerumpase_sys::{
-    kerumpase_clean, kerumpase_keep, kerumpase_read_at, kerumpase_read_due, kerumpase_read_latest, Listed,
+    kerumpase_clean, kerumpase_keep, kerumpase_read_at, kerumpase_read_due, kerumpase_read_latest,
+    kerumpase_write_next, Listed,
 };
 pub use kerumpase_sys::{KEPT_ROOM, NAMES_ROOM, ROW, ROWS_ROOM};
 
@@ -83,6 +84,39 @@ pub fn clean(
         )
     };
     Refusal::check(counted.refused).map(|()| counted.count)
+}
+
+/// What was written: the version of the body, and how many bytes it has.
+#[derive(Clone, Copy, Debug, PartialEq, Eq)]
+pub struct Written {
+    pub version: u64,
+    pub size: usize,
+}
+
+/// Writes the body of the version after the latest into `out`, from `out[at]` on. The list is that of a [`crate::Batch`]; the table is lent for the
+/// work. After any refusal `out` is untouched.
+#[inline]
+pub fn write_next(
+    bundle: &[u8],
+    list: &[u8],
+    out: &mut [u8],
+    at: usize,
+    table: &mut [u64],
+) -> Result<Written, Refusal> {
+    let written = unsafe {
+        kerumpase_write_next(
+            bundle.as_ptr(),
+            bundle.len(),
+            list.as_ptr(),
+            list.len(),
+            out.as_mut_ptr(),
+            out.len(),
+            at,
+            table.as_mut_ptr(),
+            table.len(),
+        )
+    };
+    Refusal::check(written.refused).map(|()| Written { version: written.version, size: written.size })
 }
 
 /// The numbers of the manifests that a query keeps, ascending, and how many there are.

@@ -19,8 +19,10 @@ mod lines;
 mod manifests;
 mod reading;
 mod refusal;
+mod writing;
 
 pub use lines::{path_of, records_of, Records};
 pub use manifests::{directory, keep};
 pub use reading::{clean, read_at, read_due, read_latest, File, Listing, Row};
 pub use refusal::{Reason, Refusal};
+pub use writing::{write_next, Added, Batch, Next};

@@ -2,8 +2,8 @@
 
 use std::fmt;
 
-/// Why an entry refused. `ListRefused`, `OutputTooShort`, `ContainerMalformed` and `OtherSchema` are not given yet: they are for entries that are to
-/// come. Later editions of the paper have more numbers; one that this crate does not know is `Other`.
+/// Why an entry refused. `ContainerMalformed` and `OtherSchema` are not given yet: they are for entries that are to come. Later editions of the paper
+/// have more numbers; one that this crate does not know is `Other`.
 #[non_exhaustive]
 #[derive(Clone, Copy, Debug, PartialEq, Eq, Hash)]
 pub enum Reason {
@@ -81,7 +81,8 @@ impl Reason {
 }
 
 /// A refusal. `Malformed`, `TooManyLive` and `ForeignKeys` name a file of the bundle by its entry, from 0, and a line of it, from 1 (0: something
-/// is missing at the file's end); all others have 0 in both.
+/// is missing at the file's end); all others have 0 in both. `write_next` names an entry of its batch, from 1, by the line, with the number of the
+/// bundle's files as the entry.
 #[non_exhaustive]
 #[derive(Clone, Copy, Debug, PartialEq, Eq, Hash)]
 pub struct Refusal {

@@ -70,3 +70,53 @@ fn a_skipped_file_is_due_from_its_time_on() {
     let file = due.files().next().expect("one is due");
     assert_eq!((file.path, file.size, file.skip_count, file.retry_after), (&b"b"[..], 4, 2, 100));
 }
+
+#[test]
+fn a_batch_becomes_the_next_version() {
+    use kerumpase::bundle::{self, File};
+    use kerumpase::{Added, Batch, Reason};
+    let zero = br#"{"metaData":{"id":"t","partitionColumns":["year","class"]}}"#;
+    let bundle = bundle::write(&[File { name: b"00000000000000000000.json", time: 0, body: zero }]).expect("it fits");
+    let mut batch = Batch::new();
+    assert!(batch.is_empty());
+    assert_eq!(kerumpase::write_next(&bundle, &batch).expect_err("empty").reason, Reason::ListRefused);
+    let values: [(&[u8], Option<&[u8]>); 2] = [(b"class", Some(b"\x1f\"7a\\")), (b"year", None)];
+    let file = Added {
+        path: "é\n".as_bytes(),
+        size: i64::MAX as u64,
+        modification_time: 0,
+        data_change: false,
+        num_records: Some(0),
+        partition_values: &values,
+    };
+    batch.add(&file);
+    batch.remove(b"a");
+    assert_eq!((batch.len(), &batch.list()[..16]), (2, &[2, 0, 0, 0, 0, 0, 0, 0, 1, 0, 0, 0, 0, 0, 0, 0][..]));
+    let next = kerumpase::write_next(&bundle, &batch).expect("answered");
+    let lines = r#"{"add":{"path":"é\u000a","partitionValues":{"class":"\u001f\"7a\\","year":null},"size":9223372036854775807,"modificationTime":0,"dataChange":false,"numRecords":0}}
+{"remove":{"path":"a","dataChange":true}}
+"#;
+    assert_eq!((next.version, next.name().as_str()), (1, "00000000000000000001.json"));
+    assert_eq!(String::from_utf8(next.body).expect("UTF-8"), lines);
+    // The widest body of a list, and a room that is too short by a byte.
+    let mut wide = Batch::new();
+    wide.remove(&[1; 512]);
+    let size = kerumpase::write_next(&bundle, &wide).expect("answered").body.len();
+    assert_eq!(size, 6 * 512 + 41);
+    let mut table = [7; kerumpase::lent::ROWS_ROOM + 1];
+    let mut out = vec![9; size + 4];
+    let refused = kerumpase::lent::write_next(&bundle, &wide.list(), &mut out, 5, &mut table);
+    assert_eq!(refused.expect_err("too short").reason, Reason::OutputTooShort);
+    assert!(out.iter().all(|&byte| byte == 9) && table[..table.len() - 1].iter().all(|&n| n == 0));
+    let written = kerumpase::lent::write_next(&bundle, &wide.list(), &mut out, 3, &mut table).expect("answered");
+    assert_eq!(
+        (written.version, written.size, &out[..4], out[size + 3], table[table.len() - 1]),
+        (1, size, &b"\x09\x09\x09{"[..], 9, 7)
+    );
+    // An entry of the batch is named with the number of files as the entry.
+    let mut foreign = Batch::new();
+    foreign.remove(b"a");
+    foreign.add(&Added { partition_values: &values[..1], ..file });
+    let refused = kerumpase::write_next(&bundle, &foreign).expect_err("foreign");
+    assert_eq!((refused.reason, refused.entry, refused.line), (Reason::ForeignKeys, 1, 2));
+}

@@ -1,0 +1,3 @@
+-- What the emitter promises, in the rules' terms.
+pub mod Emits
+pub mod Lines

@@ -1,0 +1,2 @@
+-- What the writers of texts promise, in the rules' terms.
+pub mod Room
