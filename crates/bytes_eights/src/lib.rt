@@ -1,4 +1,6 @@
 // Bytes of lent texts, eight at a time: what two texts have in common, and how many bytes are plain characters.
+#![tactic(auto)]
+
 mod eights;
 
 ghost use Rattle.std.specs.Prelude.{◌+◌, ◌≤◌, length};

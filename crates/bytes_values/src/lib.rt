@@ -1,5 +1,7 @@
 // What the text of a value says: a whole number, null, a boolean; and how byte strings stand to each other.
 // Each function answers for every text that it is lent.
+#![tactic(auto)]
+
 ghost use Rattle.std.specs.Prelude.{◌≡◌, ◌-◌, ◌≤◌, length};
 ghost use Rattle.rules.specs.Bytes.{same, begins, order};
 ghost use Rattle.rules.specs.Numbers.{decimal};
@@ -44,7 +46,7 @@ pub fn same_bytes(a: &[u8], b: &[u8]) -> bool
 }
 
 // The result of a comparison.
-#[derive(Drop)]
+#[derive(Clone, Copy)]
 pub enum Order {
     Less,
     Equal,
@@ -94,7 +96,7 @@ pub fn is_null(v: &[u8]) -> bool
 }
 
 // A boolean, where a value is one.
-#[derive(Drop)]
+#[derive(Clone, Copy)]
 pub enum Truth {
     True,
     False,
@@ -117,7 +119,7 @@ pub fn truth_of(v: &[u8]) -> Truth
 // ---- digits
 
 // The number of digits, where they are digits.
-#[derive(Drop)]
+#[derive(Clone, Copy)]
 pub enum Digits {
     Value(u64),
     NotDigits,
@@ -156,7 +158,7 @@ pub fn short_digits(v: &[u8]) -> Digits
 // ---- whole numbers
 
 // A whole number from 0 to 2^63 - 1, where a value is one.
-#[derive(Drop)]
+#[derive(Clone, Copy)]
 pub enum Whole {
     Number(u64),
     NotWhole,

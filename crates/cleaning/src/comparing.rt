@@ -25,7 +25,7 @@ use rooms::MOST_LIVE;
 // ---- two states
 
 // The checkpoint is readable, writable and as the history is; or a refusal.
-#[derive(Drop)]
+#[derive(Clone, Copy)]
 pub enum Compared {
     Agree,
     Refused(Refusal),
@@ -103,7 +103,7 @@ fn compare(
 // ---- the ruling
 
 // The version files before a version may go, if they are old; or nothing is named; or a refusal.
-#[derive(Drop)]
+#[derive(Clone, Copy)]
 pub enum Ruling {
     Before(Version),
     Nothing,

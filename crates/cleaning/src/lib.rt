@@ -1,4 +1,6 @@
 // The cleaner: which version files may go, once the checkpoint that the marker names agrees with the history behind it.
+#![tactic(auto)]
+
 mod comparing;
 
 ghost use Rattle.std.specs.Prelude.{◌≡◌, ◌&&◌, ◌≤◌, ◌<◌, ltb, length};
@@ -79,7 +81,7 @@ fn name_old(src: &[u8], c: Version, today: Millis, retention: Millis, names: &mu
 // ---- the entry
 
 // How many entries are named; or a refusal.
-#[derive(Drop)]
+#[derive(Clone, Copy)]
 pub enum Cleaned {
     Named(usize),
     Refused(Refusal),

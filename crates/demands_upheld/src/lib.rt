@@ -1,1 +1,2 @@
 // Statements and proofs only: see specs/ and proofs/.
+#![tactic(auto)]

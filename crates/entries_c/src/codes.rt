@@ -7,7 +7,7 @@ use refusals::Refusal;
 
 // The paper's number, 0 where the answer is accepted; the entry and the line that 6, 7 and 21 name, else 0.
 #[repr(C)]
-#[derive(Drop)]
+#[derive(Clone, Copy)]
 pub struct Refused {
     pub number: u32,
     pub entry: usize,
@@ -16,7 +16,7 @@ pub struct Refused {
 
 // How many numbers are in the room; 0 where refused.
 #[repr(C)]
-#[derive(Drop)]
+#[derive(Clone, Copy)]
 pub struct Counted {
     pub refused: Refused,
     pub count: usize,

@@ -1,5 +1,7 @@
 // The entries for firmware that is not Rattle, over C's calling convention: a slice is a pointer and a length, an answer a struct by value.
 // include/kerumpase.h declares them.
+#![tactic(auto)]
+
 mod cleans;
 mod codes;
 mod reads;

@@ -11,7 +11,7 @@ use reading::Read;
 
 // The version, how many rows are in the room, the numbers of the protocol, and whether the table is writable; all 0 where refused.
 #[repr(C)]
-#[derive(Drop)]
+#[derive(Clone, Copy)]
 pub struct FilesListed {
     pub refused: Refused,
     pub version: u64,

@@ -7,7 +7,7 @@ use shown::{Adding, Shown};
 
 // Where the path stands in the line.
 #[repr(C)]
-#[derive(Drop)]
+#[derive(Clone, Copy)]
 pub struct Place {
     pub start: usize,
     pub length: usize,
@@ -39,7 +39,7 @@ const STATED: u32 = 2;
 
 // Whether the line is a well-formed add and states its records; their number, else 0.
 #[repr(C)]
-#[derive(Drop)]
+#[derive(Clone, Copy)]
 pub struct RecordsShown {
     pub stated: u32,
     pub number: u64,

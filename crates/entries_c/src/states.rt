@@ -28,7 +28,7 @@ pub extern "C" fn kerumpase_keep(state: &[u8], q: &[u8], kept: &mut [u32]) -> Co
 
 // The first `length` bytes of the path, or of the state's directory.
 #[repr(C)]
-#[derive(Drop)]
+#[derive(Clone, Copy)]
 pub struct DirectoryShown {
     pub of_path: bool,
     pub length: usize,

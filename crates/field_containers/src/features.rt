@@ -90,7 +90,7 @@ pub fn all_known(s: &[u8], at: usize, writer: bool) -> bool
 }
 
 // Features, by where their strings begin (0 where none are stated) and whether all are known; or none.
-#[derive(Drop)]
+#[derive(Clone, Copy)]
 pub enum Features {
     Listed(usize, bool),
     NoFeatures,

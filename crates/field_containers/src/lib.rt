@@ -1,4 +1,6 @@
 // Fields that hold others: arrays of strings, partition values, features, columns.
+#![tactic(auto)]
+
 mod features;
 mod fitting;
 mod lists;

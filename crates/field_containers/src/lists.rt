@@ -10,7 +10,7 @@ use json_tokens::CLOSE_BRACKET;
 use json_values::Tail;
 
 // How many strings an array holds, and the position behind it; or that it is no array of strings.
-#[derive(Drop)]
+#[derive(Clone, Copy)]
 pub enum Strings {
     Good(usize, usize),
     NotStrings,

@@ -75,7 +75,7 @@ fn many_values(s: &[u8], at: usize) -> bool
 
 // Where the names of partition values stand, where they are one or two, as usual: the first from just after the brace up to `end`, the second from
 // `second` up to `close`; `second` is 0 where there is none. Nothing is told of more, of none, and after white space: `end` is 0.
-#[derive(Drop)]
+#[derive(Clone, Copy)]
 pub struct Usual {
     pub end: usize,
     pub second: usize,
@@ -83,7 +83,7 @@ pub struct Usual {
 }
 
 // Members that are partition values, and where their names stand; or that they are none.
-#[derive(Drop)]
+#[derive(Clone, Copy)]
 enum Judged {
     Good(Usual),
     NotGood,
@@ -172,7 +172,7 @@ fn are_values(s: &[u8], at: usize) -> Judged
 }
 
 // Partition values, by the position behind their brace and where their names stand; or none.
-#[derive(Drop)]
+#[derive(Clone, Copy)]
 pub enum Values {
     Behind(usize, Usual),
     NoValues,
@@ -199,7 +199,7 @@ pub fn values_in(s: &[u8], slot: Slot) -> Values
 // ---- arrays of strings
 
 // An array of strings, by the position behind its bracket, and how many; or none.
-#[derive(Drop)]
+#[derive(Clone, Copy)]
 pub enum Array {
     Of(usize, usize),
     NoArray,
@@ -220,7 +220,7 @@ pub fn array_at(s: &[u8], v: usize, e: usize) -> Array
 }
 
 // Partition columns, by the position behind their bracket; or none.
-#[derive(Drop)]
+#[derive(Clone, Copy)]
 pub enum Columns {
     Within(usize),
     NoColumns,

@@ -7,7 +7,7 @@ use json_strings::Spelling;
 use json_tokens::{Next, QUOTE};
 
 // A name as it stands: behind its opening quote, behind its closing quote, and whether it is spelled as the bytes that it stands for.
-#[derive(Drop)]
+#[derive(Clone, Copy)]
 pub struct Spell {
     pub at: usize,
     pub end: usize,
@@ -15,7 +15,7 @@ pub struct Spell {
 }
 
 // A name in its quotes, or none.
-#[derive(Drop)]
+#[derive(Clone, Copy)]
 pub enum Name {
     Of(Spell),
     NoName,

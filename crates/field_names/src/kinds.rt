@@ -5,7 +5,7 @@ ghost use Rattle.rules.specs.Bytes.{same};
 ghost use Rattle.field_names.specs.Kinds.{names_of, seek};
 
 // The objects whose members have names of their own.
-#[derive(Drop)]
+#[derive(Clone, Copy)]
 pub enum Kind {
     Line,
     Add,

@@ -1,4 +1,6 @@
 // The names of members: read as they stand, compared, and known by their place among the names of their kind of object.
+#![tactic(auto)]
+
 mod keys;
 mod kinds;
 mod places;

@@ -54,7 +54,7 @@ pub fn which(s: &[u8], n: Spell, kind: Kind) -> usize
 // ---- names that are read
 
 // A name in its quotes, with its place; or none.
-#[derive(Drop)]
+#[derive(Clone, Copy)]
 pub enum Known {
     Name(Spell, usize),
     NoName,

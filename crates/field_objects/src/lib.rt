@@ -1,4 +1,6 @@
 // The members of JSON objects by their names, in one pass over a lent text.
+#![tactic(auto)]
+
 mod lookup;
 mod notes;
 mod objects;

@@ -9,7 +9,7 @@ use json_tokens::CLOSE_BRACE;
 use json_values::Tail;
 
 // From where to where the value stands, or that there is none.
-#[derive(Drop)]
+#[derive(Clone, Copy)]
 pub enum Found {
     At(usize, usize),
     Missing,

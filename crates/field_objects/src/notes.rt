@@ -6,7 +6,7 @@ ghost use Rattle.field_objects.specs.Slots.{no_fields, one_more, slot_by};
 const NOWHERE: usize = 0;
 
 // How often a field stands in an object (2 for more), and where its value is if once.
-#[derive(Drop)]
+#[derive(Clone, Copy)]
 pub struct Slot {
     pub seen: usize,
     pub start: usize,
@@ -14,7 +14,7 @@ pub struct Slot {
 }
 
 // What an object holds: whether it is one, the position behind it, and a slot for each name of its kind, at most eight.
-#[derive(Drop)]
+#[derive(Clone, Copy)]
 pub struct Fields {
     pub good: bool,
     pub end: usize,

@@ -14,7 +14,7 @@ use json_tokens::{CLOSE_BRACE, COLON, Next, QUOTE};
 use json_values::Tail;
 
 // A member: its name, and from where to where its value stands; or none.
-#[derive(Drop)]
+#[derive(Clone, Copy)]
 pub enum Met {
     Member(Spell, usize, usize),
     NoMember,

@@ -1,4 +1,6 @@
 // The fields of an action by their slots: strings, paths, numbers and booleans, as the rules read them.
+#![tactic(auto)]
+
 ghost use Rattle.std.specs.Prelude.{◌≡◌, ◌≤◌, ◌-◌, length, take, drop};
 ghost use Rattle.rules.specs.Json.Fields.{string_of};
 ghost use Rattle.bytes_values.specs.Answers.{whole_is, truth_is};
@@ -22,7 +24,7 @@ const MOST_INT: u64 = 2_147_483_647;
 // ---- strings
 
 // A string: the position behind its opening quote, and the number of bytes that it stands for; or none.
-#[derive(Drop)]
+#[derive(Clone, Copy)]
 pub enum Wording {
     Sized(usize, usize),
     NoString,
@@ -54,7 +56,7 @@ pub fn string_at(s: &[u8], v: usize, e: usize) -> Wording
 }
 
 // A path, by the position behind its opening quote; or none.
-#[derive(Drop)]
+#[derive(Clone, Copy)]
 pub enum Path {
     Spelled(usize),
     NoPath,
@@ -148,7 +150,7 @@ pub fn truth_in(s: &[u8], slot: Slot) -> Truth
 }
 
 // From where to where the value of a field stands; or the field is missing or null, which are alike; or it stands twice.
-#[derive(Drop)]
+#[derive(Clone, Copy)]
 pub enum Optional {
     At(usize, usize),
     Missing,
@@ -175,7 +177,7 @@ pub fn optional_in(s: &[u8], slot: Slot) -> Optional
 }
 
 // A number of records, or that none is stated, or that what is stated is no number.
-#[derive(Drop)]
+#[derive(Clone, Copy)]
 pub enum Records {
     Number(u64),
     Missing,

@@ -1,5 +1,7 @@
 // The bundle: which byte strings are well-formed, and of one that is, each file's name, body and modified time.
 // Names and bodies are handed on as parts of the bundle; nothing is copied.
+#![tactic(auto)]
+
 mod sized;
 
 ghost use Rattle.std.specs.Prelude.{◌≡◌, true, ◌+◌, ◌*◌, ◌≤◌, ◌<◌, length, drop, get_or};
@@ -157,7 +159,7 @@ fn ascends(s: &[u8], n: usize, k: usize) -> bool
 }
 
 // Where the next body is to start.
-#[derive(Drop)]
+#[derive(Clone, Copy)]
 enum Next {
     At(usize),
     Bad,
@@ -208,7 +210,7 @@ fn filled(s: &[u8], n: usize) -> bool
 }
 
 // What a byte string is as a bundle.
-#[derive(Drop)]
+#[derive(Clone, Copy)]
 pub enum Opened {
     Entries(usize),
     Malformed,
@@ -240,7 +242,7 @@ pub fn open(s: &[u8]) -> Opened
 // ---- the files of a well-formed bundle
 
 // An entry of the contents: the length of its name, and the start and length of its body.
-#[derive(Drop)]
+#[derive(Clone, Copy)]
 pub struct Entry {
     pub name: usize,
     pub start: usize,

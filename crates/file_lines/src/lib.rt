@@ -1,4 +1,6 @@
 // The lines of a body, as parts of the bundle that it lies in.
+#![tactic(auto)]
+
 ghost use Rattle.std.specs.Prelude.{◌≡◌, false, ◌≤◌, ◌+◌, length};
 ghost use Rattle.rules.specs.Actions.{is_line};
 ghost use Rattle.file_lines.specs.Ends.{EndsLine, Free};

@@ -1,5 +1,7 @@
 // What a name in the bundle says: a version file, a checkpoint, the marker, or nothing that is read.
 // Every byte string has an answer.
+#![tactic(auto)]
+
 ghost use Rattle.std.specs.Prelude.{◌≡◌, ◌≤◌, length, take, [], ◌∷◌};
 ghost use Rattle.rules.specs.Numbers.{decimal, decimal_from};
 ghost use Rattle.rules.specs.Bytes.{ascii, begins};
@@ -9,15 +11,15 @@ ghost use Rattle.file_names.specs.Names.{name_is, digits_is, two_zeros};
 use bytes_values::MOST;
 
 // The number of a version. It is never compared with a time.
-#[derive(Drop)]
+#[derive(Clone, Copy)]
 pub struct Version(pub u64);
 
 // A time in milliseconds. It is never compared with a version.
-#[derive(Drop)]
+#[derive(Clone, Copy)]
 pub struct Millis(pub u64);
 
 // What a name says.
-#[derive(Drop)]
+#[derive(Clone, Copy)]
 pub enum Name {
     VersionFile(Version),
     Checkpoint(Version),
@@ -33,7 +35,7 @@ pub const DIGITS: usize = 20;
 const ROOM: u64 = 922337203685477580;
 
 // What twenty bytes are: a version, a number above the highest, or no digits.
-#[derive(Drop)]
+#[derive(Clone, Copy)]
 enum Digits {
     Number(u64),
     Above,

@@ -15,7 +15,7 @@ const LOW: u32 = 0xDC00;
 const BEYOND: u32 = 0xE000;
 
 // The number that a byte stands for, or that it stands for none.
-#[derive(Drop)]
+#[derive(Clone, Copy)]
 enum Meant {
     Number(u8),
     Nothing,
@@ -58,7 +58,7 @@ fn wide(n: u8) -> u32
 }
 
 // A code point (or the code unit of one) and the position behind it, or that none stands there.
-#[derive(Drop)]
+#[derive(Clone, Copy)]
 pub enum Code {
     Point(u32, usize),
     NoCode,

@@ -1,4 +1,6 @@
 // The characters of JSON's strings, as they are, in UTF-8, or escaped; and strings up to their closing quote.
+#![tactic(auto)]
+
 mod escapes;
 mod plain;
 mod strings;

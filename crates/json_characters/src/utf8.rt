@@ -24,7 +24,7 @@ pub fn is_plain(b: u8) -> bool
 }
 
 // What the first byte of a longer character says of the others: from where to where the second ranges, and how many tails follow.
-#[derive(Drop)]
+#[derive(Clone, Copy)]
 enum Lead {
     Of(u8, u8, usize),
     NoLead,

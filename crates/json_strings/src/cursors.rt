@@ -58,7 +58,7 @@ fn utf8_byte(code: u32, left: usize) -> u8
 // ---- byte after byte
 
 // Where a reader of a string stands: the last `left` bytes of the code point `code` are to come, and then what is spelled from `at` on.
-#[derive(Drop)]
+#[derive(Clone, Copy)]
 pub struct Cursor {
     pub at: usize,
     pub code: u32,
@@ -66,7 +66,7 @@ pub struct Cursor {
 }
 
 // A byte that a string stands for, and where the reader stands behind it; or the string's end.
-#[derive(Drop)]
+#[derive(Clone, Copy)]
 pub enum Step {
     Byte(u8, Cursor),
     End,

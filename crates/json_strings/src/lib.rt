@@ -1,4 +1,6 @@
 // JSON strings by the bytes that they stand for, with no copy. A string is a slice and the position behind its opening quote.
+#![tactic(auto)]
+
 mod cursors;
 mod pairs;
 mod single;

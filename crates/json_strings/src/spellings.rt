@@ -7,7 +7,7 @@ use json_tokens::{BACKSLASH, Next, QUOTE};
 
 // What stands behind an opening quote: a string that is spelled as the bytes that it stands for, or one with escapes,
 // each with the position behind it; or no string.
-#[derive(Drop)]
+#[derive(Clone, Copy)]
 pub enum Spelling {
     Plain(usize),
     Escaped(usize),

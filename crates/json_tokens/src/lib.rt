@@ -1,4 +1,6 @@
 // JSON's tokens: white space, single bytes, words, numbers; and the bytes that JSON's text is put together with.
+#![tactic(auto)]
+
 mod numbers;
 mod tokens;
 

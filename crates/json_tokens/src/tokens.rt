@@ -5,7 +5,7 @@ ghost use Rattle.rules.specs.Json.Text.{is_ws, ws, byte, word};
 ghost use Rattle.json_tokens.specs.Answers.{Answer, Skips};
 
 // The position behind the thing that was asked for, or that no such thing stands there.
-#[derive(Drop)]
+#[derive(Clone, Copy)]
 pub enum Next {
     At(usize),
     Bad,

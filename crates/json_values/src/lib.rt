@@ -1,5 +1,7 @@
 // The grammar of JSON (RFC 8259) over a lent text: values, objects and arrays, read at a position; each answers the position behind what it read.
 // The four that call each other answer it as a plain number, in a register, and 0 where there is none: no position behind something is 0.
+#![tactic(auto)]
+
 ghost use Rattle.std.specs.Prelude.{◌≡◌, ℕ, ◌≤◌, ◌<◌, ◌+◌, length, drop, get_or};
 ghost use Rattle.rules.specs.Json.Text.{behind};
 ghost use Rattle.rules.specs.Json.Values.{opening as rule_opening, closing as rule_closing, colon, member, contents, elements, scalar, value as rule_value};
@@ -15,7 +17,7 @@ use json_tokens::{
 };
 
 // What stands behind the byte that opens a container, or behind one of its items: the closing byte, one more item, or neither.
-#[derive(Drop)]
+#[derive(Clone, Copy)]
 pub enum Tail {
     Closed(usize),
     More(usize),

@@ -7,28 +7,28 @@ ghost use Rattle.line_actions.specs.Asked.{AddOf, ProtocolOf, TableOf, spoken_is
 use crate::line::{Action, Added, Stated, Tabled, classify};
 
 // The add that a line says; or that it says none.
-#[derive(Drop)]
+#[derive(Clone, Copy)]
 pub enum SaidAdd {
     Add(Added),
     NoAdd,
 }
 
 // The protocol that a line says; or that it says none.
-#[derive(Drop)]
+#[derive(Clone, Copy)]
 pub enum SaidProtocol {
     Protocol(Stated),
     NoProtocol,
 }
 
 // The metaData that a line says; or that it says none.
-#[derive(Drop)]
+#[derive(Clone, Copy)]
 pub enum SaidTable {
     Table(Tabled),
     NoTable,
 }
 
 // Whether a line says the metadata, or something else, or nothing: it is not well formed.
-#[derive(Drop)]
+#[derive(Clone, Copy)]
 pub enum Spoken {
     Table,
     Else,

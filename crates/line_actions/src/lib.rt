@@ -1,4 +1,6 @@
 // What a line of a log says: its action, with the facts that the fields of the action state.
+#![tactic(auto)]
+
 mod acts;
 mod asked;
 mod line;

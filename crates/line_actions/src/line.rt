@@ -31,7 +31,7 @@ const MERGESKIP: usize = 4;
 
 // An add: where its path is spelled in the line (behind the opening quote, and at the closing one), its numbers,
 // where the members of its partition values begin (behind the brace), and where their names stand.
-#[derive(Drop)]
+#[derive(Clone, Copy)]
 pub struct Added {
     pub path: usize,
     pub end: usize,
@@ -44,7 +44,7 @@ pub struct Added {
 
 // A protocol: its numbers, whether its features are all known to readers and to writers, and where the strings of its
 // features begin (behind the bracket; 0 where none are stated).
-#[derive(Drop)]
+#[derive(Clone, Copy)]
 pub struct Stated {
     pub reader: u64,
     pub writer: u64,
@@ -55,14 +55,14 @@ pub struct Stated {
 }
 
 // A metaData: where its id is spelled (behind the opening quote), and where the strings of its partition columns begin (behind the bracket).
-#[derive(Drop)]
+#[derive(Clone, Copy)]
 pub struct Tabled {
     pub id: usize,
     pub columns: usize,
 }
 
 // A mergeskip: where its path is spelled (behind the opening quote), how often the file was skipped, and when it may be tried again.
-#[derive(Drop)]
+#[derive(Clone, Copy)]
 pub struct Skipped {
     pub path: usize,
     pub count: u64,
@@ -70,7 +70,7 @@ pub struct Skipped {
 }
 
 // What a line says. A remove by the position behind the opening quote of its path.
-#[derive(Drop)]
+#[derive(Clone, Copy)]
 pub enum Action {
     Add(Added),
     Remove(usize),
@@ -84,7 +84,7 @@ pub enum Action {
 // ---- the line
 
 // The key of a line's one member, by its place among the names of a line, and where its value begins; or none.
-#[derive(Drop)]
+#[derive(Clone, Copy)]
 pub enum Keyed {
     Value(usize, usize),
     NoKey,

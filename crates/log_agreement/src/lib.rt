@@ -1,5 +1,7 @@
 // Whether two states agree, as the cleaner tests it: the metadata and the protocols in force, and the live files row by row, each by the
 // facts in the line of its add.
+#![tactic(auto)]
+
 mod features;
 mod partitions;
 mod tables;

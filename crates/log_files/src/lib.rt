@@ -1,4 +1,6 @@
 // The files of a log in a well-formed bundle, found by what their names say. Names ascend, so that each look halves what is left.
+#![tactic(auto)]
+
 ghost use Rattle.std.specs.Prelude.{◌≡◌, ◌++◌, ◌≤◌, ◌<◌, length, take, drop};
 ghost use Rattle.rules.specs.Bundle.{IsBundle};
 ghost use Rattle.rules.specs.Starts.{log_of};
@@ -13,7 +15,7 @@ use file_names::{DIGITS, Version};
 const NEAR: usize = 4;
 
 // Where a file stands among the entries.
-#[derive(Drop)]
+#[derive(Clone, Copy)]
 pub enum Place {
     At(usize),
     Nowhere,

@@ -1,4 +1,6 @@
 // The gate: whether the protocol in force is readable, and whether it is writable.
+#![tactic(auto)]
+
 ghost use Rattle.std.specs.Prelude.{◌≡◌, ◌&&◌, leb};
 ghost use Rattle.rules.specs.Actions.{Protocol as RuleProtocol, unstated as rule_unstated};
 ghost use Rattle.rules.specs.Gate.{known_writer};
@@ -21,7 +23,7 @@ const KNOWN_WRITER: u64 = 3;
 const UNSTATED: u64 = 1;
 
 // A readable protocol: its numbers, and whether it is writable.
-#[derive(Drop)]
+#[derive(Clone, Copy)]
 pub struct Numbers {
     pub reader: u64,
     pub writer: u64,
@@ -29,7 +31,7 @@ pub struct Numbers {
 }
 
 // A protocol is refused, for its number or for a feature; or it is readable.
-#[derive(Drop)]
+#[derive(Clone, Copy)]
 pub enum Verdict {
     TooHigh,
     Unknown,

@@ -14,7 +14,7 @@ use log_replay::{Outcome, State};
 use rooms::MOST_LIVE;
 
 // The latest version, and the state there or a refusal.
-#[derive(Drop)]
+#[derive(Clone, Copy)]
 pub struct Latest {
     pub version: Version,
     pub reached: Outcome,
@@ -45,7 +45,7 @@ fn from_checkpoint(src: &[u8], k: usize, n: Version, st: State, t: &mut [u64]) -
 }
 
 // What the checkpoint that the marker names gives.
-#[derive(Drop)]
+#[derive(Clone, Copy)]
 enum Marked {
     Read(usize, Version, State), // its entry, its version, and the state that its lines give
     NotRead, // none is named or found, its lines or those of version 0 are refused, or it says no metadata

@@ -1,4 +1,6 @@
 // The state of a log at a version, and at the latest one: version 0, the start, and the version files behind it.
+#![tactic(auto)]
+
 mod history;
 mod latest;
 

@@ -13,7 +13,7 @@ use refusals::Refusal;
 const MIDDLE: usize = 512;
 
 // The lines of version 0 that say its metaData and its protocol, and where the strings of the partition columns begin in the first.
-#[derive(Drop)]
+#[derive(Clone, Copy)]
 struct Said {
     table: Span,
     columns: usize,
@@ -21,7 +21,7 @@ struct Said {
 }
 
 // What is said with one line more; or the refusal of that line, which version 0 may not have.
-#[derive(Drop)]
+#[derive(Clone, Copy)]
 enum Saying {
     Next(Said),
     Refused(Refusal),

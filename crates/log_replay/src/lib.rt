@@ -1,5 +1,7 @@
 // The lines of a log's files, applied in order to a lent table of live rows. Beside the table a state is carried by the
 // places of lines in the bundle, and of the columns in the metaData's: nothing is copied.
+#![tactic(auto)]
+
 mod begin;
 
 ghost use Rattle.std.specs.Prelude.{◌≡◌, ◌+◌, ◌≤◌, ◌<◌, length};
@@ -23,7 +25,7 @@ use row_live::{Found, Standing};
 use row_table::Cells;
 
 // A line of the bundle; of size 0 where there is none.
-#[derive(Drop)]
+#[derive(Clone, Copy)]
 pub struct Span {
     pub at: usize,
     pub size: usize,
@@ -31,7 +33,7 @@ pub struct Span {
 
 // What a log says so far: the lines of the metaData and the protocol in force, where the strings of the partition columns begin in the
 // first (behind the bracket), and how many rows of the table are live, behind so many that are free.
-#[derive(Drop)]
+#[derive(Clone, Copy)]
 pub struct State {
     pub table: Span,
     pub columns: usize,
@@ -43,7 +45,7 @@ pub struct State {
 // ---- one line
 
 // Where the rows stand; or the row is one too many.
-#[derive(Drop)]
+#[derive(Clone, Copy)]
 enum Put {
     Rows(Standing),
     Full,
@@ -71,7 +73,7 @@ fn put_row(src: &[u8], t: &mut [u64], base: usize, n: usize, limit: usize, c: Ce
 }
 
 // What a line did, or a file, or the files of a way: the state now; or the refusal of a line.
-#[derive(Drop)]
+#[derive(Clone, Copy)]
 pub enum Outcome {
     Done(State),
     Refused(Refusal),

@@ -1,4 +1,6 @@
 // The start from which a version is read, the marker, and the latest version, in a well-formed bundle.
+#![tactic(auto)]
+
 ghost use Rattle.std.specs.Prelude.{◌≡◌, true, ◌-◌, ◌≤◌};
 ghost use Rattle.rules.specs.Numbers.{most};
 ghost use Rattle.rules.specs.Bundle.{IsBundle};
@@ -96,7 +98,7 @@ pub fn start_at(s: &[u8], v: Version, near: usize) -> Place
 }
 
 // From where a version is read: from version file 0, from the checkpoint of entry k at a version, or from nowhere.
-#[derive(Drop)]
+#[derive(Clone, Copy)]
 pub enum Start {
     Zero,
     Checkpoint(usize, Version),
@@ -167,7 +169,7 @@ pub fn passes(s: &[u8], n: Version, v: Version, near: usize) -> bool
 // ---- the latest version
 
 // The version that the marker names, if the marker is usable.
-#[derive(Drop)]
+#[derive(Clone, Copy)]
 pub enum Mark {
     At(Version),
     Nothing,

@@ -12,7 +12,7 @@ use field_scalars::{Optional, Wording};
 const IN_COLUMN: usize = 27;
 
 // A string by the position behind its opening quote; missing or null; or something else.
-#[derive(Drop)]
+#[derive(Clone, Copy)]
 pub enum Bound {
     Spelled(usize),
     Missing,
@@ -35,7 +35,7 @@ fn bound_in(t: &[u8], slot: Slot) -> Bound
 }
 
 // Both bounds of a column, each by the position behind its opening quote; or one of them is missing; or they are malformed.
-#[derive(Drop)]
+#[derive(Clone, Copy)]
 pub enum Range {
     Closed(usize, usize),
     Open,

@@ -1,4 +1,6 @@
 // State manifests: what the text of one says, its manifests with the bounds of their columns.
+#![tactic(auto)]
+
 mod bounds;
 mod columns;
 mod states;

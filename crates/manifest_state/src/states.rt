@@ -18,7 +18,7 @@ const IN_MANIFEST: usize = 29;
 
 // From where to where the columns of a manifest stand, and in their text the position behind their brace;
 // or no columns are stated; or what is stated is malformed.
-#[derive(Drop)]
+#[derive(Clone, Copy)]
 pub enum Stated {
     Columns(usize, usize, usize),
     Nothing,
@@ -59,7 +59,7 @@ pub fn manifest_of(t: &[u8]) -> Stated
 // ---- the state manifest
 
 // From where to where the value of `manifests` stands; or the state manifest has none.
-#[derive(Drop)]
+#[derive(Clone, Copy)]
 pub enum Array {
     Text(usize, usize),
     NoArray,

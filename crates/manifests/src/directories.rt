@@ -6,7 +6,7 @@ ghost use Rattle.manifests.specs.Slashes.{SlashIs};
 const SLASH: u8 = 0x2F;
 
 // Where the last slash stands, if there is one.
-#[derive(Drop)]
+#[derive(Clone, Copy)]
 pub enum Slash {
     At(usize),
     NoSlash,

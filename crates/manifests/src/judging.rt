@@ -43,7 +43,7 @@ fn drops_any(q: &[u8], conditions: [Condition; 8], n: usize, t: &[u8], at: usize
 }
 
 // A manifest is kept, or dropped, or none.
-#[derive(Drop)]
+#[derive(Clone, Copy)]
 pub enum Verdict {
     Kept,
     Dropped,

@@ -10,7 +10,7 @@ use refusals::Refusal;
 use rooms::{KEPT_ROOM, MOST_MANIFESTS};
 
 // How many numbers of manifests are in the room; or a refusal.
-#[derive(Drop)]
+#[derive(Clone, Copy)]
 pub enum Kept {
     Numbers(usize),
     Refused(Refusal),

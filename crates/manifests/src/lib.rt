@@ -1,4 +1,6 @@
 // Manifests: which of a state manifest's a query keeps, and the directory in which one lies.
+#![tactic(auto)]
+
 mod directories;
 mod judging;
 mod keeping;

@@ -17,7 +17,7 @@ use rooms::MOST_MANIFESTS;
 const IN_MANIFESTS: usize = 30;
 
 // How many are kept after one manifest more; or it is malformed.
-#[derive(Drop)]
+#[derive(Clone, Copy)]
 pub enum Turn {
     Kept(usize),
     Malformed,
@@ -50,7 +50,7 @@ fn note_next(
 }
 
 // The position behind the manifests, how many there are, and how many are kept; or one is malformed.
-#[derive(Drop)]
+#[derive(Clone, Copy)]
 pub enum Walk {
     Counted(usize, usize, usize),
     Malformed,

@@ -1,5 +1,7 @@
 // Prints what each bundle on standard input holds, and what each line says. A request is a letter (`b` for a bundle, `l` for a line), two bytes,
 // the length of what follows (little-endian), and then its bytes.
+#![tactic(auto)]
+
 ghost use Rattle.std.specs.Prelude.{◌<◌, length};
 ghost use Rattle.file_bundle.specs.Files.{files_in};
 ghost use Rattle.json_strings.specs.Decoded.{WellSpelled};
@@ -170,6 +172,6 @@ fn print_each(requests: &[u8]) {
 
 fn main() {
     let mut buffer = io::large_buffer();
-    let got = io::read_full(libc::STDIN_FILENO, &mut buffer);
+    let got = io::read_full(program_printing::STANDARD_INPUT, &mut buffer);
     print_each(&buffer[..got]);
 }

@@ -1,5 +1,7 @@
 // Lists the latest version of the bundle on standard input, under the query `[]`: a header, then a line for each live file in path order; or the
 // refusal. A bundle of more than 65,536 bytes is refused as malformed.
+#![tactic(auto)]
+
 ghost use Rattle.std.specs.Prelude.{◌≡◌, length};
 
 use reading::{Listing, Read};
@@ -116,6 +118,6 @@ fn list(s: &[u8]) {
 
 fn main() {
     let mut buffer = input();
-    let got = io::read_full(libc::STDIN_FILENO, &mut buffer);
+    let got = io::read_full(program_printing::STANDARD_INPUT, &mut buffer);
     list(&buffer[..got]);
 }

@@ -1,5 +1,5 @@
 // The answer `c`: which files of a log may go.
-use crate::{requests, rooms, sums, words};
+use crate::{lent, requests, sums, words};
 use cleaning::Cleaned;
 use file_names::Millis;
 
@@ -31,22 +31,22 @@ fn print_cleaning(
 }
 
 fn answer(today: Millis, retention: Millis) -> bool {
-    let mut names = rooms::names();
+    let mut names = lent::names();
     let names_lent = requests::next_of_names(&names);
     if !names_lent.whole {
         return false;
     }
-    let mut one = rooms::table();
+    let mut one = lent::table();
     let one_lent = requests::next_of_table(&one);
     if !one_lent.whole {
         return false;
     }
-    let mut two = rooms::table();
+    let mut two = lent::table();
     let two_lent = requests::next_of_table(&two);
     if !two_lent.whole {
         return false;
     }
-    let mut bundle_room = rooms::long();
+    let mut bundle_room = lent::long();
     let bundle = requests::next_text(&mut bundle_room);
     if !bundle.whole {
         return false;

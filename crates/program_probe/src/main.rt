@@ -1,9 +1,11 @@
 // Gives every public entry to tests outside: it reads requests from standard input and prints a line for each. A request is a letter, then numbers
 // (8 bytes each, little-endian), then byte strings (a number, their length, and the bytes). It stops where the input ends.
+#![tactic(auto)]
+
 mod cleanings;
+mod lent;
 mod readings;
 mod requests;
-mod rooms;
 mod showings;
 mod states;
 mod sums;
@@ -30,7 +32,7 @@ fn answered(letter: u8) -> bool {
 // Answers the next request; false if there is none to go on with.
 fn next_answered() -> bool {
     let mut letter = [0u8; 1];
-    if io::read_full(libc::STDIN_FILENO, &mut letter) == 0 {
+    if io::read_full(program_printing::STANDARD_INPUT, &mut letter) == 0 {
         return false;
     }
     if answered(letter[0]) {

@@ -1,10 +1,10 @@
 // The answers of a reading: `r` at a version, `l` at the latest, `q` of what is due at a time.
-use crate::{requests, rooms, sums, words};
+use crate::{lent, requests, sums, words};
 use file_names::{Millis, Version};
 use reading::{Listing, Read};
 
 // What is asked for.
-#[derive(Drop)]
+#[derive(Clone, Copy)]
 enum Asked {
     At(Version),
     Latest,
@@ -46,17 +46,17 @@ fn print_reading(asked: Asked, bundle: &[u8], query: &[u8], rows: &mut [u64]) {
 }
 
 fn answer(asked: Asked) -> bool {
-    let mut rows = rooms::table();
+    let mut rows = lent::table();
     let lent = requests::next_of_table(&rows);
     if !lent.whole {
         return false;
     }
-    let mut query_room = rooms::query();
+    let mut query_room = lent::query();
     let query = requests::next_text(&mut query_room);
     if !query.whole {
         return false;
     }
-    let mut bundle_room = rooms::long();
+    let mut bundle_room = lent::long();
     let bundle = requests::next_text(&mut bundle_room);
     if !bundle.whole {
         return false;
@@ -91,12 +91,12 @@ fn print_due(bundle: &[u8], time: Millis, rows: &mut [u64]) {
 }
 
 fn answer_due(time: Millis) -> bool {
-    let mut rows = rooms::table();
+    let mut rows = lent::table();
     let lent = requests::next_of_table(&rows);
     if !lent.whole {
         return false;
     }
-    let mut bundle_room = rooms::long();
+    let mut bundle_room = lent::long();
     let bundle = requests::next_text(&mut bundle_room);
     if !bundle.whole {
         return false;

@@ -3,7 +3,7 @@ ghost use Rattle.std.specs.Prelude.{◌<◌, ◌≤◌};
 ghost use Rattle.io.specs.Counts.{IsPrefixLen};
 
 // A number of a request; there is none where the request is cut short.
-#[derive(Drop)]
+#[derive(Clone, Copy)]
 pub struct Number {
     pub whole: bool,
     pub value: u64,
@@ -25,7 +25,7 @@ fn half(b: &[u8; 8], at: usize) -> u64
 
 pub fn next_number() -> Number {
     let mut b = [0u8; 8];
-    let got = io::read_full(libc::STDIN_FILENO, &mut b);
+    let got = io::read_full(program_printing::STANDARD_INPUT, &mut b);
     let low = half(&b, 0);
     let high = half(&b, 4);
     Number {
@@ -35,7 +35,7 @@ pub fn next_number() -> Number {
 }
 
 // A part of a room, from its start on; it is not whole where the request is cut short or asks for more than the room has.
-#[derive(Drop)]
+#[derive(Clone, Copy)]
 pub struct Part {
     pub whole: bool,
     pub size: usize,
@@ -83,7 +83,7 @@ pub fn next_text(room: &mut [u8]) -> Part
 {
     let p = next_part(room.len());
     let size = p.size;
-    let got = io::read_full(libc::STDIN_FILENO, &mut room[..size]);
+    let got = io::read_full(program_printing::STANDARD_INPUT, &mut room[..size]);
     if got == size {
         return p;
     }

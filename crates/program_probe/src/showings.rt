@@ -1,5 +1,5 @@
 // The answers that show a part: `d` the directory of a manifest, `p` the path of a line, and `n` its number of records.
-use crate::{requests, rooms, sums, words};
+use crate::{lent, requests, sums, words};
 use shown::Shown;
 
 fn print_part(part: &[u8]) {
@@ -8,12 +8,12 @@ fn print_part(part: &[u8]) {
 }
 
 pub fn directory() -> bool {
-    let mut path_room = rooms::short();
+    let mut path_room = lent::short();
     let path = requests::next_text(&mut path_room);
     if !path.whole {
         return false;
     }
-    let mut state_room = rooms::short();
+    let mut state_room = lent::short();
     let state = requests::next_text(&mut state_room);
     if !state.whole {
         return false;
@@ -25,7 +25,7 @@ pub fn directory() -> bool {
 }
 
 pub fn path() -> bool {
-    let mut room = rooms::short();
+    let mut room = lent::short();
     let line = requests::next_text(&mut room);
     if !line.whole {
         return false;
@@ -48,7 +48,7 @@ fn print_records(r: Shown) {
 }
 
 pub fn records() -> bool {
-    let mut room = rooms::short();
+    let mut room = lent::short();
     let line = requests::next_text(&mut room);
     if !line.whole {
         return false;

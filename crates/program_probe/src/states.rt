@@ -1,5 +1,5 @@
 // The answer `m`: which manifests of a state a query keeps.
-use crate::{requests, rooms, sums, words};
+use crate::{lent, requests, sums, words};
 use manifests::Kept;
 
 fn print_kept(k: Kept) {
@@ -21,17 +21,17 @@ fn print_keeping(state: &[u8], query: &[u8], kept: &mut [u32]) {
 }
 
 pub fn manifests() -> bool {
-    let mut kept = rooms::names();
+    let mut kept = lent::names();
     let lent = requests::next_of_names(&kept);
     if !lent.whole {
         return false;
     }
-    let mut query_room = rooms::query();
+    let mut query_room = lent::query();
     let query = requests::next_text(&mut query_room);
     if !query.whole {
         return false;
     }
-    let mut state_room = rooms::long();
+    let mut state_room = lent::long();
     let state = requests::next_text(&mut state_room);
     if !state.whole {
         return false;

@@ -1,6 +1,8 @@
 // Prints what the text layer says of each text on standard input. A text is two bytes, its length (little-endian), and then its bytes.
 // A line gives: whether it is JSON; the whole number that it is, or -; the number of a query that it is, `out` or -;
 // and, where it is a string, how many bytes it stands for and how it stands to "m".
+#![tactic(auto)]
+
 ghost use Rattle.std.specs.Prelude.{◌<◌};
 ghost use Rattle.json_strings.specs.Decoded.{WellSpelled};
 
@@ -102,6 +104,6 @@ fn print_each(texts: &[u8]) {
 
 fn main() {
     let mut buffer = io::large_buffer();
-    let got = io::read_full(libc::STDIN_FILENO, &mut buffer);
+    let got = io::read_full(program_printing::STANDARD_INPUT, &mut buffer);
     print_each(&buffer[..got]);
 }

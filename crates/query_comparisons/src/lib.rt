@@ -1,4 +1,6 @@
 // What a condition says of values: whether one meets it or is out of range, and whether none between two bounds meets it.
+#![tactic(auto)]
+
 ghost use Rattle.std.specs.Prelude.{◌≡◌, false, drop};
 ghost use Rattle.rules.specs.Picking.{meets as rule_meets, meets_as, out_of_as};
 ghost use Rattle.rules.specs.Manifests.{none_meets, outside_as};
@@ -15,7 +17,7 @@ use query_conditions::{As, Condition, Op};
 use query_numbers::{Numeral, Signed};
 
 // What conditions say of a value, or of all values of a file. One that is out of range is no answer to them.
-#[derive(Drop)]
+#[derive(Clone, Copy)]
 pub enum Judged {
     Met,
     Unmet,

@@ -14,7 +14,7 @@ use query_numbers::Signed;
 
 // A condition on the values of a column. The column and the bound, the condition's own value, are strings of the query, each by the
 // position behind its opening quote; under "number" the bound is the number, which under "text" is zero.
-#[derive(Drop)]
+#[derive(Clone, Copy)]
 pub struct Condition {
     pub column: usize,
     pub kind: As,
@@ -23,7 +23,7 @@ pub struct Condition {
     pub number: Signed,
 }
 
-#[derive(Drop)]
+#[derive(Clone, Copy)]
 pub enum Made {
     Of(Condition),
     NoCondition,
@@ -80,7 +80,7 @@ fn condition_of(q: &[u8], column: Slot, kind: Slot, op: Slot, bound: Slot) -> Ma
 }
 
 // A condition, and the position behind its object; or none.
-#[derive(Drop)]
+#[derive(Clone, Copy)]
 pub enum Element {
     Holds(Condition, usize),
     Bad,

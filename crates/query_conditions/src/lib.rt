@@ -1,4 +1,6 @@
 // Queries: conditions on partition columns, read from their text in place.
+#![tactic(auto)]
+
 mod conditions;
 mod members;
 mod reading;

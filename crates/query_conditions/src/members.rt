@@ -11,7 +11,7 @@ use json_values::Tail;
 const MEMBERS: usize = 4;
 
 // Which of `as` and `value` was met first.
-#[derive(Drop)]
+#[derive(Clone, Copy)]
 pub enum Met {
     Neither,
     As,

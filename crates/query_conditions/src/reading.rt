@@ -21,7 +21,7 @@ const MOST_BYTES: usize = 4_096;
 const MOST_CONDITIONS: usize = 8;
 
 // A query: whether it is well formed, and its conditions, of which there are `count`. The others, and all of them where it is malformed, are one constant.
-#[derive(Drop)]
+#[derive(Clone, Copy)]
 pub struct Query {
     pub good: bool,
     pub count: usize,
@@ -29,7 +29,7 @@ pub struct Query {
 }
 
 // The conditions of an array, whose columns may be the same, and the position behind it; or that it is no array of at most 8 conditions.
-#[derive(Drop)]
+#[derive(Clone, Copy)]
 pub struct Gathered {
     good: bool,
     end: usize,

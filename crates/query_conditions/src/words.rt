@@ -12,13 +12,13 @@ use query_numbers::{Numeral, Signed};
 const MOST_BYTES: usize = 21;
 
 // What a condition compares as: unsigned bytes, or numbers.
-#[derive(Drop)]
+#[derive(Clone, Copy)]
 pub enum As {
     Text,
     Number,
 }
 
-#[derive(Drop)]
+#[derive(Clone, Copy)]
 pub enum Kind {
     Of(As),
     NoKind,
@@ -40,7 +40,7 @@ pub fn kind_at(q: &[u8], at: usize) -> Kind
 }
 
 // How a value must stand to the condition's own.
-#[derive(Drop)]
+#[derive(Clone, Copy)]
 pub enum Op {
     Eq,
     Lt,
@@ -49,7 +49,7 @@ pub enum Op {
     Ge,
 }
 
-#[derive(Drop)]
+#[derive(Clone, Copy)]
 pub enum Operator {
     Of(Op),
     NoOperator,
@@ -103,7 +103,7 @@ pub fn numeral_in(s: &[u8], at: usize) -> Numeral
 }
 
 // Whether a value fits a kind; under "number" with its number, which under "text" is zero.
-#[derive(Drop)]
+#[derive(Clone, Copy)]
 pub enum Fit {
     Fits(Signed),
     Unfit,

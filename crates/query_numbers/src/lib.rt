@@ -1,5 +1,7 @@
 // The numbers of a query: read from decoded bytes, and how they stand to each other.
 // Each function answers for every text that it is lent.
+#![tactic(auto)]
+
 ghost use Rattle.std.specs.Prelude.{◌≡◌, length, pos};
 ghost use Rattle.std.proofs.Math.Option.{some};
 ghost use Rattle.rules.specs.Numbers.{decimal};
@@ -18,21 +20,21 @@ const LOWEST_SIZE: u64 = 9223372036854775808;
 const MOST_DIGITS: usize = 20;
 
 // A number by its sign and its size. Zero is not negative.
-#[derive(Drop)]
+#[derive(Clone, Copy)]
 pub struct Signed {
     pub negative: bool,
     pub size: u64,
 }
 
 // The number of a query; a text of that shape may still be out of range.
-#[derive(Drop)]
+#[derive(Clone, Copy)]
 pub enum Numeral {
     Number(Signed),
     OutOfRange,
     NotNumber,
 }
 
-#[derive(Drop)]
+#[derive(Clone, Copy)]
 enum Capped {
     Below(u64),
     TooBig,

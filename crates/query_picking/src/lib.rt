@@ -1,4 +1,6 @@
 // Which live files a query picks: each by the partition values in the line of its add. And which are due for a second merge.
+#![tactic(auto)]
+
 mod columns;
 mod due;
 
@@ -109,7 +111,7 @@ pub fn judge_row(src: &[u8], c: Cells, q: &[u8], asked: Query) -> Judged
 }
 
 // How many rows are picked; or none, where a file, picked or not, has a value out of range.
-#[derive(Drop)]
+#[derive(Clone, Copy)]
 pub enum Picking {
     Rows(usize),
     OutOfRange,

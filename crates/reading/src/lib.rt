@@ -1,5 +1,7 @@
 // The three entries of reading: the files of a table at a version, or at the latest, that a query picks, as rows in a lent room; and those of
 // the latest that are due for a second merge.
+#![tactic(auto)]
+
 ghost use Rattle.std.specs.Prelude.{◌≡◌};
 ghost use Rattle.rules.specs.Bundle.{IsBundle};
 ghost use Rattle.rules.specs.Live.{most_live};
@@ -27,7 +29,7 @@ use rooms::ROWS_ROOM;
 // ---- what is answered
 
 // The version, how many rows are in the room, the numbers of the protocol, and whether the table is writable.
-#[derive(Drop)]
+#[derive(Clone, Copy)]
 pub struct Listing {
     pub version: Version,
     pub rows: usize,
@@ -37,14 +39,14 @@ pub struct Listing {
 }
 
 // The files that are picked; or a refusal.
-#[derive(Drop)]
+#[derive(Clone, Copy)]
 pub enum Read {
     Listed(Listing),
     Refused(Refusal),
 }
 
 // The version that is asked for.
-#[derive(Drop)]
+#[derive(Clone, Copy)]
 enum Asked {
     Latest,
     At(Version),

@@ -1,10 +1,12 @@
 // The refusals of every entry, by the papers' tables: a case for each number. None gives 16 to 20 yet.
+#![tactic(auto)]
+
 ghost use Rattle.std.specs.Prelude.{◌≡◌};
 ghost use Rattle.rules.specs.Refusals.{plain as names_nothing};
 ghost use Rattle.refusals.specs.Numbered.{numbered, said};
 
 // Refusals 6, 7 and 21 name an entry and a line.
-#[derive(Drop)]
+#[derive(Clone, Copy)]
 pub enum Refusal {
     RoomTooShort,
     BundleMalformed,
@@ -30,7 +32,7 @@ pub enum Refusal {
 }
 
 // What a refusal says: its number, and the entry and line that 6, 7 and 21 name.
-#[derive(Drop)]
+#[derive(Clone, Copy)]
 pub struct Numbers {
     pub number: u32,
     pub entry: usize,

@@ -1,4 +1,6 @@
 // The rooms that an entry is lent: how long each is at least, what fits in it, and zeros.
+#![tactic(auto)]
+
 ghost use Rattle.std.specs.Prelude.{◌≡◌, ◌≤◌, length};
 ghost use Rattle.facts.specs.Moves.{zeroed};
 

@@ -1,4 +1,6 @@
 // The live table: the live files as rows in a lent slice, in the order of the bytes that their paths stand for, found by halving.
+#![tactic(auto)]
+
 ghost use Rattle.std.specs.Prelude.{ℕ, ◌+◌, ◌≤◌, ◌<◌, map, drop};
 ghost use Rattle.rules.specs.Live.{put, take_out, change};
 ghost use Rattle.json_strings.specs.Decoded.{decoded, WellSpelled};
@@ -11,7 +13,7 @@ use row_table::Cells;
 pub const PLACES: u64 = 2_097_152;
 
 // Where a path's row stands in the table; or that it has none, and where it would stand.
-#[derive(Drop)]
+#[derive(Clone, Copy)]
 pub enum Found {
     Held(usize),
     Place(usize),
@@ -54,7 +56,7 @@ pub fn find(src: &[u8], t: &[u64], n: usize, path: usize) -> Found
 }
 
 // Where the rows of a table stand in their room: how many free ones stand before them, and how many they are.
-#[derive(Drop)]
+#[derive(Clone, Copy)]
 pub struct Standing {
     pub base: usize,
     pub live: usize,

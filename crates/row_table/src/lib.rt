@@ -1,5 +1,7 @@
 // A table of rows in a lent slice: six numbers a row, the rows one after another from the front. What the numbers mean,
 // and how many rows are in use, is the callers' affair.
+#![tactic(auto)]
+
 mod windows;
 
 ghost use Rattle.std.specs.Prelude.{ℕ, ◌+◌, ◌-◌, ◌≤◌, ◌<◌, ◌≡◌};
@@ -12,7 +14,7 @@ pub use windows::{put_in, settle, take_away};
 pub const ROW: usize = 6;
 
 // A row: its numbers, in the order in which they lie.
-#[derive(Drop)]
+#[derive(Clone, Copy)]
 pub struct Cells {
     pub head: u64,
     pub len: u64,

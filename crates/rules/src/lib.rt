@@ -1,1 +1,2 @@
 // Definitions and laws only: see specs/ and proofs/.
+#![tactic(auto)]

@@ -1,1 +1,2 @@
 // Examples only: see specs/ and proofs/.
+#![tactic(auto)]

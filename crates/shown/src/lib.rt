@@ -1,4 +1,6 @@
 // What is shown of one line: the path as its add writes it, and the add's number of records. Every byte string has an answer.
+#![tactic(auto)]
+
 ghost use Rattle.std.specs.Prelude.{◌≡◌};
 ghost use Rattle.rules.specs.Actions.{path_shown, path_place, records_shown};
 ghost use Rattle.shown.specs.Shown.{shown_is, adding_is};
@@ -7,7 +9,7 @@ use field_scalars::Records;
 use line_actions::SaidAdd;
 
 // From where to where an add writes its path, and its number of records; or that there is no add.
-#[derive(Drop)]
+#[derive(Clone, Copy)]
 pub enum Adding {
     Writes(usize, usize, Records),
     Nothing,
@@ -40,7 +42,7 @@ pub fn path_of<'a>(line: &'a [u8]) -> &'a [u8]
 }
 
 // The number of records of a line: a number, none stated, or that the line is no well-formed add.
-#[derive(Drop)]
+#[derive(Clone, Copy)]
 pub enum Shown {
     Number(u64),
     Missing,
