@@ -1,5 +1,6 @@
 -- Bytes that are no digits, marked by arithmetic: in a byte by itself, and in all eight of a number at once.
-use Rattle.std.proofs.Common.{◌≡◌, ℕ, zero, suc, ◌+◌, ◌/◌, ◌%◌, ◌<◌, ◌≤◌, Bool, true, false, not, ◌||◌, eqb, sym, refl, ap, ◌∙◌, ap₂, arith, lit<, eq-eqb, ne_eqb}
+use Rattle.std.proofs.Common.{◌≡◌, ℕ, zero, suc, ◌+◌, ◌/◌, ◌%◌, ◌<◌, ◌≤◌, Bool, true, false, not, ◌||◌, eqb, sym, refl, ap, ◌∙◌, ap₂, arith, lit<}
+use Rattle.std.proofs.Common.{eq-eqb, ne_eqb}
 use lib.Bits.{bit_and, bit_or, bit_xor, and_le_r}
 use Rattle.rules.specs.Bytes.{among}
 use Rattle.rules.specs.Numbers.{is_digit}

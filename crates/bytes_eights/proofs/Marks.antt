@@ -1,5 +1,6 @@
 -- Bytes that are no plain characters, marked by arithmetic: in a byte by itself, and in all eight of a number at once.
-use Rattle.std.proofs.Common.{◌≡◌, ℕ, zero, suc, ◌+◌, ◌%◌, ◌^◌, ◌<◌, ◌≤◌, Bool, true, false, not, ◌&&◌, ◌||◌, eqb, leb, sym, refl, ap, ◌∙◌, ap₂, le_of_suc-le-suc, arith, lit<, eq-eqb, ne_eqb, eqb-true, leb-true}
+use Rattle.std.proofs.Common.{◌≡◌, ℕ, zero, suc, ◌+◌, ◌%◌, ◌^◌, ◌<◌, ◌≤◌, Bool, true, false, not, ◌&&◌, ◌||◌, eqb, leb, sym, refl, ap, ◌∙◌, ap₂}
+use Rattle.std.proofs.Common.{le_of_suc-le-suc, arith, lit<, eq-eqb, ne_eqb, eqb-true, leb-true}
 use lib.Arith.{lt_of_le-ne}
 use lib.Bits.{bit_and, bit_or, bit_xor}
 use borrow.Author.Tests.{eqb-false}

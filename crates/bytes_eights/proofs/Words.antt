@@ -1,5 +1,6 @@
 -- Laws of numbers as bytes: what is done to a number is done to each byte, where no difference takes from the next.
-use Rattle.std.proofs.Common.{◌≡◌, ℕ, zero, suc, ◌+◌, ◌-◌, ◌*◌, ◌/◌, ◌%◌, ◌^◌, ◌<◌, ◌≤◌, ltb, List, get_or, sym, refl, ap, ◌∙◌, ap₂, le_of_suc-le-suc, mod-lt, pow-suc, arith, lit<, pow_pos, ltb-false, ltb-true}
+use Rattle.std.proofs.Common.{◌≡◌, ℕ, zero, suc, ◌+◌, ◌-◌, ◌*◌, ◌/◌, ◌%◌, ◌^◌, ◌<◌, ◌≤◌, ltb, List, get_or, sym, refl, ap, ◌∙◌, ap₂, le_of_suc-le-suc}
+use Rattle.std.proofs.Common.{mod-lt, pow-suc, arith, lit<, pow_pos, ltb-false, ltb-true}
 use native.Mathlib.Nat.{mod-one}
 use lib.Arith.{mod-mul, digits_div, digits_mod}
 use lib.Pow.{mod-pow-add}

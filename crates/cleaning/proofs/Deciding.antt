@@ -108,33 +108,38 @@ module _ (src : Bytes) where
       unfolding ruled numbered
       ruled-without e = (λ today retention. rw (files, ← small, e), λ h. omega arith)
 
-      module _ (entry₀ : ℕ) (e : (log_of (files_in src)).version_file 0 ≡ some (file_in src entry₀)) (m : Mark) (f : m ≡ mark_is (marked (log_of (files_in src)))) where
-        unmarked : (o : Option ℕ) → mark_is o ≡ Unmarked → o ≡ none
-        unfolding mark_is
-        unmarked none h = refl
-        unmarked (some n) h = apart (cc)
+      module _
+          (entry₀ : ℕ)
+          (e : (log_of (files_in src)).version_file 0 ≡ some (file_in src entry₀))
+          (m : Mark)
+          (f : m ≡ mark_is (marked (log_of (files_in src))))
+        where
+          unmarked : (o : Option ℕ) → mark_is o ≡ Unmarked → o ≡ none
+          unfolding mark_is
+          unmarked none h = refl
+          unmarked (some n) h = apart (cc)
 
-        mark-at : (o : Option ℕ) (c : Version) → mark_is o ≡ At c → o ≡ some c.0
-        unfolding mark_is
-        mark-at none c h = apart (cc)
-        mark-at (some n) c h = let same : record { 0 = n } ≡ c = cc in ap (λ (v : Version). some v.0) same
+          mark-at : (o : Option ℕ) (c : Version) → mark_is o ≡ At c → o ≡ some c.0
+          unfolding mark_is
+          mark-at none c h = apart (cc)
+          mark-at (some n) c h = let same : record { 0 = n } ≡ c = cc in ap (λ (v : Version). some v.0) same
 
-        pub ruled-unmarked : m ≡ Unmarked → RulingIs src (ruled src) Nothing
-        unfolding ruled cleaned_at
-        ruled-unmarked h today retention =
-            let q : marked (log_of (files_in src)) ≡ none = unmarked (marked (log_of (files_in src))) (sym f ∙ h) in rw (files, ← small, e, q)
+          pub ruled-unmarked : m ≡ Unmarked → RulingIs src (ruled src) Nothing
+          unfolding ruled cleaned_at
+          ruled-unmarked h today retention =
+              let q : marked (log_of (files_in src)) ≡ none = unmarked (marked (log_of (files_in src))) (sym f ∙ h) in rw (files, ← small, e, q)
 
-        module _ (c : Version) (h : m ≡ At c) where
-          ruled-marked : (today retention : ℕ) → ruled_at src entry₀ c.0 today retention ≡ ruled src today retention
-          unfolding ruled ruled_at
-          ruled-marked today retention =
-              let q : marked (log_of (files_in src)) ≡ some c.0 = mark-at (marked (log_of (files_in src))) c (sym f ∙ h) in sym (rw (files, ← small, e, q))
+          module _ (c : Version) (h : m ≡ At c) where
+            ruled-marked : (today retention : ℕ) → ruled_at src entry₀ c.0 today retention ≡ ruled src today retention
+            unfolding ruled ruled_at
+            ruled-marked today retention =
+                let q : marked (log_of (files_in src)) ≡ some c.0 = mark-at (marked (log_of (files_in src))) c (sym f ∙ h) in sym (rw (files, ← small, e, q))
 
-          pub ruled-nowhere : start_at (log_of (files_in src)) c.0 ≡ none → RulingIs src (ruled src) Nothing
-          unfolding ruled_at cleaned_at cleaned_by
-          ruled-nowhere n today retention = sym (ruled-marked today retention) ∙ rw n
+            pub ruled-nowhere : start_at (log_of (files_in src)) c.0 ≡ none → RulingIs src (ruled src) Nothing
+            unfolding ruled_at cleaned_at cleaned_by
+            ruled-nowhere n today retention = sym (ruled-marked today retention) ∙ rw n
 
-          pub ruled-as : (r : Ruling) → RulingIs src (ruled_at src entry₀ c.0) r → RulingIs src (ruled src) r
-          ruled-as (Before d) k = (λ today retention. sym (ruled-marked today retention) ∙ k.0 today retention, k.1)
-          ruled-as Nothing k = λ today retention. sym (ruled-marked today retention) ∙ k today retention
-          ruled-as (NotRuled x) k = (λ today retention. sym (ruled-marked today retention) ∙ k.0 today retention, k.1)
+            pub ruled-as : (r : Ruling) → RulingIs src (ruled_at src entry₀ c.0) r → RulingIs src (ruled src) r
+            ruled-as (Before d) k = (λ today retention. sym (ruled-marked today retention) ∙ k.0 today retention, k.1)
+            ruled-as Nothing k = λ today retention. sym (ruled-marked today retention) ∙ k today retention
+            ruled-as (NotRuled x) k = (λ today retention. sym (ruled-marked today retention) ∙ k.0 today retention, k.1)

@@ -145,7 +145,8 @@ module _ (zf f : File) (w : Way) where
     compared-with g = rw (e, g)
 
 module _ (src : Bytes) (entry₀ k : ℕ) (start : Start) (c : ℕ) where
-  pub compare-zero : (x : CodeRefusal) (r : Outcome) → r ≡ NotRead x → ZeroIs src (read_zero (file_in src entry₀)) r → CompareIs src entry₀ k start c (Refused x)
+  pub compare-zero : (x : CodeRefusal) (r : Outcome) → r ≡ NotRead x → ZeroIs src (read_zero (file_in src entry₀)) r
+      → CompareIs src entry₀ k start c (Refused x)
   unfolding Later
   compare-zero x r e d w s =
       let q : read_zero (file_in src entry₀) ≡ refused (numbered x) = subst (ZeroIs src (read_zero (file_in src entry₀))) e d in
@@ -168,7 +169,8 @@ module _ (src : Bytes) (entry₀ k : ℕ) (start : Start) (c : ℕ) where
         )
 
     pub compare-carries : (mine : State) → out ≡ Done mine → Carries src most_live mine one'
-    compare-carries mine e = (subst (OutcomeIs src most_live (read_file most_live of_checkpoint (file_in src k) (state_of src empty one)) one one') e f).1.carries
+    compare-carries mine e =
+        (subst (OutcomeIs src most_live (read_file most_live of_checkpoint (file_in src k) (state_of src empty one)) one one') e f).1.carries
 
     pub compare-done : (mine : State) → out ≡ Done mine → (two' : List ℕ) (r : Compared) → WithIs src z start c mine one' two two' r
         → CompareIs src entry₀ k start c r × Left most_live one one' × Left most_live two two'

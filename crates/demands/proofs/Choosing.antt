@@ -21,7 +21,8 @@ use Rattle.demands.proofs.CleaningWords.{not_writable-false, false-not_writable}
 
 -- ---- picking
 
-meets_number-true : (op : Op) (x b : Number) → meets_number op x b ≡ true → (m n : _) × (x ≡ number m) × (b ≡ number n) × (meets op (order_of_numbers m n) ≡ true)
+meets_number-true : (op : Op) (x b : Number) → meets_number op x b ≡ true
+    → (m n : _) × (x ≡ number m) × (b ≡ number n) × (meets op (order_of_numbers m n) ≡ true)
 unfolding meets_number
 meets_number-true op (number x) (number b) h = (x, b, refl, refl, h)
 meets_number-true op (number x) out_of_range h = apart (cc)

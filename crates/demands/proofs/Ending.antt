@@ -28,7 +28,8 @@ use Rattle.rules.specs.Keeping.{keeping}
 use Rattle.rules.specs.Agreement.{agree}
 use Rattle.rules.specs.Cleaning.{named, compared, cleaned_by, cleaned_at, enough, cleaning}
 use Rattle.rules.specs.Refusals.{Refusal, Answer, accepted, refused, ◌>>=◌, or_refuse, require, plain, room_too_short, bundle_malformed, version_too_large}
-use Rattle.rules.specs.Refusals.{no_version_zero, not_kept, malformed, foreign_keys, too_many_live, reader_too_high, unknown_feature, query_malformed, no_such_column}
+use Rattle.rules.specs.Refusals.{no_version_zero, not_kept, malformed, foreign_keys, too_many_live}
+use Rattle.rules.specs.Refusals.{reader_too_high, unknown_feature, query_malformed, no_such_column}
 use Rattle.rules.specs.Refusals.{value_out_of_range}
 use Rattle.rules.specs.Refusals.{not_writable, checkpoint_disagrees, state_malformed, too_many_manifests}
 use Rattle.rules.proofs.Tests.{apart, true-not-false}

@@ -241,7 +241,8 @@ reading-exactly room s q asked = record {
     f4 : Says room s q asked (refused no_version_zero) → (o : Opened room s q) × ((log_in asked o).version_file 0 ≡ none)
     f4 (no_zero o e) = (o, e)
 
-    f5 : Says room s q asked (refused not_kept) → (o : Opened room s q) × There ((log_in asked o).version_file 0) × NoStart (log_in asked o) (version_in asked o)
+    f5 : Says room s q asked (refused not_kept)
+        → (o : Opened room s q) × There ((log_in asked o).version_file 0) × NoStart (log_in asked o) (version_in asked o)
     f5 (not-kept o z n) = (o, z, n)
 
     f6 : (e l : ℕ) → Says room s q asked (refused (malformed e l)) → (r : Reached room s q asked) × Met r.zero r.way (malformed e l)

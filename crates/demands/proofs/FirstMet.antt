@@ -157,7 +157,8 @@ module _ (of : Origin) where
         subst (λ (x : State). read_lines most_live of e k at rest st ≡ read_lines most_live of e k at rest x) q refl
             ∙ ap (λ (x : ℕ). read_lines most_live of e x at rest to) n,
       )
-  read_lines-past e k at (l ∷ ls) rest st to h = go (read_line most_live of e k at l st) h (λ next. read_lines-past e (suc k) (at + length l + 1) ls rest next to)
+  read_lines-past e k at (l ∷ ls) rest st to h =
+      go (read_line most_live of e k at l st) h (λ next. read_lines-past e (suc k) (at + length l + 1) ls rest next to)
     where
       go : (a : Answer State) → (a >>= (λ next. read_lines most_live of e (suc k) (at + length l + 1) ls next)) ≡ accepted to
           → ((next : State) → read_lines most_live of e (suc k) (at + length l + 1) ls next ≡ accepted to

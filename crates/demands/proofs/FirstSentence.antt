@@ -102,7 +102,10 @@ module _ (fs gs : List File) (n : ℕ) (full : FullHistory fs n)
       let f = p.0 in
       let t = full.checkpoints-true v f (start-found (log_of fs) v f p.1) in
       let own : read_file most_live of_checkpoint f nothing_live ≡ accepted t.own =
-      from_zero-accepted zf (from_checkpoint f) z t.own ez (sym (state_by-is (log_of fs) (some (from_checkpoint f)) zf (from_checkpoint f) e refl) ∙ t.own_read) in
+      from_zero-accepted zf
+      (from_checkpoint f)
+      z t.own ez
+      (sym (state_by-is (log_of fs) (some (from_checkpoint f)) zf (from_checkpoint f) e refl) ∙ t.own_read) in
       let h = told v t.history l t.history-read in
       let a : SameAnswer SameState (follow most_live z h.0) (read_file most_live of_checkpoint f nothing_live) =
       rw (h.2, own) (both-accepted (same-state-sym t.same)) in
@@ -221,7 +224,11 @@ full-log-is-history s q fs cs n v room es full l eq r = go (first-sentence s s q
         → SameAnswer SameListing (history_listing cs (log_of fs) v) (reading room s q (the_version v))
     go k = sides k.either
       where
-        sides : SameAnswer SameListing (history_listing cs (log_of fs) v) (reading room s q (the_version v)) ⊎ (reading room s q (the_version v) ≡ refused not_kept)
+        sides : SameAnswer SameListing
+            (history_listing cs (log_of fs) v)
+            (reading room s q (the_version v))
+            ⊎
+            (reading room s q (the_version v) ≡ refused not_kept)
             → SameAnswer SameListing (history_listing cs (log_of fs) v) (reading room s q (the_version v))
         sides (inl h) = h
         sides (inr h) = absurd (k.exactly-when.0 h reaches.s reaches.start reaches.reaches)

@@ -21,7 +21,8 @@ module _ (room : ℕ) (state q : Bytes) where
     short : room < kept_room → Says (refused room_too_short)
     bad-query : kept_room ≤ room → query q ≡ none → Says (refused query_malformed)
     bad-state : kept_room ≤ room → There (query q) → manifests state ≡ none → Says (refused state_malformed)
-    many : kept_room ≤ room → There (query q) → (ms : List Manifest) → manifests state ≡ some ms → most_manifests < length ms → Says (refused too_many_manifests)
+    many : kept_room ≤ room → There (query q) → (ms : List Manifest) → manifests state ≡ some ms → most_manifests < length ms
+        → Says (refused too_many_manifests)
     answer : kept_room ≤ room → (cs : List Condition) → query q ≡ some cs → (ms : List Manifest) → manifests state ≡ some ms → length ms ≤ most_manifests
         → Says (accepted (kept_from 0 cs ms))
 

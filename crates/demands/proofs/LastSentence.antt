@@ -10,7 +10,8 @@ use lib.Dec.{leb, ltb}
 use borrow.Author.Tests.{ltb-true, ne_eqb}
 use Rattle.rules.specs.Bytes.{Bytes, ascii, keep_if}
 use Rattle.rules.specs.Bundle.{File, bundle}
-use Rattle.rules.specs.Names.{Name, version, checkpoint, marker, other, too_large, name_of, version_in, checkpoint_in, is_marker, is_too_large, is, any_too_large}
+use Rattle.rules.specs.Names.{Name, version, checkpoint, marker, other, too_large, name_of}
+use Rattle.rules.specs.Names.{version_in, checkpoint_in, is_marker, is_too_large, is, any_too_large}
 use Rattle.rules.specs.Starts.{log_of, Way, start_at, other_way_to}
 use Rattle.rules.specs.Marker.{marked, or_zero, latest}
 use Rattle.rules.specs.Query.{Condition, query}
@@ -18,7 +19,8 @@ use Rattle.rules.specs.Rooms.{rows_room}
 use Rattle.rules.specs.Reading.{Asked, the_latest, the_version, version_asked, Listing, listing_at, reading}
 use Rattle.rules.specs.Cleaning.{is_between, is_old, may_go, named, compared, cleaned_by, cleaned_at, Lent, enough, cleaning}
 use Rattle.rules.specs.Same.{SameListing, SameAnswer}
-use Rattle.rules.specs.Refusals.{◌>>=◌, Answer, accepted, or_refuse, require, room_too_short, bundle_malformed, version_too_large, no_version_zero, query_malformed}
+use Rattle.rules.specs.Refusals.{◌>>=◌, Answer, accepted, or_refuse, require, room_too_short}
+use Rattle.rules.specs.Refusals.{bundle_malformed, version_too_large, no_version_zero, query_malformed}
 use Rattle.rules.proofs.Tests.{apart, and_left, and_right}
 use Rattle.rules.proofs.Replaying.{bind-accepted}
 use Rattle.rules.proofs.Sameness.{same-listing-refl, same-listing-trans, same-answer-refl, same-answer-trans}
@@ -136,7 +138,11 @@ without-same : (c : ℕ) (fs gs : List File) → Without (Between c) fs gs → S
 unfolding log_of is version_in checkpoint_in is_marker
 without-same c fs gs w = record {
   first =
-      find-same (Between c) (λ (n : Name). is 0 (version_in n)) (between-fails c (λ (n : Name). is 0 (version_in n)) (λ x a b. ne_eqb 0 x (λ q. omega arith))) w;
+      find-same
+      (Between c)
+      (λ (n : Name). is 0 (version_in n))
+      (between-fails c (λ (n : Name). is 0 (version_in n)) (λ x a b. ne_eqb 0 x (λ q. omega arith)))
+      w;
   versions = λ v l. find-same
       (Between c)
       (λ (n : Name). is v (version_in n))

@@ -311,7 +311,8 @@ cleaning-few lent s now retention es h =
     go : (o : Option (List File)) → bundle s ≡ o → (or_refuse bundle_malformed o >>= opened) ≡ accepted es → length es ≤ names_room
     go none e h = apart (cc)
     go (some fs) e h =
-        let b = bind-accepted (require version_too_large (not (any_too_large fs))) (λ _. or_refuse no_version_zero ((log_of fs).version_file 0) >>= cleaned fs) h in
+        let b =
+        bind-accepted (require version_too_large (not (any_too_large fs))) (λ _. or_refuse no_version_zero ((log_of fs).version_file 0) >>= cleaned fs) h in
         let c = bind-accepted (or_refuse no_version_zero ((log_of fs).version_file 0)) (cleaned fs) b.2 in
         let few : length fs ≤ 1_024 = (bundle-sound s fs e).few in
         omega (arith, cleaned_at-few (marked (log_of fs)) c.0 now retention fs es c.2)

@@ -271,7 +271,10 @@ unfolding live_at All
 rows_at [] o = tt
 rows_at (x ∷ xs) o = (
   here,
-  All-weaken (λ (r : Row). (order (path_of x) (path_of r) ≡ less) × (live_at (path_of r) xs ≡ some r)) (λ (r : Row). live_at (path_of r) (x ∷ xs) ≡ some r) xs later
+  All-weaken
+      (λ (r : Row). (order (path_of x) (path_of r) ≡ less) × (live_at (path_of r) xs ≡ some r))
+      (λ (r : Row). live_at (path_of r) (x ∷ xs) ≡ some r)
+      xs later
       (all_both (λ (r : Row). order (path_of x) (path_of r) ≡ less) (λ (r : Row). live_at (path_of r) xs ≡ some r) xs o.0 (rows_at xs o.1)),
 )
   where

@@ -122,7 +122,8 @@ pub state_by-is : (log : Log) (o : Option Way) (zf : File) (w : Way) → log.ver
 unfolding state_within
 state_by-is log o zf w e e' = rw (e, e')
 
-pub history-told : (fs : List File) (n : ℕ) → FullHistory fs n → (v : ℕ) → v ≤ n → (st : State) × (state_by (log_of fs) (history_to (log_of fs) v) ≡ accepted st)
+pub history-told : (fs : List File) (n : ℕ) → FullHistory fs n → (v : ℕ) → v ≤ n
+    → (st : State) × (state_by (log_of fs) (history_to (log_of fs) v) ≡ accepted st)
 history-told fs n full v l =
     let z = full.all 0 (omega arith) in
     let x = full.zero-readable z.0 z.1 in
@@ -166,7 +167,8 @@ state_by-begun : (log : Log) (w : Option Way) (st : State) → state_by log w �
     → (zf : File) × ((z : State) × ((u : Way) × ((w ≡ some u) × ((read_zero zf ≡ accepted z) × (follow most_live z u ≡ accepted st)))))
 unfolding state_within
 state_by-begun log w st h =
-    let a = bind-accepted (or_refuse no_version_zero (log.version_file 0)) (λ zf. or_refuse not_kept w >>= (λ u. read_zero zf >>= (λ z. follow most_live z u))) h in
+    let a =
+    bind-accepted (or_refuse no_version_zero (log.version_file 0)) (λ zf. or_refuse not_kept w >>= (λ u. read_zero zf >>= (λ z. follow most_live z u))) h in
     let b = bind-accepted (or_refuse not_kept w) (λ u. read_zero a.0 >>= (λ z. follow most_live z u)) a.2 in
     let c = bind-accepted (read_zero a.0) (λ z. follow most_live z b.0) b.2 in
     (a.0, (c.0, (b.0, (or_refuse-accepted not_kept w b.1, (c.1, c.2)))))

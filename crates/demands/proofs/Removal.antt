@@ -97,7 +97,8 @@ any_too_large-is f fs = go (is_too_large (name_of f.name))
     go false = refl
 
 module _ (MayGo : File → Type 0) where
-  pub large-same : ((f : File) → MayGo f → is_too_large (name_of f.name) ≡ false) → {fs gs : List File} → Without MayGo fs gs → any_too_large fs ≡ any_too_large gs
+  pub large-same : ((f : File) → MayGo f → is_too_large (name_of f.name) ≡ false) → {fs gs : List File} → Without MayGo fs gs
+      → any_too_large fs ≡ any_too_large gs
   unfolding large_if
   large-same h end = refl
   large-same h (keep {f = f} {g = g} {fs = fs} {gs = gs} p w) =

@@ -85,7 +85,10 @@ live_at-change p at size q k rs = by (same p q) here there
     here e =
         let f : p ≡ q = same_true p q e in
         let there : lookup path_of p (change path_of q (skipped k) rs) ≡ with_skip k (lookup path_of p rs) =
-        subst (λ (x : Bytes). lookup path_of x (change path_of q (skipped k) rs) ≡ with_skip k (lookup path_of x rs)) (sym f) (found (lookup path_of q rs) refl) in
+        subst
+        (λ (x : Bytes). lookup path_of x (change path_of q (skipped k) rs) ≡ with_skip k (lookup path_of x rs))
+        (sym f)
+        (found (lookup path_of q rs) refl) in
         rw (after, e) (live_at-lookup p (change path_of q (skipped k) rs) ∙ there ∙ ap (with_skip k) (sym (live_at-lookup p rs)))
 
     there : same p q ≡ false → live_at p (change path_of q (skipped k) rs) ≡ after at size p (mergeskip q k) (live_at p rs)
@@ -159,7 +162,8 @@ read_lines-goes of e k at ((b ∷ bs) ∷ ls) st to s h = go (action (b ∷ bs))
     go : (o : Option Action)
         → ((or_refuse (malformed e k) o >>= (λ a. act most_live of e k at size a st))
         >>= (λ next. read_lines most_live of e (suc k) (at + size + 1) ls next)) ≡ accepted to
-        → ((next : State) → Ordered next → read_lines most_live of e (suc k) (at + size + 1) ls next ≡ accepted to → Goes (lines_from (at + size + 1) ls) next to)
+        → ((next : State) → Ordered next → read_lines most_live of e (suc k) (at + size + 1) ls next ≡ accepted to
+        → Goes (lines_from (at + size + 1) ls) next to)
         → Goes (elim o [ none ↦ lines_from (at + size + 1) ls | some a ↦ record { at = at; size = size; does = a } ∷ lines_from (at + size + 1) ls ]) st to
     go none h ih = apart (cc)
     go (some a) h ih =
@@ -344,7 +348,8 @@ read_zero-says f z h =
 pub replays-exactly : ReplaysExactly
 unfolding state_within
 replays-exactly log way st h =
-    let a = bind-accepted (or_refuse no_version_zero (log.version_file 0)) (λ zf. or_refuse not_kept way >>= (λ w. read_zero zf >>= (λ z. follow most_live z w))) h in
+    let a =
+    bind-accepted (or_refuse no_version_zero (log.version_file 0)) (λ zf. or_refuse not_kept way >>= (λ w. read_zero zf >>= (λ z. follow most_live z w))) h in
     let b = bind-accepted (or_refuse not_kept way) (λ w. read_zero a.0 >>= (λ z. follow most_live z w)) a.2 in
     let c = bind-accepted (read_zero a.0) (λ z. follow most_live z b.0) b.2 in
     let z = read_zero-says a.0 c.0 c.1 in

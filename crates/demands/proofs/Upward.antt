@@ -72,7 +72,8 @@ unfolding by_file
 by_file-same k l neither h = no_way
 by_file-same k l (both {f = f} {g = g} p) h = onward_by-same f g p h
 
-by_start-same : {o o' : Option File} (k l : Unit {0} → Option Way) → SameFound o o' → (o ≡ none → SameWays (k tt) (l tt)) → SameWays (by_start o k) (by_start o' l)
+by_start-same : {o o' : Option File} (k l : Unit {0} → Option Way) → SameFound o o' → (o ≡ none → SameWays (k tt) (l tt))
+    → SameWays (by_start o k) (by_start o' l)
 unfolding by_start
 by_start-same k l neither h = h refl
 by_start-same k l (both p) h = a-way (checkpoint-way p)

@@ -52,7 +52,12 @@ module _ {A : Type 0} (at : ℕ) (vs t : List A) where
   put_at-cons v h =
       let rest : List A = vs ++ drop (at + 1 + length vs) t in
       let e : at + suc (length vs) ≡ at + 1 + length vs = omega arith in
-      rw (take-one-more t at v h, append_snoc (take at t) (get_or t at v) rest, set_at (take at t) (get_or t at v) rest v at (length-take-le at t (omega arith)), e)
+      rw (
+        take-one-more t at v h,
+        append_snoc (take at t) (get_or t at v) rest,
+        set_at (take at t) (get_or t at v) rest v at (length-take-le at t (omega arith)),
+        e,
+      )
 
 pub put_at-none : {A : Type 0} (at : ℕ) (t : List A) → put_at at [] t ≡ t
 unfolding put_at
@@ -141,7 +146,8 @@ module _ {A : Type 0} (at m by : ℕ) (t : List A) (h : at + by + m ≤ length t
   unfolding moved_down
   moved_down-start = rw (part_none t (at + by) (at + by + 0) (omega arith)) (put_at-none at t)
 
-  pub moved_down-step : (i : ℕ) (d : A) → i < m → set (moved_down at i by t) (at + i) (get_or (moved_down at i by t) (at + by + i) d) ≡ moved_down at (i + 1) by t
+  pub moved_down-step : (i : ℕ) (d : A) → i < m
+      → set (moved_down at i by t) (at + i) (get_or (moved_down at i by t) (at + by + i) d) ≡ moved_down at (i + 1) by t
   unfolding moved_down
   moved_down-step i d l =
       let vs : List A = part t (at + by) (at + by + i) in

@@ -58,7 +58,8 @@ module _ {A : Type 0} {w : ℕ} {cells : A → List ℕ} {row : List ℕ → A} 
   pub rows_of-put_at : (n k : ℕ) (rs : List A) (t : List ℕ) → k + length rs ≤ n → n * w ≤ length t
       → rows_of w row n (put_at (k * w) (flat cells rs) t) ≡ put_at k rs (rows_of w row n t)
   rows_of-put_at n k rs t h l =
-      let m : length (put_at k rs (rows_of w row n t)) ≡ n = length-put_at k rs (rows_of w row n t) (rw (length-rows_of w row n t) h) ∙ length-rows_of w row n t in
+      let m : length (put_at k rs (rows_of w row n t)) ≡ n =
+      length-put_at k rs (rows_of w row n t) (rw (length-rows_of w row n t) h) ∙ length-rows_of w row n t in
       rw (put_at-flat n k rs t h l) (rows_of-flat L (put_at k rs (rows_of w row n t)) (drop (n * w) t) n m)
 
   -- rows written from row k to the end of the table
@@ -97,7 +98,8 @@ module _ {A : Type 0} {w : ℕ} {cells : A → List ℕ} {row : List ℕ → A} 
   -- ---- a pass over the rows in place: the first k became f of what they were, the others are as they were
 
   -- one row more, when t becomes u
-  pub rows_of-pass : (f : A → A) (k : ℕ) (t₀ t u : List ℕ) → k * w ≤ length t → rows_of w row k t ≡ map f (rows_of w row k t₀) → drop (k * w) t ≡ drop (k * w) t₀
+  pub rows_of-pass : (f : A → A) (k : ℕ) (t₀ t u : List ℕ) → k * w ≤ length t → rows_of w row k t ≡ map f (rows_of w row k t₀)
+      → drop (k * w) t ≡ drop (k * w) t₀
       → take (k * w) u ≡ take (k * w) t → row (drop (k * w) u) ≡ f (row (drop (k * w) t)) → rows_of w row (k + 1) u ≡ map f (rows_of w row (k + 1) t₀)
   rows_of-pass f k t₀ t u l done rest same e =
       rw (

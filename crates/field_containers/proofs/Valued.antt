@@ -78,8 +78,8 @@ times-proper s (suc zero) v e vs t w = let p = subst (Values in_action) t.0 w in
 times-proper s (suc (suc n)) v e vs t w = tt
 
 -- the slot of name k
-pub each-proper : (s : Text) (names : List Bytes) (ms : List Member) (slots : List Slot) (k : ℕ) → k < length names → Each s names ms slots → Valued in_action ms
-    → Proper s (get_or slots k missing)
+pub each-proper : (s : Text) (names : List Bytes) (ms : List Member) (slots : List Slot) (k : ℕ) → k < length names → Each s names ms slots
+    → Valued in_action ms → Proper s (get_or slots k missing)
 each-proper s names ms slots k b each w =
     let x = get_or slots k missing in
     times-proper s x.seen x.start x.end (under (get_or names k []) ms) (each k b) (under-values in_action (get_or names k []) ms w)

@@ -58,7 +58,8 @@ one-more-holds s (suc (suc n)) v₀ e₀ v e vs h l t =
 
 pub each_start : (s : Text) (names : List Bytes) → length names ≤ 8 → Each s names [] (replicate 8 missing)
 unfolding under
-each_start s names l k b = subst (λ (x : Slot). Holds s x (under (get_or names k []) [])) (sym (get_or-replicate 8 k missing missing (omega (arith, l, b)))) refl
+each_start s names l k b = subst (λ (x : Slot). Holds s x (under (get_or names k []) [])) (sym (get_or-replicate 8 k missing missing (omega (arith, l, b))))
+    refl
 
 pub each_more : (s : Text) (names : List Bytes) (gone : List Member) (slots next : List Slot) (name : Bytes) (r v e : ℕ)
     → distinct names ≡ true → v ≤ e → e ≤ length s → r ≡ seek name names → Noted slots (length names) r v e next → Each s names gone slots

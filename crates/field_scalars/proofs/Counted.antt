@@ -22,7 +22,8 @@ use Rattle.field_scalars.specs.Inside.{whole_in}
 use Rattle.field_scalars.specs.Counts.{count_by, count_in}
 
 -- what the rules say of the field, by its slot
-pub field-count : (s : Text) (x : Slot) (ms : List Member) → Holds s x (under (ascii "skipCount") ms) → skip_count_in (under (ascii "skipCount") ms) ≡ count_in s x
+pub field-count : (s : Text) (x : Slot) (ms : List Member) → Holds s x (under (ascii "skipCount") ms)
+    → skip_count_in (under (ascii "skipCount") ms) ≡ count_in s x
 unfolding skip_count_in
 field-count s x ms h = go x.seen (under (ascii "skipCount") ms) h
   where

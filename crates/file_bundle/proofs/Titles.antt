@@ -85,7 +85,8 @@ name_in-unpadded p name h =
 
 -- ---- the contents, by neighbours
 
-ascending-at : (es : List Entry) (j : ℕ) (d : Entry) → ascending es ≡ true → suc j < length es → order (get_or es j d).padded (get_or es (suc j) d).padded ≡ less
+ascending-at : (es : List Entry) (j : ℕ) (d : Entry) → ascending es ≡ true → suc j < length es
+    → order (get_or es j d).padded (get_or es (suc j) d).padded ≡ less
 unfolding ascending is_less
 ascending-at [] j d h l = absurd (not-suc-le-zero l)
 ascending-at (a ∷ []) j d h l = absurd (not-suc-le-zero (le_of_suc-le-suc l))
@@ -135,7 +136,8 @@ files-ascend s = go (bundle s) refl
         let d = entry_of [] in
         let f : length (files_in s) ≡ n = ap (λ (o : Option (List File)). length (files_or o)) e ∙ w.count in
         let m : suc j < n = omega arith in
-        let at : (i : ℕ) → i < n → get_or es i d ≡ entry_of (drop (4 + 112 * i) s) = λ i t. entries_at n i (drop 4 s) d t ∙ ap entry_of (drop-drop (112 * i) 4 s) in
+        let at : (i : ℕ) → i < n → get_or es i d ≡ entry_of (drop (4 + 112 * i) s) =
+        λ i t. entries_at n i (drop 4 s) d t ∙ ap entry_of (drop-drop (112 * i) 4 s) in
         let p = padded-at s j (omega arith) in
         let q = padded-at s (suc j) l in
         let o : order (entry_of (drop (4 + 112 * j) s)).padded (entry_of (drop (4 + 112 * suc j) s)).padded ≡ less =

@@ -390,7 +390,8 @@ module _ (s : Text) {reader writer readers writers : Slot} (l : Lined s 2 (reade
 abbrev described : Option Bytes → Option (List Bytes) → Option Action
 described i c = (i >>= (λ i. c >>= (λ cs. some (record { id = i; partition_columns = cs })))) >>= (λ m. some (meta_data m))
 
-meta-fields : (ms : List Member) → (meta_data_of ms >>= (λ m. some (meta_data m))) ≡ described (id_of (string_at "id" ms)) (once "partitionColumns" ms >>= columns_of)
+meta-fields : (ms : List Member)
+    → (meta_data_of ms >>= (λ m. some (meta_data m))) ≡ described (id_of (string_at "id" ms)) (once "partitionColumns" ms >>= columns_of)
 unfolding meta_data_of id_at
 meta-fields ms = go (id_at ms)
   where

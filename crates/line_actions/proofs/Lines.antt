@@ -58,7 +58,8 @@ module _ (s : Text) where
 
     pub line-neither : opening 0x7D (drop i s) ≡ neither → line_member s ≡ none
     unfolding alone
-    line-neither f = inside ∙ ap (λ o. alone o >>= only_one) (contents-list (value in_line) (drop i s) ∙ list-neither (member (value in_line)) 0x7D (drop i s) f)
+    line-neither f =
+        inside ∙ ap (λ o. alone o >>= only_one) (contents-list (value in_line) (drop i s) ∙ list-neither (member (value in_line)) 0x7D (drop i s) f)
 
     pub line-empty : {u : Text} → opening 0x7D (drop i s) ≡ closed u → line_member s ≡ none
     unfolding alone only_one

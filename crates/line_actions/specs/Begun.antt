@@ -1,7 +1,8 @@
 -- A line by its one member: its key, where its value begins, and what the rest of the line says.
 use Rattle.std.specs.Prelude.{◌≡◌, Bool, true, false, List, [], ◌∷◌, ℕ, zero, suc, ◌≤◌, length, drop}
 use Rattle.std.proofs.Math.Option.{Option, none, some}
-use Rattle.rules.specs.Actions.{in_line, in_action, Key, key_add, key_remove, key_protocol, key_meta_data, key_mergeskip, key_other, key_of, only_one, line_member}
+use Rattle.rules.specs.Actions.{in_line, in_action, Key, key_add, key_remove, key_protocol}
+use Rattle.rules.specs.Actions.{key_meta_data, key_mergeskip, key_other, key_of, only_one, line_member}
 use Rattle.rules.specs.Bytes.{Bytes, ◌>>=◌, guard, is_empty}
 use Rattle.rules.specs.Json.Text.{Text, spelled, ws}
 use Rattle.rules.specs.Json.Values.{Member, Behind, closed, onward, neither, closing, items, member, member_left, value, alone, object_of, members_left}

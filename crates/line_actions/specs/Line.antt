@@ -2,7 +2,8 @@
 use Rattle.std.specs.Prelude.{◌≡◌, ◌≤◌, length, drop}
 use Rattle.std.proofs.Math.Option.{Option, none, some}
 use Rattle.facts.specs.Parts.{part}
-use Rattle.rules.specs.Actions.{Facts, MetaData as RuleMetaData, Protocol as RuleProtocol, Action as RuleAction, add, remove, protocol, meta_data, mergeskip, other}
+use Rattle.rules.specs.Actions.{Facts, MetaData as RuleMetaData, Protocol as RuleProtocol}
+use Rattle.rules.specs.Actions.{Action as RuleAction, add, remove, protocol, meta_data, mergeskip, other}
 use Rattle.rules.specs.Actions.{path_written, path_left}
 use Rattle.rules.specs.Bytes.{all_among}
 use Rattle.rules.specs.Gate.{reader_names, writer_names}

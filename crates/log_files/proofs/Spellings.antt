@@ -12,7 +12,7 @@ use borrow.Author.Tests.{eqb-true, eq-eqb, le-leb, leb-true}
 use Rattle.rules.specs.Bytes.{Bytes, ascii, same, ◌>>=◌, guard}
 use Rattle.rules.specs.Numbers.{decimal, most}
 use Rattle.rules.specs.Bundle.{File}
-use Rattle.rules.specs.Names.{Name, marker, other, numbered, with_ending, name_of, version_in, checkpoint_in, is_marker, is}
+use Rattle.rules.specs.Names.{Name, marker, numbered, with_ending, name_of, version_in, checkpoint_in, is_marker, is}
 use Rattle.rules.specs.Starts.{find}
 use Rattle.rules.proofs.Tests.{apart, by, false_of, tests-equal}
 use Rattle.rules.proofs.Order.{same_true, same_false, eq-same, ne_same}

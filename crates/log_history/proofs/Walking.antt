@@ -78,7 +78,8 @@ module _ (src : Bytes) (limit s v : ℕ) (t₀ : List ℕ) (st₀ : State) where
             let r = leads-file g.behind (ap (log_of (files_in src)).version_file (sym (add-one at)) ∙ e) m in
             ap (follow limit z) r.1 ∙ ap (λ (a : Answer RuleState). a >>= (λ y. read_file limit of_version f y)) (g.follows z w₀ r.0 r.2 b)
 
-        faulty : {r : Refusal} → read_file limit of_version f (state_of src st t) ≡ refused r → (z : RuleState) (w₀ w : Way) → Leads (log_of (files_in src)) w₀ s v w
+        faulty : {r : Refusal} → read_file limit of_version f (state_of src st t) ≡ refused r
+            → (z : RuleState) (w₀ w : Way) → Leads (log_of (files_in src)) w₀ s v w
             → follow limit z w₀ ≡ accepted (state_of src st₀ t₀) → follow limit z w ≡ refused r
         faulty q z w₀ w l b =
             let c = leads-cut (at + 1) (omega (arith, g.behind)) (omega arith) l in

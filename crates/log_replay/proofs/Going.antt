@@ -94,7 +94,8 @@ module _ (src : Text) (entry from to limit : ℕ) (held : Bool) (t₀ : List ℕ
       unfolding body_as
       faulty e =
           read_file-refused limit (origin held) (body_as entry from (part src from to)) (state_of src st₀ t₀)
-          (step ∙ ap (λ (a : Answer RuleState). a >>= (λ next. read_lines limit (origin held) entry (suc line) (end + 1) (lines (part src (end + 1) to)) next)) e)
+          (step
+          ∙ ap (λ (a : Answer RuleState). a >>= (λ next. read_lines limit (origin held) entry (suc line) (end + 1) (lines (part src (end + 1) to)) next)) e)
 
       size : length (part src at end) ≡ end - at
       size = length_part src at end (omega (arith, x.within))

@@ -83,7 +83,8 @@ pub nothing-renewed : (z : State) → Renewed z (record { table = nowhere; colum
 unfolding state_of nothing_live rows_of or_no_table or_unstated
 nothing-renewed z = (
   λ src t.
-      ap (λ (o : Option RuleMetaData). record { table = or_no_table o; in_force = or_unstated (protocol_at src nowhere); live = [] }) (table-nowhere src nowhere refl)
+      ap (λ (o : Option RuleMetaData). record { table = or_no_table o; in_force = or_unstated (protocol_at src nowhere); live = [] })
+      (table-nowhere src nowhere refl)
       ∙ ap (λ (o : Option Protocol). record { table = no_table; in_force = or_unstated o; live = [] }) (protocol-nowhere src nowhere refl),
   λ src limit t w. carries-none
       (record { table = nowhere; columns = 0; protocol = nowhere; base = z.base; live = 0 })

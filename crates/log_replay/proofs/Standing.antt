@@ -34,7 +34,8 @@ module _ (src : Text) where
       → map (row_of src) (put (key src) c rs) ≡ put path_of (row_of src c) (map (row_of src) rs)
   rows-put c rs s h = put_map (key src) path_of (row_of src) c rs (stands-path c s) (stands-paths rs h)
 
-  pub rows-take_out : (k : Bytes) (rs : List Cells) → All (Stands src) rs → map (row_of src) (take_out (key src) k rs) ≡ take_out path_of k (map (row_of src) rs)
+  pub rows-take_out : (k : Bytes) (rs : List Cells) → All (Stands src) rs
+      → map (row_of src) (take_out (key src) k rs) ≡ take_out path_of k (map (row_of src) rs)
   rows-take_out k rs h = take_out-map (key src) path_of (row_of src) k rs (stands-paths rs h)
 
   -- two numbers more in a row: its line is as it was

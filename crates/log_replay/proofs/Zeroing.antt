@@ -137,7 +137,12 @@ module _ (src : Text) (entry from to : ℕ) where
   telling-start h = record {
     upto = omega arith;
     number = omega arith;
-    stated = record { meta_data = omega arith; protocol = omega arith; of_table = λ n. absurd (not-suc-le-zero n); of_protocol = λ n. absurd (not-suc-le-zero n) };
+    stated = record {
+      meta_data = omega arith;
+      protocol = omega arith;
+      of_table = λ n. absurd (not-suc-le-zero n);
+      of_protocol = λ n. absurd (not-suc-le-zero n);
+    };
     reads =
         ap
         (λ (o : Option RuleMetaData). zero_lines entry 1 (lines (part src from to)) (record { of_table = o; of_protocol = protocol_at src nowhere }))
@@ -184,13 +189,15 @@ module _ (src : Text) (entry from to : ℕ) where
     -- ---- one line more, which ends at `end`
 
     module _ (end : ℕ) (h : at < to) (l : to ≤ length src) (y : EndsLine src at to end) where
-      step : zero_lines entry 1 (lines (part src from to)) said_nothing ≡ zero_lines entry line (part src at end ∷ lines (part src (end + 1) to)) (said_of src x)
+      step : zero_lines entry 1 (lines (part src from to)) said_nothing
+          ≡ zero_lines entry line (part src at end ∷ lines (part src (end + 1) to)) (said_of src x)
       step = sym g.reads ∙ ap (λ (ls : List Bytes). zero_lines entry line ls (said_of src x)) (ends-lines src at end to h l y)
 
       size : length (part src at end) ≡ end - at
       size = length_part src at end (omega (arith, y.within))
 
-      next-number : (z : RuleSaid) → zero_lines entry (line + 1) (lines (part src (end + 1) to)) z ≡ zero_lines entry (suc line) (lines (part src (end + 1) to)) z
+      next-number : (z : RuleSaid)
+          → zero_lines entry (line + 1) (lines (part src (end + 1) to)) z ≡ zero_lines entry (suc line) (lines (part src (end + 1) to)) z
       next-number z = ap (λ (n : ℕ). zero_lines entry n (lines (part src (end + 1) to)) z) (add-one line)
 
       pub telling-empty : end ≤ at → Telling src entry from to (end + 1) x (line + 1)

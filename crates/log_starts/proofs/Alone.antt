@@ -24,12 +24,12 @@ files from_zero = 0
 files (from_checkpoint f) = 0
 files (and_then w g) = suc (files w)
 
-leads-beginning : {log : Log} {b w : Way} {s v : ℕ} → Leads log b s v w → beginning w ≡ beginning b
+leads-beginning : {log : Log} {b : Way} {s v : ℕ} {w : Way} → Leads log b s v w → beginning w ≡ beginning b
 unfolding beginning
 leads-beginning here = refl
 leads-beginning (next l e) = leads-beginning l
 
-leads-files : {log : Log} {b w : Way} {s v : ℕ} → Leads log b s v w → v + files b ≡ s + files w
+leads-files : {log : Log} {b : Way} {s v : ℕ} {w : Way} → Leads log b s v w → v + files b ≡ s + files w
 unfolding files
 leads-files here = refl
 leads-files (next l e) = omega (arith, leads-files l)

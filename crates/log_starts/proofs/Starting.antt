@@ -195,7 +195,7 @@ module _ (log : Log) where
       let q : other_way_to log (suc c) ≡ onward_by g (way_to log c) = by-file (way_to log c) e in
       subst (λ (i : ℕ). Falling (suc c) (other_way_to log (suc c)) i) (sym k) (falling-by e (λ x p. (x, q ∙ p, here)) (λ p. q ∙ p))
 
-leads-join : {log : Log} {a w y : Way} {s u v : ℕ} → Leads log a s u w → Leads log w u v y → Leads log a s v y
+leads-join : {log : Log} {a w : Way} {s u v : ℕ} {y : Way} → Leads log a s u w → Leads log w u v y → Leads log a s v y
 leads-join l here = l
 leads-join l (next m e) = next (leads-join l m) e
 

@@ -60,7 +60,8 @@ outside-orders op x y z {a} {b} {c} e f g =
     let r : order_of c ≡ z = ap order_of g ∙ order-back z in
     rw (p, q, r)
 
-numerals-outside : (op : Op) (n : Signed) (x y : RuleNumber) → outside_numerals op n (numeral_is x) (numeral_is y) ≡ outside_numbers op (number (signed_is n)) x y
+numerals-outside : (op : Op) (n : Signed) (x y : RuleNumber) → outside_numerals op n (numeral_is x) (numeral_is y)
+    ≡ outside_numbers op (number (signed_is n)) x y
 unfolding outside_numerals numeral_is outside_numbers
 numerals-outside op n (number x) (number y) = rw (signed_back x, signed_back y)
 numerals-outside op n (number x) out_of_range = refl
@@ -80,4 +81,5 @@ pub outside-signed : (op : Op) (n lo hi : Signed) {a b c : Order} → a ≡ orde
     → outside_by op (order_of a) (order_of b) (order_of c) ≡ outside order_of_numbers op (signed_is n) (signed_is lo) (signed_is hi)
 unfolding outside outside_by
 outside-signed op n lo hi e f g =
-    outside-orders op (order_of_numbers (signed_is lo) (signed_is hi)) (order_of_numbers (signed_is lo) (signed_is n)) (order_of_numbers (signed_is hi) (signed_is n)) e f g
+    outside-orders op (order_of_numbers (signed_is lo) (signed_is hi)) (order_of_numbers (signed_is lo) (signed_is n))
+    (order_of_numbers (signed_is hi) (signed_is n)) e f g

@@ -2,7 +2,8 @@
 use Rattle.std.specs.Prelude.{false}
 use Rattle.std.proofs.Math.Option.{Option, none, some}
 use Rattle.rules.specs.Bytes.{Bytes}
-use Rattle.rules.specs.Query.{Number as RuleNumber, number, out_of_range, not_number, number_of, As as RuleAs, as_text, as_number, Op as RuleOp, eq, lt, le, gt, ge}
+use Rattle.rules.specs.Query.{Number as RuleNumber, number, out_of_range, not_number, number_of}
+use Rattle.rules.specs.Query.{As as RuleAs, as_text, as_number, Op as RuleOp, eq, lt, le, gt, ge}
 use Rattle.query_numbers.specs.Answers.{signed_of}
 use Rattle.query_numbers.specs.declared.Signed.{Signed}
 use Rattle.query_conditions.specs.declared.words.As.{As}

@@ -30,7 +30,8 @@ unfolding picked kept keep_if row_of
 picked-map src cs [] = refl
 picked-map src cs (c ∷ xs) = go (picked-map src cs xs) (meets_all cs (facts_at src c)) refl
   where
-    go : picked cs (map (row_of src) xs) ≡ map (row_of src) (kept (λ (c : Cells). meets_all cs (facts_at src c)) xs) → (b : Bool) → meets_all cs (facts_at src c) ≡ b
+    go : picked cs (map (row_of src) xs) ≡ map (row_of src) (kept (λ (c : Cells). meets_all cs (facts_at src c)) xs)
+        → (b : Bool) → meets_all cs (facts_at src c) ≡ b
         → picked cs (map (row_of src) (c ∷ xs)) ≡ map (row_of src) (kept (λ (c : Cells). meets_all cs (facts_at src c)) (c ∷ xs))
     go ih true e = rw (picked, kept, keep_if, e, ih)
     go ih false e = rw (picked, kept, keep_if, e, ih)

@@ -162,7 +162,8 @@ module _ (src : Text) (cs : List Condition) (st : State) (t : List ℕ) (w : Car
         listing-listed cs v.0 (state_of src st t) g.accepts e (settled-range src st t w u f cs i) in
         record {
           answer = says ∙ sym (ap told k);
-          holds = z ∙ room ∙ sym (ap (λ (a : Answer RuleListing). room_after_reading a t) k ∙ leaves-accepted 6144 numbers t (listed cs v.0 (state_of src st t)));
+          holds =
+              z ∙ room ∙ sym (ap (λ (a : Answer RuleListing). room_after_reading a t) k ∙ leaves-accepted 6144 numbers t (listed cs v.0 (state_of src st t)));
         }
       where
         says : read_is (Listed (record { version = v; rows = m; reader = n.reader; writer = n.writer; writable = n.writable }))

@@ -1,6 +1,6 @@
 -- What a row written, put in or taken out at the place that a search found makes of a live table.
 use Prim.Native.Nat.{ℕ, ◌+◌, ◌-◌, ◌*◌, ◌≤◌, ◌<◌}
-use mathlib.Core.Path.{◌≡◌, refl, sym, ap, ◌∙◌}
+use mathlib.Core.Path.{◌≡◌, refl, sym, ap, ◌∙◌, subst}
 use native.Mathlib.Omega.{arith}
 use mathlib.Core.List.{List, []}
 use lib.ListN.{length, take, drop, set, length-drop}
@@ -21,6 +21,7 @@ use Rattle.json_strings.specs.Decoded.{WellSpelled}
 use Rattle.row_table.specs.Table.{wide, row, rows, row_at, Room, behind, Changed, Stood}
 use Rattle.row_table.specs.declared.Cells.{Cells}
 use Rattle.row_table.proofs.Standing.{stood-over, stood-none, stood-as}
+use Rattle.row_live.specs.declared.Found.{Found}
 use Rattle.row_live.specs.declared.Found.TheVariants.{Held, Place}
 use Rattle.row_live.specs.Live.{path_at, key, Table, Finds, Became, marked}
 
@@ -28,6 +29,16 @@ use Rattle.row_live.specs.Live.{path_at, key, Table, Finds, Became, marked}
 pub onward : (base : ℕ) (t : List ℕ) → take (length t - base * wide) (drop (base * wide) t) ≡ behind base t
 unfolding part
 onward base t = part-behind t (base * wide) (length t) (omega arith)
+
+-- what is found there
+module _ (src : Text) (k : Bytes) (base n i : ℕ) (t : List ℕ) where
+  pub held-onward : {r : Found} → r ≡ Held i → Finds src k n (take (length t - base * wide) (drop (base * wide) t)) r
+      → Finds src k n (behind base t) (Held i)
+  held-onward e f = subst (λ (u : List ℕ). Finds src k n u (Held i)) (onward base t) (subst (Finds src k n _) e f)
+
+  pub place-onward : {r : Found} → r ≡ Place i → Finds src k n (take (length t - base * wide) (drop (base * wide) t)) r
+      → Finds src k n (behind base t) (Place i)
+  place-onward e f = subst (λ (u : List ℕ). Finds src k n u (Place i)) (onward base t) (subst (Finds src k n _) e f)
 
 -- a row behind others is one of all
 row-behind : (base n i : ℕ) (t : List ℕ) → i < n → row_at (rows n (behind base t)) i ≡ row_at (rows (base + n) t) (base + i)

@@ -37,7 +37,8 @@ path_at-once ms p e =
     bound (guard (among 1 512 (length x))) _ b (λ _ _ g. (v, c, d ∙ g))))
 
 -- only an add's key makes an add
-pub action_by-add : (k : Key) (v : Text) (f : Facts) → action_by k v ≡ some (add f) → (ms : List Member) × (object_of in_action v ≡ some ms) × (add_of ms ≡ some f)
+pub action_by-add : (k : Key) (v : Text) (f : Facts) → action_by k v ≡ some (add f)
+    → (ms : List Member) × (object_of in_action v ≡ some ms) × (add_of ms ≡ some f)
 unfolding action_by
 action_by-add key_add v f h = bound (object_of in_action v) _ h (λ ms a b. bound (add_of ms) _ b (λ g c d. (ms, a, c ∙ ap some (add_same d))))
 action_by-add key_remove v f h = bound (object_of in_action v) _ h (λ ms a b. bound (path_at ms) _ b (λ p c d. apart (cc)))

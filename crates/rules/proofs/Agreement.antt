@@ -93,7 +93,9 @@ module _ (ps qs : Pairs) where
   pub agree_pairs-true : agree_pairs ps qs ≡ true → (column : Bytes) → value_at column ps ≡ value_at column qs
   unfolding agree_pairs
   agree_pairs-true h column =
-      go (agree_on-at ps (and_left (agree_on ps ps qs) (agree_on qs ps qs) h) column) (agree_on-at qs (and_right (agree_on ps ps qs) (agree_on qs ps qs) h) column)
+      go
+      (agree_on-at ps (and_left (agree_on ps ps qs) (agree_on qs ps qs) h) column)
+      (agree_on-at qs (and_right (agree_on ps ps qs) (agree_on qs ps qs) h) column)
     where
       go : (value_at column ps ≡ none) ⊎ (value_at column ps ≡ value_at column qs) → (value_at column qs ≡ none) ⊎ (value_at column ps ≡ value_at column qs)
           → value_at column ps ≡ value_at column qs

@@ -96,7 +96,8 @@ module _ (limit : ℕ) where
   unfolding follow
   later-follow z from_zero = later-accepted z
   later-follow z (from_checkpoint f) = later-read_file of_checkpoint f nothing_live
-  later-follow z (and_then w g) = later-bind (follow limit z w) (λ st. read_file limit of_version g st) (later-follow z w) (λ st. later-read_file of_version g st)
+  later-follow z (and_then w g) =
+      later-bind (follow limit z w) (λ st. read_file limit of_version g st) (later-follow z w) (λ st. later-read_file of_version g st)
 
 later-zero_lines : (e k : ℕ) (ls : List Bytes) (s : Said) → Later (zero_lines e k ls s)
 unfolding zero_lines

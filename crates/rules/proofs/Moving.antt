@@ -286,4 +286,5 @@ listing-same cs v s t h =
         subst
         (λ (b : Bool). SameAnswer SameListing (ranged s) (require value_out_of_range b >>= (λ _. accepted (listed t))))
         (in_range_all-same cs h.live)
-        (same-require value_out_of_range value_out_of_range refl (in_range_all cs s.live) (accepted (listed s)) (accepted (listed t)) (both-accepted same-listed))
+        (same-require value_out_of_range value_out_of_range refl (in_range_all cs s.live) (accepted (listed s)) (accepted (listed t))
+        (both-accepted same-listed))

@@ -85,12 +85,14 @@ unfoldable pub in_actions : Unit {0}
 unfolding Actions.in_line Actions.in_action Actions.in_field Actions.path_at Actions.pairs Actions.partition_values_at Actions.add_of Actions.unstated
     Actions.protocol_number_at Actions.or_empty Actions.features_at Actions.protocol_of Actions.most_columns Actions.id_at Actions.meta_data_of Actions.no_skip
     Actions.skip_count_in Actions.or_at_once Actions.skip_of Actions.key_of
-    Actions.action_by Actions.only_one Actions.line_member Actions.action Actions.is_line Actions.or_nothing Actions.path_written Actions.path_in Actions.path_shown
+    Actions.action_by Actions.only_one Actions.line_member Actions.action Actions.is_line Actions.or_nothing Actions.path_written Actions.path_in
+    Actions.path_shown
     Actions.records_of Actions.records_in Actions.records_shown
 in_actions = tt
 
 unfoldable pub in_path_places : Unit {0}
-unfolding JsonValues.member_left JsonValues.members_left Actions.path_left Actions.start_of Actions.start_in Actions.path_start Actions.path_place Examples.places
+unfolding JsonValues.member_left JsonValues.members_left Actions.path_left Actions.start_of Actions.start_in Actions.path_start Actions.path_place
+    Examples.places
 in_path_places = tt
 
 unfoldable pub in_live : Unit {0}
@@ -117,7 +119,8 @@ unfolding Gate.known_reader Gate.known_writer Gate.reader_names Gate.writer_name
 in_gate = tt
 
 unfoldable pub in_query : Unit {0}
-unfolding Query.most_digits Query.in_range Query.positive Query.negative Query.digits_in Query.number_of Query.is_number Query.is_out_of_range Query.as_of Query.op_of
+unfolding Query.most_digits Query.in_range Query.positive Query.negative Query.digits_in Query.number_of Query.is_number Query.is_out_of_range Query.as_of
+    Query.op_of
     Query.fits Query.stands Query.condition_in Query.conditions_in Query.column_of Query.most_query Query.most_conditions Query.query
 in_query = tt
 
@@ -150,7 +153,8 @@ unfolding Keeping.keeping Keeping.room_after_keeping
 in_keeping = tt
 
 unfoldable pub in_agreement : Unit {0}
-unfolding Agreement.agree_value Agreement.agree_found Agreement.agree_on Agreement.agree_pairs Agreement.agree_records Agreement.agree_facts Agreement.agree_skip
+unfolding Agreement.agree_value Agreement.agree_found Agreement.agree_on Agreement.agree_pairs Agreement.agree_records Agreement.agree_facts
+    Agreement.agree_skip
     Agreement.agree_row Agreement.agree_rows Agreement.agree_protocols Agreement.agree_tables Agreement.agree
 in_agreement = tt
 
@@ -160,7 +164,8 @@ unfolding Cleaning.is_between Cleaning.is_old Cleaning.may_go Cleaning.named Cle
 in_cleaning = tt
 
 unfoldable pub in_program : Unit {0}
-unfolding Program.most_input Program.listed Program.yes_no Program.or_dash Program.line_of Program.header Program.row_line Program.row_lines Program.refusal_line
+unfolding Program.most_input Program.listed Program.yes_no Program.or_dash Program.line_of Program.header Program.row_line Program.row_lines
+    Program.refusal_line
     Program.printed_by Program.printed
 in_program = tt
 
@@ -169,7 +174,8 @@ unfolding Samples.quotes Samples.json Samples.body_of Samples.file Samples.littl
 in_samples = tt
 
 unfoldable pub in_edges : Unit {0}
-unfolding Edges.says_state Edges.marks_of Edges.says_marks Edges.says_table Edges.says_listing Edges.says_numbers Edges.rule Edges.add_of Edges.remove_of Edges.v0
+unfolding Edges.says_state Edges.marks_of Edges.says_marks Edges.says_table Edges.says_listing Edges.says_numbers Edges.rule Edges.add_of Edges.remove_of
+    Edges.v0
     Edges.v1 Edges.v3 Edges.table_of
     Edges.checkpoint_at_two Edges.c2 Edges.bare2
     Edges.m2 Edges.edges
@@ -211,6 +217,7 @@ unfolding in_samples in_edges in_names_and_numbers in_examples in_foreign_column
 in_tables = tt
 
 unfoldable pub rules : Unit {0}
-unfolding in_texts in_live in_history in_starts in_marker in_gate in_query in_picking in_manifests in_rooms in_reading in_due in_keeping in_agreement in_cleaning
+unfolding in_texts in_live in_history in_starts in_marker in_gate in_query in_picking in_manifests in_rooms in_reading in_due in_keeping in_agreement
+    in_cleaning
     in_program in_tables
 rules = tt

@@ -44,7 +44,8 @@ module _ {A : Type 0} (key : A → Bytes) where
       ∙ ap (λ (t : List A). x ∷ t) (take_out-found k xs m d s.1 (le_of_suc-le-suc l) e)
       ∙ rw suc-add
 
-  pub lookup-found : (k : Bytes) (xs : List A) (m : ℕ) (d : A) → Ascends key xs → m < length xs → key (get_or xs m d) ≡ k → lookup key k xs ≡ some (get_or xs m d)
+  pub lookup-found : (k : Bytes) (xs : List A) (m : ℕ) (d : A) → Ascends key xs → m < length xs → key (get_or xs m d) ≡ k
+      → lookup key k xs ≡ some (get_or xs m d)
   lookup-found k [] m d s l e = absurd (not-suc-le-zero l)
   lookup-found k (x ∷ xs) zero d s l e = lookup-here key k x xs (sym e)
   lookup-found k (x ∷ xs) (suc m) d s l e =
@@ -120,7 +121,12 @@ module _ {A : Type 0} (key : A → Bytes) (k : Bytes) (xs : List A) (d : A) wher
         go : (j : ℕ) → j < length xs → (m ≡ j) ⊎ (m < j) → order (key (get_or xs j d)) k ≡ more
         go j g (inl q) = rw (← q) e
         go j g (inr l) =
-            order-trans-more (key (get_or xs j d)) (key (get_or xs m d)) k (less-more (key (get_or xs m d)) (key (get_or xs j d)) (ascends-at key xs s m j d l g)) e
+            order-trans-more
+            (key (get_or xs j d))
+            (key (get_or xs m d))
+            k
+            (less-more (key (get_or xs m d)) (key (get_or xs j d)) (ascends-at key xs s m j d l g))
+            e
 
         above' : (j : ℕ) → m ≤ j → j < length xs → order (key (get_or xs j d)) k ≡ more
         above' j l g = go j g (eq-or-lt_of_le l)

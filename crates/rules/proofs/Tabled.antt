@@ -178,7 +178,8 @@ unfolding zero_lines
 zero_lines-id e k [] s to h p = subst SaidId (cc) p
 zero_lines-id e k ([] ∷ ls) s to h p = zero_lines-id e (suc k) ls s to h p
 zero_lines-id e k ((b ∷ bs) ∷ ls) s to h p =
-    let a = bind-accepted (or_refuse (malformed e k) (action (b ∷ bs))) (λ x. or_refuse (malformed e k) (say x s) >>= (λ next. zero_lines e (suc k) ls next)) h in
+    let a =
+    bind-accepted (or_refuse (malformed e k) (action (b ∷ bs))) (λ x. or_refuse (malformed e k) (say x s) >>= (λ next. zero_lines e (suc k) ls next)) h in
     let c = bind-accepted (or_refuse (malformed e k) (say a.0 s)) (λ next. zero_lines e (suc k) ls next) a.2 in
     zero_lines-id e (suc k) ls c.0 to c.2
     (say-id a.0 (b ∷ bs) s c.0 (or_refuse-accepted (malformed e k) (action (b ∷ bs)) a.1) (or_refuse-accepted (malformed e k) (say a.0 s) c.1) p)

@@ -1,0 +1,10 @@
+-- `common_long` meets its contract: eights that are the same in both, up to the first that are not or to the last.
+use Rattle.std.proofs.Common.{◌+◌, ◌-◌, ◌≤◌, length}
+use Rattle.bytes_eights.specs.Alike.{Alike}
+use Rattle.bytes_eights.proofs.common_long.Given as goal
+
+abbrev pub invariant-loop-n : goal.invariant-loop-n
+invariant-loop-n l = (l.n ≤ l.room) × (l.i + l.room ≤ length l.s) × (l.j + l.room ≤ length l.t) × Alike l.s l.i l.t l.j l.n
+
+abbrev pub decreases-loop-n : goal.decreases-loop-n
+decreases-loop-n l = l.room - l.n

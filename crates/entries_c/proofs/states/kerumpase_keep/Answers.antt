@@ -1,0 +1,19 @@
+-- `kerumpase_keep` meets its contract.
+use mathlib.Core.Path.{sym, ap, ◌∙◌}
+use Rattle.manifests.specs.Rooms.{kept_is}
+use Rattle.entries_c.proofs.Counting.{counted-accepted, counted-refused}
+use Rattle.entries_c.proofs.states.kerumpase_keep.Goals as goal
+
+pub returns-in-Numbers : goal.returns-in-Numbers
+unfolding kept_is
+returns-in-Numbers c = record {
+  value = counted-accepted (ap kept_is (sym c.in-Numbers.is) ∙ c.keep.ensures.answer) c.accepted.ensures;
+  kept_after = c.keep.ensures.holds;
+}
+
+pub returns-in-Refused : goal.returns-in-Refused
+unfolding kept_is
+returns-in-Refused c = record {
+  value = counted-refused (ap kept_is (sym c.in-Refused.is) ∙ c.keep.ensures.answer) c.refused_as.ensures;
+  kept_after = c.keep.ensures.holds;
+}

@@ -1,0 +1,105 @@
+-- `all_known` meets its contract. The loop keeps that all strings are known where those that are left are; what is left gets shorter.
+use mathlib.Core.Path.{refl, sym, ap, ◌∙◌}
+use Prim.Native.Nat.{◌+◌, ◌≤◌}
+use native.Mathlib.Omega.{arith}
+use lib.ListN.{length, drop}
+use Rattle.rules.specs.Bytes.{all_among}
+use Rattle.json_strings.specs.Decoded.{decoded}
+use Rattle.field_containers.specs.Strung.{Listed, Onward}
+use Rattle.field_containers.specs.Featured.{known_names}
+use Rattle.field_containers.proofs.Walking.{listed-neither, listed-closed, listed_more, onward-none}
+use Rattle.field_containers.proofs.Walking.{onward-neither, onward-closed, onward-first, onward-more}
+use Rattle.rules.proofs.Asking.{known-not, known-last, known_more}
+use Rattle.field_containers.proofs.features.all_known.Goals as goal
+
+pub loop-n-init : goal.loop-n-init
+loop-n-init c =
+    let f = c.in-More.ensures in
+    (f.2, λ ss l. (ss, refl, listed_more c.args.s.now c.args.at ss l c.in-More.first f))
+
+pub read_name-requires : goal.read_name-requires
+read_name-requires c = c.loop-n.invariant.0
+
+pub returns-in_default : goal.returns-in_default
+returns-in_default c =
+    λ ss l. let (left, e, o) = c.loop-n.invariant.1 ss l in
+    onward-none c.args.s.now c.loop-n.i left o c.in_default.ensures
+
+pub is_known-requires : goal.is_known-requires
+is_known-requires c = let q = c.in-Of.ensures in q.named
+
+pub closing-requires : goal.closing-requires
+closing-requires c =
+    let q = c.in-Of.ensures in q.named.within
+
+pub returns-in-Neither-closing : goal.returns-in-Neither-closing
+returns-in-Neither-closing c =
+    λ ss l. let (left, e, o) = c.loop-n.invariant.1 ss l in
+    onward-neither
+    c.args.s.now
+    c.loop-n.i
+    left o
+    c.in-Of.n
+    c.in-Of.ensures
+    c.in-Neither-closing.ensures
+
+pub returns-in-Closed-closing : goal.returns-in-Closed-closing
+returns-in-Closed-closing c =
+    known-last
+    (Listed c.args.s.now c.args.at)
+    (Onward c.args.s.now)
+    c.loop-n.i
+    (decoded (drop c.in-Of.n.at c.args.s.now))
+    (known_names c.args.writer)
+    c.loop-n.invariant.1
+    (sym c.is_known.ensures ∙ c.if-is_known.true)
+    (λ left o. onward-closed c.args.s.now c.loop-n.i left o c.in-Of.n c.in-Of.ensures
+    c.in-Closed-closing.ensures)
+
+pub loop-n-smaller : goal.loop-n-smaller
+loop-n-smaller c =
+    let q = c.in-Of.ensures in
+    let low : c.loop-n.i + 1 ≤ c.in-Of.n.at = q.from in
+    let mid : c.in-Of.n.at + 1 ≤ c.in-Of.n.end = q.named.from in
+    let f = c.in-More-closing.ensures in
+    let after : c.in-Of.n.end + 1 ≤ c.in-More-closing.k = f.1 in
+    let within : c.in-More-closing.k ≤ length c.args.s.now = f.2 in
+    omega arith
+
+pub loop-n-preserved : goal.loop-n-preserved
+loop-n-preserved c =
+    let f = c.in-More-closing.ensures in (
+      f.2,
+      known_more
+          (Listed c.args.s.now c.args.at)
+          (Onward c.args.s.now)
+          c.loop-n.i
+          (decoded (drop c.in-Of.n.at c.args.s.now))
+          (known_names c.args.writer)
+          c.loop-n.invariant.1
+          (sym c.is_known.ensures ∙ c.if-is_known.true)
+          c.in-More-closing.k
+          (λ left o. onward-more c.args.s.now c.loop-n.i left o c.in-Of.n c.in-Of.ensures c.in-More-closing.k f),
+    )
+
+pub returns-else-is_known : goal.returns-else-is_known
+returns-else-is_known c =
+    known-not
+    (Listed c.args.s.now c.args.at)
+    (Onward c.args.s.now)
+    c.loop-n.i
+    (decoded (drop c.in-Of.n.at c.args.s.now))
+    (known_names c.args.writer)
+    c.loop-n.invariant.1
+    (λ left o. onward-first c.args.s.now c.loop-n.i left o c.in-Of.n c.in-Of.ensures)
+    (sym c.is_known.ensures ∙ c.if-is_known.false)
+
+pub returns-in-Neither : goal.returns-in-Neither
+returns-in-Neither c =
+    λ ss l. listed-neither c.args.s.now c.args.at ss l c.in-Neither.ensures
+
+pub returns-in-Closed : goal.returns-in-Closed
+unfolding all_among
+returns-in-Closed c =
+    λ ss l. sym (ap (all_among (known_names c.args.writer))
+    (listed-closed c.args.s.now c.args.at ss l c.in-Closed.ensures))

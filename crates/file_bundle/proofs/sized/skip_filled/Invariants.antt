@@ -1,0 +1,12 @@
+-- The bytes passed, and the size of what is left.
+use mathlib.Core.Path.{◌≡◌}
+use Prim.Native.Nat.{◌≤◌, ◌+◌, ◌-◌}
+use lib.ListN.{length, drop}
+use Rattle.file_bundle.specs.Files.{name_size}
+use Rattle.file_bundle.proofs.sized.skip_filled.Given as goal
+
+abbrev pub invariant-loop-i : goal.invariant-loop-i
+invariant-loop-i l = (l.i ≤ length l.p) × (name_size l.p ≡ l.i + name_size (drop l.i l.p))
+
+abbrev pub decreases-loop-i : goal.decreases-loop-i
+decreases-loop-i l = length l.p - l.i

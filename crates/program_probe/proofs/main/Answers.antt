@@ -1,0 +1,1 @@
+-- The requests left fall.
