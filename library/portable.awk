@@ -13,9 +13,10 @@ function refuse(why) {
 
 BEGIN {
     # Integers of at most 64 bits, pointers, and what is done with them: nothing of it depends on the machine. Left out on purpose: assembly,
-    # vectors and floats, atomic and volatile access, 128-bit integers, other address spaces, sret, byval, inreg, calling conventions, globals.
+    # vectors and floats, atomic and volatile access, 128-bit integers, other address spaces, sret, byval, inreg, calling conventions, and globals
+    # but the bytes of byte strings, which nothing writes.
     known("define declare internal void ptr i1 i8 i16 i32 i64 x to label align true false null")
-    known("alloca load store getelementptr inbounds call ret br switch unreachable select phi")
+    known("alloca load store getelementptr inbounds call ret br switch unreachable select phi extractvalue")
     known("icmp eq ne ult ule ugt uge slt sle sgt sge zext sext trunc nuw nsw exact disjoint")
     known("add sub mul udiv urem sdiv srem and or xor shl lshr ashr")
     known("noundef zeroext signext immarg captures none readonly writeonly readnone nonnull")
@@ -27,6 +28,7 @@ BEGIN {
           "memory(argmem: write) memory(argmem: read) memory(none)", said, " ")
     for (i in said) promise[said[i]] = 1
     promise["\"probe-stack\"=\"inline-asm\""] = 1   # long frames touch each page of the stack: both machines have it
+    promise["\"stack-probe-size\"=\"3072\""] = 1    # and how far apart they touch it
     promise["\"target-cpu\"=\"x86-64\""] = 1        # the plainest x86-64; names no processor of Arm, and is ignored there
 
     four = "ptr,i64"                                  # a byte string or a room
@@ -82,6 +84,8 @@ BEGIN {
     entries[name]++
 }
 
+/^@static\.[0-9]+ = private unnamed_addr constant \[[0-9]+ x i8\] (c"[^"]*"|zeroinitializer), align 1$/ { next }
+
 {
     line = $0
     sub(/;.*/, "", line)
@@ -95,7 +99,10 @@ BEGIN {
         if (!(name in outside)) refuse("a function outside that is not known, " name)
     }
     sub(/^define .* \{$/, "&}", line)
-    gsub(/\{\}$|\{ i64, i64 \}/, " ", line)
+    sub(/\{\}$/, " ", line)
+    # A pair, its second part at 1, 2, 4 or 8 on both machines, as it is answered, read whole and taken apart.
+    if (line ~ /^(define (internal )?(noundef )?|  ret |  %[^ ]* = (load|(call|extractvalue) (noundef )?) ?)\{/)
+        sub(/\{ (i8|i16|i32|i64|ptr), (i8|i16|i32|i64|ptr) \}/, " ", line)
     if (line ~ /[{}]/) refuse("a struct, whose layout is not known to be the same")
     gsub(/@"[^"]*"/, " ", line)                       # names of functions
     sub(/^[A-Za-z0-9_.]+:/, "", line)                 # labels

@@ -13,8 +13,23 @@ def listed():
     for line in (TOP / 'crates.txt').read_text().split('\n'):
         name, colon, needs = line.split('#')[0].partition(':')
         if colon:
-            found[name.strip()] = needs.split()
+            found[name.split()[0]] = needs.split()
     return found
+
+
+def static_libraries():
+    """The crates that crates.txt lists as static libraries, for C."""
+    heads = [line.split('#')[0].partition(':')[0].split() for line in (TOP / 'crates.txt').read_text().split('\n') if ':' in line.split('#')[0]]
+    return [head[0] for head in heads if 'staticlib' in head[1:]]
+
+
+def below(crate):
+    """Every crate of the repository that a crate stands on, in the order of crates.txt."""
+    needs, found, new = listed(), set(), {crate}
+    while new:
+        new = {need for one in new for need in needs[one] if need in needs} - found
+        found |= new
+    return [c for c in needs if c in found]
 
 
 def libraries():
@@ -43,10 +58,10 @@ def rt_alone():
     return held
 
 
-def digest_of(crate):
+def digest_of(crate, parts=PARTS):
     """A digest of a crate's own files, its edits included."""
     whole = hashlib.sha256()
-    for part in PARTS:
+    for part in parts:
         for path in sorted((TOP / 'crates' / crate / part).rglob('*')):
             if path.is_file():
                 whole.update(path.relative_to(TOP).as_posix().encode() + b'\0' + hashlib.sha256(path.read_bytes()).digest())
