@@ -22,10 +22,11 @@ BEGIN {
     known("noundef zeroext signext immarg captures none readonly writeonly readnone nonnull")
 
     outside["llvm.memmove.p0.p0.i64"] = outside["llvm.memcpy.p0.p0.i64"] = outside["llvm.memset.p0.i64"] = 1
+    outside["llvm.trap"] = 1                          # ends the process, where the proof says that nothing comes
     outside["llvm.cttz.i64"] = outside["llvm.ctlz.i64"] = outside["llvm.ctpop.i64"] = 1
 
     split("nounwind nocallback nofree nosync speculatable willreturn mustprogress norecurse memory(argmem: readwrite) " \
-          "memory(argmem: write) memory(argmem: read) memory(none)", said, " ")
+          "memory(argmem: write) memory(argmem: read) memory(none) memory(inaccessiblemem: write) alwaysinline noinline cold noreturn", said, " ")
     for (i in said) promise[said[i]] = 1
     promise["\"probe-stack\"=\"inline-asm\""] = 1   # long frames touch each page of the stack: both machines have it
     promise["\"stack-probe-size\"=\"3072\""] = 1    # and how far apart they touch it
@@ -86,9 +87,26 @@ BEGIN {
 
 /^@static\.[0-9]+ = private unnamed_addr constant \[[0-9]+ x i8\] (c"[^"]*"|zeroinitializer), align 1$/ { next }
 
+# A table of byte strings, which nothing writes: packed, so without padding, of pointers into itself, lengths and bytes. Pointers have eight bytes and
+# the low byte comes first on both machines, so each byte of it is the same.
+/^@static\.[0-9]+ = private constant <\{ / {
+    table = $1
+    line = $0
+    if (sub(/^@static\.[0-9]+ = private constant <\{ (ptr|\[[0-9]+ x i8\])(, (ptr|\[[0-9]+ x i8\]))* \}> <\{ /, "", line) && sub(/ \}>, align 8$/, "", line)) {
+        gsub(/\[[0-9]+ x i8\] (c"[^"]*"|zeroinitializer)/, "", line)
+        into = "ptr getelementptr (i8, ptr " table ", i64 "
+        while ((at = index(line, into)) && match(substr(line, at + length(into)), /^[0-9]+\)/))
+            line = substr(line, 1, at - 1) substr(line, at + length(into) + RLENGTH)
+        if (line ~ /^[, ]*$/) next
+    }
+    refuse("a table that is not of byte strings")
+    next
+}
+
 {
     line = $0
     sub(/;.*/, "", line)
+    gsub(/@"[^"]*"/, "@\"\"", line)                   # names of functions, which of generic ones have < and >
     if (line ~ /^@/) refuse("a global")
     if (line ~ /</) refuse("a vector, or a packed struct")
     if (line ~ /\.\.\./) refuse("arguments without end")
@@ -104,7 +122,7 @@ BEGIN {
     if (line ~ /^(define (internal )?(noundef )?|  ret |  %[^ ]* = (load|(call|extractvalue) (noundef )?) ?)\{/)
         sub(/\{ (i8|i16|i32|i64|ptr), (i8|i16|i32|i64|ptr) \}/, " ", line)
     if (line ~ /[{}]/) refuse("a struct, whose layout is not known to be the same")
-    gsub(/@"[^"]*"/, " ", line)                       # names of functions
+    gsub(/@""/, " ", line)
     sub(/^[A-Za-z0-9_.]+:/, "", line)                 # labels
     gsub(/[@%!#][A-Za-z0-9_.]+/, " ", line)           # names of values, marks, attributes
     gsub(/[][()=,*]/, " ", line)

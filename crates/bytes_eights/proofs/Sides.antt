@@ -10,9 +10,6 @@ module _ (s : List ℕ) (i : ℕ) (t : List ℕ) (j : ℕ) where
   pub alike-none : Alike s i t j 0
   alike-none k h = absurd (omega arith)
 
-  pub alike-one : get_or s i 0 ≡ get_or t j 0 → Alike s i t j 1
-  alike-one e k h = ap (λ (x : ℕ). get_or s x 0) (omega arith) ∙ e ∙ ap (λ (x : ℕ). get_or t x 0) (omega arith)
-
   pub alike-less : (n m : ℕ) → m ≤ n → Alike s i t j n → Alike s i t j m
   alike-less n m l a k h = a k (omega arith)
 

@@ -22,14 +22,12 @@ fn common_few(s: &[u8], i: usize, t: &[u8], j: usize, room: usize) -> usize
     requires { (i + room ≤ length s.now) × (j + room ≤ length t.now) }
     ensures { Common s.now i t.now j room result }
 {
-    let mut n = 0;
-    while n < room {
+    for n in 0..room {
         if s[i + n] != t[j + n] {
             return n;
         }
-        n += 1;
     }
-    n
+    room
 }
 
 // By eights, of which the last may begin among those before.

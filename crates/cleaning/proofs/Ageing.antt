@@ -1,7 +1,7 @@
 -- Whether a file may go, by what its name says and by its time.
 use mathlib.Core.Path.{◌≡◌, refl, sym, ap, ◌∙◌}
 use mathlib.Core.Bool.{true, false, ◌&&◌}
-use mathlib.Core.Option.{Option, none, some}
+use Rattle.std.specs.Prelude.{Option, None, Some}
 use Prim.Native.Nat.{ℕ, ◌-◌, ◌≤◌, ◌<◌}
 use lib.Dec.{ltb}
 use borrow.Author.Tests.{lt-ltb, le-ltb, le-leb, lt-leb}
@@ -39,11 +39,11 @@ module _ (today retention modified : ℕ) where
 
 -- the version of a version file's name
 abbrev tells_version : Name → Option ℕ
-tells_version (VersionFile w) = some w.0
-tells_version (Checkpoint w) = none
-tells_version Marker = none
-tells_version Other = none
-tells_version TooLarge = none
+tells_version (VersionFile w) = Some w.0
+tells_version (Checkpoint w) = None
+tells_version Marker = None
+tells_version Other = None
+tells_version TooLarge = None
 
 tells-version : (x : RuleName) → tells_version (name_is x) ≡ version_in x
 unfolding name_is version_in
@@ -58,7 +58,7 @@ module _ (c today retention : ℕ) (f : File) (r : Name) (e : r ≡ name_is (nam
   told g = sym (ap tells_version (sym g ∙ e) ∙ tells-version (name_of f.name))
 
   -- no version file
-  pub go-other : {x : Name} → r ≡ x → tells_version x ≡ none → false ≡ may_go c today retention f
+  pub go-other : {x : Name} → r ≡ x → tells_version x ≡ None → false ≡ may_go c today retention f
   unfolding may_go is_between
   go-other g n = sym (and-fails-left (is_old today retention f.time) (ap (is_between c) (told g ∙ n)))
 

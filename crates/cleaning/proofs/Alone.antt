@@ -7,19 +7,19 @@ use Rattle.rules.proofs.Tests.{apart}
 use Rattle.refusals.specs.Numbered.{numbered}
 use Rattle.refusals.proofs.Alone.{numbered-alone}
 use Rattle.cleaning.specs.Answers.{cleaned_is, CleanIs}
-use Rattle.cleaning.specs.declared.Cleaned.{Cleaned}
-use Rattle.cleaning.specs.declared.Cleaned.TheVariants.{Named, Refused}
+use Rattle.std.specs.Prelude.{Result, Ok, Err}
+use Rattle.refusals.specs.declared.Refusal.{Refusal}
 
-cleaned_is-alone : (r s : Cleaned) → cleaned_is r ≡ cleaned_is s → r ≡ s
+cleaned_is-alone : (r s : Result ℕ Refusal) → cleaned_is r ≡ cleaned_is s → r ≡ s
 unfolding cleaned_is
-cleaned_is-alone (Named n) (Named m) e = cc
-cleaned_is-alone (Named n) (Refused y) e = apart (cc)
-cleaned_is-alone (Refused x) (Named m) e = apart (cc)
-cleaned_is-alone (Refused x) (Refused y) e =
+cleaned_is-alone (Ok n) (Ok m) e = cc
+cleaned_is-alone (Ok n) (Err y) e = apart (cc)
+cleaned_is-alone (Err x) (Ok m) e = apart (cc)
+cleaned_is-alone (Err x) (Err y) e =
     let same : numbered x ≡ numbered y = cc in
-    ap Refused (numbered-alone x y same)
+    ap Err (numbered-alone x y same)
 
-pub clean-alone : (src : Bytes) (today retention : ℕ) (room room' room'' one one' one'' two two' two'' : Room) (r s : Cleaned)
+pub clean-alone : (src : Bytes) (today retention : ℕ) (room room' room'' one one' one'' two two' two'' : Room) (r s : Result ℕ Refusal)
     → CleanIs src today retention room room' one one' two two' r → CleanIs src today retention room room'' one one'' two two'' s
     → (r ≡ s) × (room' ≡ room'') × (one' ≡ one'') × (two' ≡ two'')
 clean-alone src today retention room room' room'' one one' one'' two two' two'' r s a b = (

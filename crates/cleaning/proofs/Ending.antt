@@ -23,7 +23,7 @@ use Rattle.log_replay.specs.Answers.{Left}
 use Rattle.cleaning.specs.Naming.{Naming}
 use Rattle.cleaning.specs.Ruled.{ruled}
 use Rattle.cleaning.specs.Answers.{cleaned_is, lent, CleanIs}
-use Rattle.cleaning.specs.declared.Cleaned.TheVariants.{Named, Refused}
+use Rattle.std.specs.Prelude.{Ok, Err}
 
 -- ---- the rooms that are lent
 
@@ -63,7 +63,7 @@ table-zeros (refused x) t t' n l w = zeroed-none-filled 6144 t' t (omega (arith,
 -- ---- the answer
 
 module _ (src : Bytes) (today retention : ℕ) (room one two : Room) where
-  untouched : enough (lent room one two) ≡ false → CleanIs src today retention room room one one two two (Refused RoomTooShort)
+  untouched : enough (lent room one two) ≡ false → CleanIs src today retention room room one one two two (Err RoomTooShort)
   unfolding cleaned_is counted numbered names_after_cleaning table_after_cleaning
   untouched e =
       let k = cleaning-short (lent room one two) src today retention e in
@@ -74,13 +74,13 @@ module _ (src : Bytes) (today retention : ℕ) (room one two : Room) where
         second = sym (ap (λ (a : Answer (List ℕ)). table_after_cleaning a two) k ∙ leaves-untouched rows_room (λ es. []) two room_too_short refl);
       }
 
-  pub clean-names-short : length room < 1024 → CleanIs src today retention room room one one two two (Refused RoomTooShort)
+  pub clean-names-short : length room < 1024 → CleanIs src today retention room room one one two two (Err RoomTooShort)
   clean-names-short h = untouched (short-names room one two h)
 
-  pub clean-one-short : length one < 6144 → CleanIs src today retention room room one one two two (Refused RoomTooShort)
+  pub clean-one-short : length one < 6144 → CleanIs src today retention room room one one two two (Err RoomTooShort)
   clean-one-short h = untouched (short-one room one two h)
 
-  pub clean-two-short : length two < 6144 → CleanIs src today retention room room one one two two (Refused RoomTooShort)
+  pub clean-two-short : length two < 6144 → CleanIs src today retention room room one one two two (Err RoomTooShort)
   clean-two-short h = untouched (short-two room one two h)
 
   module _
@@ -105,7 +105,7 @@ module _ (src : Bytes) (today retention : ℕ) (room one two : Room) where
 
     pub clean-named : (es : List ℕ) → ruled src today retention ≡ accepted es → (between : Room) (n : ℕ) → Naming es room between n
         → room' ≡ zeroed n 1024 between
-        → CleanIs src today retention room room' one one' two two' (Named n)
+        → CleanIs src today retention room room' one one' two two' (Ok n)
     unfolding cleaned_is counted names_after_cleaning names_room number_of
     clean-named es e between n g z =
         let q = long ∙ e in
@@ -119,11 +119,11 @@ module _ (src : Bytes) (today retention : ℕ) (room one two : Room) where
         }
 
     pub clean-nothing : ruled src today retention ≡ accepted [] → room' ≡ zeroed 0 1024 room
-        → CleanIs src today retention room room' one one' two two' (Named 0)
+        → CleanIs src today retention room room' one one' two two' (Ok 0)
     clean-nothing e z = clean-named [] e room 0 (record { count = refl; few = omega arith; front = refl; beyond = refl; same = refl }) z
 
     pub clean-refused : (x : CodeRefusal) → ruled src today retention ≡ refused (numbered x) → ((numbered x).number ≡ 1 → ⊥) → room' ≡ zeroed 0 1024 room
-        → CleanIs src today retention room room' one one' two two' (Refused x)
+        → CleanIs src today retention room room' one one' two two' (Err x)
     unfolding cleaned_is counted names_after_cleaning names_room number_of
     clean-refused x e n z =
         let q = long ∙ e in

@@ -1,7 +1,7 @@
 -- The files one after another: what is named of all stands in front of the room, but for what is named of those that are left.
 use mathlib.Core.Path.{◌≡◌, refl, sym, ap, ◌∙◌}
 use mathlib.Core.Bool.{true, false}
-use mathlib.Core.Option.{Option, none, some}
+use Rattle.std.specs.Prelude.{Option, None, Some}
 use mathlib.Core.List.{List, [], ◌∷◌, ◌++◌, append-nil, append_assoc}
 use Prim.Native.Nat.{ℕ, ◌+◌, ◌≤◌, ◌<◌}
 use native.Mathlib.Omega.{arith}
@@ -25,8 +25,8 @@ unfolding files_in is_some files_or most_entries
 files-few src g = go (bundle src) refl g
   where
     go : (o : Option (List File)) → bundle src ≡ o → is_some o ≡ true → length (files_or o) ≤ 1024
-    go none e h = absurd (true-not-false h refl)
-    go (some fs) e h = (bundle-sound src fs e).few
+    go None e h = absurd (true-not-false h refl)
+    go (Some fs) e h = (bundle-sound src fs e).few
 
 -- ---- the rule
 

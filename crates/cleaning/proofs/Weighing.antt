@@ -17,22 +17,17 @@ use Rattle.rules.specs.Refusals.{Refusal, Answer, accepted, refused, ◌>>=◌, 
 use Rattle.file_bundle.specs.Files.{file_in}
 use Rattle.refusals.specs.Numbered.{numbered}
 use Rattle.refusals.specs.declared.Refusal.{Refusal as CodeRefusal}
-use Rattle.refusals.specs.declared.Refusal.TheVariants.{ReaderTooHigh, UnknownFeature, NotWritable, CheckpointDisagrees}
+use Rattle.refusals.specs.declared.Refusal.TheVariants.{NotWritable, CheckpointDisagrees}
+use Rattle.std.specs.Prelude.{⊤, Result, Ok, Err}
 use Rattle.log_starts.specs.declared.Start.{Start}
 use Rattle.log_replay.specs.Views.{protocol_at, state_of, Carries}
 use Rattle.log_replay.specs.Answers.{Left, OutcomeIs, ZeroIs, Renewed}
 use Rattle.log_replay.specs.declared.State.{State}
-use Rattle.log_replay.specs.declared.Outcome.{Outcome}
-use Rattle.log_replay.specs.declared.Outcome.TheVariants.{Done, Refused as NotRead}
 use Rattle.log_gate.specs.Judged.{Passes, VerdictIs}
 use Rattle.log_gate.specs.declared.Numbers.{Numbers}
-use Rattle.log_gate.specs.declared.Verdict.{Verdict}
-use Rattle.log_gate.specs.declared.Verdict.TheVariants.{TooHigh, Unknown, Passed}
 use Rattle.log_history.specs.Ends.{Reaches, FollowIs}
 use Rattle.rules.proofs.Later.{Later, later-read_file, later-follow, later-read_zero}
 use Rattle.cleaning.specs.Ruled.{weighing, ComparedIs, WithIs, CompareIs}
-use Rattle.cleaning.specs.declared.comparing.Compared.{Compared}
-use Rattle.cleaning.specs.declared.comparing.Compared.TheVariants.{Agree, Refused}
 
 -- ---- two states
 
@@ -54,40 +49,38 @@ module _ (mine theirs : RuleState) where
     unfolding weighing
     weighing-agrees f g = rw (e, f, g)
 
-module _ (src : Bytes) (mine theirs : State) (one two : List ℕ) (v : Verdict) (g : VerdictIs (or_unstated (protocol_at src mine.protocol)) v) where
-  abbrev Weighed : Compared → Type 0
-  Weighed r = ComparedIs (weighing (state_of src mine one) (state_of src theirs two)) r
+module _
+    (src : Bytes)
+    (mine theirs : State)
+    (one two : List ℕ)
+    (v : Result Numbers CodeRefusal)
+    (g : VerdictIs (or_unstated (protocol_at src mine.protocol)) v)
+  where
+    abbrev Weighed : Result ⊤ CodeRefusal → Type 0
+    Weighed r = ComparedIs (weighing (state_of src mine one) (state_of src theirs two)) r
 
-  pub weigh-high : v ≡ TooHigh → Weighed (Refused ReaderTooHigh)
-  unfolding state_of numbered
-  weigh-high e = (
-    weighing-refused (state_of src mine one) (state_of src theirs two) (subst (VerdictIs (or_unstated (protocol_at src mine.protocol))) e g),
-    λ h. omega arith,
-  )
+    pub weigh-unreadable : (x : CodeRefusal) → v ≡ Err x → Weighed (Err x)
+    unfolding state_of
+    weigh-unreadable x e =
+        let d = subst (VerdictIs (or_unstated (protocol_at src mine.protocol))) e g in
+        (weighing-refused (state_of src mine one) (state_of src theirs two) d.0, d.1)
 
-  pub weigh-unknown : v ≡ Unknown → Weighed (Refused UnknownFeature)
-  unfolding state_of numbered
-  weigh-unknown e = (
-    weighing-refused (state_of src mine one) (state_of src theirs two) (subst (VerdictIs (or_unstated (protocol_at src mine.protocol))) e g),
-    λ h. omega arith,
-  )
+    module _ (n : Numbers) (e : v ≡ Ok n) where
+      passes : Passes (or_unstated (protocol_at src mine.protocol)) n
+      passes = subst (VerdictIs (or_unstated (protocol_at src mine.protocol))) e g
 
-  module _ (n : Numbers) (e : v ≡ Passed n) where
-    passes : Passes (or_unstated (protocol_at src mine.protocol)) n
-    passes = subst (VerdictIs (or_unstated (protocol_at src mine.protocol))) e g
-
-    pub weigh-unwritable : n.writable ≡ false → Weighed (Refused NotWritable)
-    unfolding state_of numbered
-    weigh-unwritable w = (weighing-unwritable (state_of src mine one) (state_of src theirs two) passes.accepts (sym passes.writable ∙ w), λ h. omega arith)
-
-    module _ (w : n.writable ≡ true) where
-      pub weigh-differs : agree (state_of src mine one) (state_of src theirs two) ≡ false → Weighed (Refused CheckpointDisagrees)
+      pub weigh-unwritable : n.writable ≡ false → Weighed (Err NotWritable)
       unfolding state_of numbered
-      weigh-differs a = (weighing-differs (state_of src mine one) (state_of src theirs two) passes.accepts (sym passes.writable ∙ w) a, λ h. omega arith)
+      weigh-unwritable w = (weighing-unwritable (state_of src mine one) (state_of src theirs two) passes.accepts (sym passes.writable ∙ w), λ h. omega arith)
 
-      pub weigh-agrees : agree (state_of src mine one) (state_of src theirs two) ≡ true → Weighed Agree
-      unfolding state_of
-      weigh-agrees a = weighing-agrees (state_of src mine one) (state_of src theirs two) passes.accepts (sym passes.writable ∙ w) a
+      module _ (w : n.writable ≡ true) where
+        pub weigh-differs : agree (state_of src mine one) (state_of src theirs two) ≡ false → Weighed (Err CheckpointDisagrees)
+        unfolding state_of numbered
+        weigh-differs a = (weighing-differs (state_of src mine one) (state_of src theirs two) passes.accepts (sym passes.writable ∙ w) a, λ h. omega arith)
+
+        pub weigh-agrees : agree (state_of src mine one) (state_of src theirs two) ≡ true → Weighed (Ok tt)
+        unfolding state_of
+        weigh-agrees a = weighing-agrees (state_of src mine one) (state_of src theirs two) passes.accepts (sym passes.writable ∙ w) a
 
 -- ---- the other start's way
 
@@ -99,16 +92,16 @@ module _
     (mine : State)
     (one two two' : List ℕ)
     (reach : Reaches src c start)
-    (out : Outcome)
+    (out : Result State CodeRefusal)
     (f : FollowIs src most_live c z start two two' out)
   where
     weighed : RuleState → Answer (Unit {0})
     weighed theirs = weighing (state_of src mine one) theirs
 
-    pub with-carries : (theirs : State) → out ≡ Done theirs → Carries src most_live theirs two'
+    pub with-carries : (theirs : State) → out ≡ Ok theirs → Carries src most_live theirs two'
     with-carries theirs e = (subst (OutcomeIs src most_live (follow most_live (state_of src z two) reach.0) two two') e (f reach.0 reach.1)).1.carries
 
-    pub with-done : (theirs : State) → out ≡ Done theirs → (r : Compared) → ComparedIs (weighing (state_of src mine one) (state_of src theirs two')) r
+    pub with-done : (theirs : State) → out ≡ Ok theirs → (r : Result ⊤ CodeRefusal) → ComparedIs (weighing (state_of src mine one) (state_of src theirs two')) r
         → WithIs src z start c mine one two two' r
     unfolding weighed
     with-done theirs e r h = (
@@ -118,7 +111,7 @@ module _
       (subst (OutcomeIs src most_live (follow most_live (state_of src z two) reach.0) two two') e (f reach.0 reach.1)).1.left,
     )
 
-    pub with-refused : (x : CodeRefusal) → out ≡ NotRead x → WithIs src z start c mine one two two' (Refused x)
+    pub with-refused : (x : CodeRefusal) → out ≡ Err x → WithIs src z start c mine one two two' (Err x)
     unfolding weighed Later
     with-refused x e = (
       λ w s.
@@ -145,19 +138,25 @@ module _ (zf f : File) (w : Way) where
     compared-with g = rw (e, g)
 
 module _ (src : Bytes) (entry₀ k : ℕ) (start : Start) (c : ℕ) where
-  pub compare-zero : (x : CodeRefusal) (r : Outcome) → r ≡ NotRead x → ZeroIs src (read_zero (file_in src entry₀)) r
-      → CompareIs src entry₀ k start c (Refused x)
+  pub compare-zero : (x : CodeRefusal) (r : Result State CodeRefusal) → r ≡ Err x → ZeroIs src (read_zero (file_in src entry₀)) r
+      → CompareIs src entry₀ k start c (Err x)
   unfolding Later
   compare-zero x r e d w s =
       let q : read_zero (file_in src entry₀) ≡ refused (numbered x) = subst (ZeroIs src (read_zero (file_in src entry₀))) e d in
       (compared-zero (file_in src entry₀) (file_in src k) w q, subst Later q (later-read_zero (file_in src entry₀)))
 
-  module _ (z : State) (d : ZeroIs src (read_zero (file_in src entry₀)) (Done z)) (empty : State) (n : Renewed z empty) (one one' two : List ℕ) (out : Outcome)
+  module _
+      (z : State)
+      (d : ZeroIs src (read_zero (file_in src entry₀)) (Ok z))
+      (empty : State)
+      (n : Renewed z empty)
+      (one one' two : List ℕ)
+      (out : Result State CodeRefusal)
       (f : OutcomeIs src most_live (read_file most_live of_checkpoint (file_in src k) (state_of src empty one)) one one' out) where
     begun : read_file most_live of_checkpoint (file_in src k) nothing_live ≡ read_file most_live of_checkpoint (file_in src k) (state_of src empty one)
     begun = ap (read_file most_live of_checkpoint (file_in src k)) (sym (n.0 src one))
 
-    pub compare-refused : (x : CodeRefusal) → out ≡ NotRead x → CompareIs src entry₀ k start c (Refused x) × Left most_live one one'
+    pub compare-refused : (x : CodeRefusal) → out ≡ Err x → CompareIs src entry₀ k start c (Err x) × Left most_live one one'
     unfolding Later
     compare-refused x e =
         let p = subst (OutcomeIs src most_live (read_file most_live of_checkpoint (file_in src k) (state_of src empty one)) one one') e f in (
@@ -168,11 +167,11 @@ module _ (src : Bytes) (entry₀ k : ℕ) (start : Start) (c : ℕ) where
           p.1,
         )
 
-    pub compare-carries : (mine : State) → out ≡ Done mine → Carries src most_live mine one'
+    pub compare-carries : (mine : State) → out ≡ Ok mine → Carries src most_live mine one'
     compare-carries mine e =
         (subst (OutcomeIs src most_live (read_file most_live of_checkpoint (file_in src k) (state_of src empty one)) one one') e f).1.carries
 
-    pub compare-done : (mine : State) → out ≡ Done mine → (two' : List ℕ) (r : Compared) → WithIs src z start c mine one' two two' r
+    pub compare-done : (mine : State) → out ≡ Ok mine → (two' : List ℕ) (r : Result ⊤ CodeRefusal) → WithIs src z start c mine one' two two' r
         → CompareIs src entry₀ k start c r × Left most_live one one' × Left most_live two two'
     compare-done mine e two' r h =
         let p = subst (OutcomeIs src most_live (read_file most_live of_checkpoint (file_in src k) (state_of src empty one)) one one') e f in (

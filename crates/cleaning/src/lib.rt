@@ -10,7 +10,7 @@ ghost use Rattle.file_bundle.specs.Files.{files_in, file_in};
 ghost use Rattle.cleaning.specs.Naming.{Naming};
 ghost use Rattle.cleaning.specs.Answers.{CleanIs};
 
-use comparing::{Ruling, rule};
+use comparing::rule;
 use file_names::{Millis, Name, Version};
 use refusals::Refusal;
 use rooms::{NAMES_ROOM, ROWS_ROOM};
@@ -64,28 +64,17 @@ fn name_old(src: &[u8], c: Version, today: Millis, retention: Millis, names: &mu
     ensures { Naming (named c.0 today.0 retention.0 (files_in src.now)) names.old names.new result }
 {
     let count = log_files::count(src);
-    let mut k = 0;
     let mut n = 0;
-    while k < count {
+    for k in 0..count {
         if may_go(src, k, c, today, retention) {
             names[n] = k as u32;
             n += 1;
-            k += 1;
-        } else {
-            k += 1;
         }
     }
     n
 }
 
 // ---- the entry
-
-// How many entries are named; or a refusal.
-#[derive(Clone, Copy)]
-pub enum Cleaned {
-    Named(usize),
-    Refused(Refusal),
-}
 
 // The numbers, from 0 and ascending, of the entries that may go, into a room of at least 1,024; the rest of the 1,024 are
 // zero, and any beyond stay. Of the two lent tables, of at least 6,144 each, the first 6,144 are zero at the end.
@@ -96,7 +85,7 @@ pub fn clean(
     names: &mut [u32],
     one: &mut [u64],
     two: &mut [u64],
-) -> Cleaned
+) -> Result<usize, Refusal>
     ensures { CleanIs
         src.now
         today.0
@@ -110,30 +99,32 @@ pub fn clean(
         result }
 {
     if names.len() < NAMES_ROOM {
-        return Cleaned::Refused(Refusal::RoomTooShort);
+        return Err(Refusal::RoomTooShort);
     }
     if one.len() < ROWS_ROOM {
-        return Cleaned::Refused(Refusal::RoomTooShort);
+        return Err(Refusal::RoomTooShort);
     }
     if two.len() < ROWS_ROOM {
-        return Cleaned::Refused(Refusal::RoomTooShort);
+        return Err(Refusal::RoomTooShort);
     }
     let ruling = rule(src, one, two);
     rooms::zero(one, 0, ROWS_ROOM);
     rooms::zero(two, 0, ROWS_ROOM);
     match ruling {
-        Ruling::Before(c) => {
-            let n = name_old(src, c, today, retention, names);
-            rooms::zero_u32(names, n, NAMES_ROOM);
-            Cleaned::Named(n)
-        }
-        Ruling::Nothing => {
+        Ok(before) => match before {
+            Some(c) => {
+                let n = name_old(src, c, today, retention, names);
+                rooms::zero_u32(names, n, NAMES_ROOM);
+                Ok(n)
+            }
+            None => {
+                rooms::zero_u32(names, 0, NAMES_ROOM);
+                Ok(0)
+            }
+        },
+        Err(x) => {
             rooms::zero_u32(names, 0, NAMES_ROOM);
-            Cleaned::Named(0)
-        }
-        Ruling::Refused(x) => {
-            rooms::zero_u32(names, 0, NAMES_ROOM);
-            Cleaned::Refused(x)
+            Err(x)
         }
     }
 }

@@ -1,7 +1,7 @@
 -- Any choice of a bundle's files has a bundle: their entries are written anew, one behind the other, and then their bodies.
 use mathlib.Core.Path.{◌≡◌, refl, ◌∙◌, ap}
 use mathlib.Core.Bool.{true}
-use mathlib.Core.Option.{some}
+use Rattle.std.specs.Prelude.{Some}
 use mathlib.Core.List.{List, [], ◌∷◌, ◌++◌, append_assoc}
 use Prim.Native.Nat.{ℕ, suc, ◌+◌, ◌*◌, ◌≤◌, ◌<◌}
 use native.Mathlib.Omega.{arith}
@@ -103,7 +103,7 @@ ascending-written at [] h = refl
 ascending-written at (x ∷ []) h = refl
 ascending-written at (x ∷ y ∷ xs) h = rw (ascending, h.0.0) (ascending-written (at + length x.body) (y ∷ xs) h.1)
 
-files-read : (k at : ℕ) (xs : List Kept) → All Fit xs → files_from k at (entries_from at xs) (bodies xs) ≡ some (files_at k at xs)
+files-read : (k at : ℕ) (xs : List Kept) → All Fit xs → files_from k at (entries_from at xs) (bodies xs) ≡ Some (files_at k at xs)
 unfolding files_from entries_from entry bodies files_at is_empty All
 files-read k at [] h = refl
 files-read k at (x ∷ xs) h =
@@ -158,7 +158,7 @@ module _ (xs : List Kept) (h : All Fit xs) (up : Ascends kept_padded xs) (few : 
       drop_past (little_of 4 (length xs)) (contents (4 + 112 * length xs) xs ++ bodies xs) 4 (112 * length xs) (length-little_of 4 (length xs))
       ∙ drop_at (contents (4 + 112 * length xs) xs) (bodies xs) (112 * length xs) (length-contents (4 + 112 * length xs) xs h)
 
-  bundle_written : bundle (written xs) ≡ some (files_at 0 (first xs) xs)
+  bundle_written : bundle (written xs) ≡ Some (files_at 0 (first xs) xs)
   unfolding bundle files_of entry_bytes most_bytes most_entries first
   bundle_written =
       let size = length-written in

@@ -2,7 +2,7 @@
 use mathlib.Core.Path.{◌≡◌, refl, sym, ◌∙◌, ap}
 use mathlib.Core.Logic.{inl, inr}
 use mathlib.Core.Bool.{Bool, true, false, not}
-use mathlib.Core.Option.{Option, none, some}
+use Rattle.std.specs.Prelude.{Option, None, Some}
 use mathlib.Core.List.{List, [], ◌∷◌}
 use Prim.Native.Nat.{ℕ, suc}
 use Rattle.facts.specs.Lists.{All}
@@ -45,9 +45,9 @@ unfolding meets_value
 meets_value-true c f h = go (value_at c.column f.partition_values) refl h
   where
     go : (o : Option (Option Bytes)) → value_at c.column f.partition_values ≡ o → meets_value c o ≡ true → Meets c f
-    go none e h = apart (cc)
-    go (some none) e h = apart (cc)
-    go (some (some x)) e h = (x, e, meets_as-true c.kind c.op x c.bound h)
+    go None e h = apart (cc)
+    go (Some None) e h = apart (cc)
+    go (Some (Some x)) e h = (x, e, meets_as-true c.kind c.op x c.bound h)
 
 true-meets_value : (c : Condition) (f : Facts) → Meets c f → meets_value c (value_at c.column f.partition_values) ≡ true
 unfolding meets_value
@@ -94,16 +94,16 @@ true-outside_as as_number op b lo hi (x, y, z, p, q, r, e) =
     (record { bound = x; min = y; max = z; bound-read = p; min-read = q; max-read = r; excludes = record { rises = e.rises; none-meets = e.none-meets } })
 
 both_there-true : (c : Condition) (lo hi : Option Bytes) → both_there c lo hi ≡ true
-    → (x y : Bytes) × (lo ≡ some x) × (hi ≡ some y) × ExcludesAs c.kind c.op c.bound x y
+    → (x y : Bytes) × (lo ≡ Some x) × (hi ≡ Some y) × ExcludesAs c.kind c.op c.bound x y
 unfolding both_there
-both_there-true c none hi h = apart (cc)
-both_there-true c (some x) none h = apart (cc)
-both_there-true c (some x) (some y) h = (x, y, refl, refl, outside_as-true c.kind c.op c.bound x y h)
+both_there-true c None hi h = apart (cc)
+both_there-true c (Some x) None h = apart (cc)
+both_there-true c (Some x) (Some y) h = (x, y, refl, refl, outside_as-true c.kind c.op c.bound x y h)
 
 -- the test of a column's bounds, where they are
 test_at : Condition → Option Bounds → Bool
-test_at c none = false
-test_at c (some b) = both_there c b.min b.max
+test_at c None = false
+test_at c (Some b) = both_there c b.min b.max
 
 drops-is : (c : Condition) (bs : List (Bytes × Bounds)) → Rules.drops c bs ≡ test_at c (bounds_at c.column bs)
 unfolding Rules.drops test_at bounds_at
@@ -112,7 +112,7 @@ drops-is c (b ∷ bs) = go (same c.column b.0) (drops-is c bs)
   where
     go : (t : Bool) → Rules.drops c bs ≡ test_at c (bounds_at c.column bs)
         → elim t [ true ↦ both_there c b.1.min b.1.max | false ↦ Rules.drops c bs ]
-        ≡ test_at c (elim t as (λ _. Option Bounds) [ true ↦ some b.1 | false ↦ bounds_at c.column bs ])
+        ≡ test_at c (elim t as (λ _. Option Bounds) [ true ↦ Some b.1 | false ↦ bounds_at c.column bs ])
     go true ih = refl
     go false ih = ih
 
@@ -121,8 +121,8 @@ unfolding test_at
 drops-true c m h = go (bounds_at c.column m.bounds) refl (sym (drops-is c m.bounds) ∙ h)
   where
     go : (o : Option Bounds) → bounds_at c.column m.bounds ≡ o → test_at c o ≡ true → Drops c m
-    go none e h = apart (cc)
-    go (some b) e h =
+    go None e h = apart (cc)
+    go (Some b) e h =
         let r = both_there-true c b.min b.max h in
         record { bounds = b; min = r.0; max = r.1; bounds-there = e; min-there = r.2; max-there = r.3; excludes = r.4 }
 

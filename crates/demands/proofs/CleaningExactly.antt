@@ -2,7 +2,7 @@
 use mathlib.Core.Path.{◌≡◌, refl, sym, ◌∙◌, ap, subst}
 use mathlib.Core.Logic.{◌⊎◌, inl, inr}
 use mathlib.Core.Bool.{Bool, true, false}
-use mathlib.Core.Option.{Option, none, some}
+use Rattle.std.specs.Prelude.{Option, None, Some}
 use mathlib.Core.List.{List, []}
 use Prim.Native.Nat.{ℕ, zero, ◌≤◌, ◌<◌}
 use lib.Dec.{leb}
@@ -56,9 +56,9 @@ module _ (lent : Lent) (s : Bytes) (now retention : ℕ) where
 
   data Says : Answer (List ℕ) → Type 0 where
     short : (Enough lent → ⊥) → Says (refused room_too_short)
-    bad-bundle : Enough lent → bundle s ≡ none → Says (refused bundle_malformed)
-    large : Enough lent → (fs : List File) → bundle s ≡ some fs → SomeTooLarge fs → Says (refused version_too_large)
-    no_zero : Enough lent → (fs : List File) → bundle s ≡ some fs → (SomeTooLarge fs → ⊥) → (log_of fs).version_file 0 ≡ none → Says (refused no_version_zero)
+    bad-bundle : Enough lent → bundle s ≡ None → Says (refused bundle_malformed)
+    large : Enough lent → (fs : List File) → bundle s ≡ Some fs → SomeTooLarge fs → Says (refused version_too_large)
+    no_zero : Enough lent → (fs : List File) → bundle s ≡ Some fs → (SomeTooLarge fs → ⊥) → (log_of fs).version_file 0 ≡ None → Says (refused no_version_zero)
     six : (e l : ℕ) (c : Comparing lent s) → MetComparing c.begun.zero c.checkpoint c.way (malformed e l) → Says (refused (malformed e l))
     twenty-one : (e l : ℕ) (c : Comparing lent s) → MetComparing c.begun.zero c.checkpoint c.way (foreign_keys e l)
         → Says (refused (foreign_keys e l))
@@ -139,9 +139,9 @@ module _ (lent : Lent) (s : Bytes) (now retention : ℕ) where
       begun-is b ∙ ap (λ (o : Option ℕ). cleaned_at o b.zero now retention b.fs) e ∙ go (start_at (log_of b.fs) c) (other_way_to (log_of b.fs) c) refl
     where
       go : (o : Option File) (w : Option Way) → other_way_to (log_of b.fs) c ≡ w → cleaned_by b.zero o w (named c now retention b.fs) ≡ accepted []
-      go none w q = refl
-      go (some f) none q = refl
-      go (some f) (some w) q = absurd (some-other (log_of b.fs) c w (b.zero, b.zero-there) q n)
+      go None w q = refl
+      go (Some f) None q = refl
+      go (Some f) (Some w) q = absurd (some-other (log_of b.fs) c w (b.zero, b.zero-there) q n)
   says-cleaning _ (names c p w d) =
       comparing-accepted c.comparing
       (rw (
@@ -219,32 +219,32 @@ module _ (lent : Lent) (s : Bytes) (now retention : ℕ) where
   said-begun : (b : Begun lent s) → (a : Answer (List ℕ)) × Says a
   said-begun b = go (marked (log_of b.fs)) refl
     where
-      other : (c : ℕ) → marked (log_of b.fs) ≡ some c → There (start_at (log_of b.fs) c) → (w : Option Way) → other_way_to (log_of b.fs) c ≡ w
+      other : (c : ℕ) → marked (log_of b.fs) ≡ Some c → There (start_at (log_of b.fs) c) → (w : Option Way) → other_way_to (log_of b.fs) c ≡ w
           → (a : Answer (List ℕ)) × Says a
-      other c e f none q = (_, nothing b (inr (c, e, no_other (log_of b.fs) c (b.zero, b.zero-there) q)))
-      other c e f (some w) q =
+      other c e f None q = (_, nothing b (inr (c, e, no_other (log_of b.fs) c (b.zero, b.zero-there) q)))
+      other c e f (Some w) q =
           said-comparing (record { begun = b; c = c; checkpoint = f.0; way = w; marked-there = e; checkpoint-there = f.1; way-there = q })
 
       go : (o : Option ℕ) → marked (log_of b.fs) ≡ o → (a : Answer (List ℕ)) × Says a
-      go none e = (_, nothing b (inl e))
-      go (some c) e = other c e (marked_start (log_of b.fs) c e) (other_way_to (log_of b.fs) c) refl
+      go None e = (_, nothing b (inl e))
+      go (Some c) e = other c e (marked_start (log_of b.fs) c e) (other_way_to (log_of b.fs) c) refl
 
   said : (a : Answer (List ℕ)) × Says a
   said = go (enough lent) refl (bundle s) refl
     where
-      found : Enough lent → (fs : List File) → bundle s ≡ some fs → (SomeTooLarge fs → ⊥) → (z : Option File) → (log_of fs).version_file 0 ≡ z
+      found : Enough lent → (fs : List File) → bundle s ≡ Some fs → (SomeTooLarge fs → ⊥) → (z : Option File) → (log_of fs).version_file 0 ≡ z
           → (a : Answer (List ℕ)) × Says a
-      found l fs eb t none e = (_, no_zero l fs eb t e)
-      found l fs eb t (some zf) e = said-begun (record { fs = fs; zero = zf; long = l; bundle-read = eb; none-large = t; zero-there = e })
+      found l fs eb t None e = (_, no_zero l fs eb t e)
+      found l fs eb t (Some zf) e = said-begun (record { fs = fs; zero = zf; long = l; bundle-read = eb; none-large = t; zero-there = e })
 
-      opened : Enough lent → (fs : List File) → bundle s ≡ some fs → (b : Bool) → any_too_large fs ≡ b → (a : Answer (List ℕ)) × Says a
+      opened : Enough lent → (fs : List File) → bundle s ≡ Some fs → (b : Bool) → any_too_large fs ≡ b → (a : Answer (List ℕ)) × Says a
       opened l fs eb true e = (_, large l fs eb (any_too_large-some fs e))
       opened l fs eb false e = found l fs eb (λ t. true-not-false (some-any_too_large fs t) e) ((log_of fs).version_file 0) refl
 
       go : (b : Bool) → enough lent ≡ b → (f : Option (List File)) → bundle s ≡ f → (a : Answer (List ℕ)) × Says a
       go false e f eb = (_, short (λ l. true-not-false (enough-true lent l) e))
-      go true e none eb = (_, bad-bundle (true-enough lent e) eb)
-      go true e (some fs) eb = opened (true-enough lent e) fs eb (any_too_large fs) refl
+      go true e None eb = (_, bad-bundle (true-enough lent e) eb)
+      go true e (Some fs) eb = opened (true-enough lent e) fs eb (any_too_large fs) refl
 
   cleaning-says : (a : Answer (List ℕ)) → cleaning lent s now retention ≡ a → Says a
   cleaning-says a e = let p = said in subst Says (sym (says-cleaning p.0 p.1) ∙ e) p.1
@@ -276,14 +276,14 @@ cleaning-exactly lent s now retention = record {
     f1 : Says lent s now retention (refused room_too_short) → Enough lent → ⊥
     f1 (short n) = n
 
-    f2 : Says lent s now retention (refused bundle_malformed) → Enough lent × (bundle s ≡ none)
+    f2 : Says lent s now retention (refused bundle_malformed) → Enough lent × (bundle s ≡ None)
     f2 (bad-bundle l e) = (l, e)
 
-    f3 : Says lent s now retention (refused version_too_large) → Enough lent × ((fs : List File) × (bundle s ≡ some fs) × SomeTooLarge fs)
+    f3 : Says lent s now retention (refused version_too_large) → Enough lent × ((fs : List File) × (bundle s ≡ Some fs) × SomeTooLarge fs)
     f3 (large l fs e t) = (l, (fs, e, t))
 
     f4 : Says lent s now retention (refused no_version_zero)
-        → Enough lent × ((fs : List File) × (bundle s ≡ some fs) × (SomeTooLarge fs → ⊥) × ((log_of fs).version_file 0 ≡ none))
+        → Enough lent × ((fs : List File) × (bundle s ≡ Some fs) × (SomeTooLarge fs → ⊥) × ((log_of fs).version_file 0 ≡ None))
     f4 (no_zero l fs e t z) = (l, (fs, e, t, z))
 
     f6 : (e l : ℕ) → Says lent s now retention (refused (malformed e l))

@@ -2,7 +2,7 @@
 use mathlib.Core.Path.{◌≡◌, refl, subst}
 use mathlib.Core.Logic.{◌⊎◌, inl, inr}
 use mathlib.Core.Bool.{Bool, true, false, ◌&&◌}
-use mathlib.Core.Option.{none, some}
+use Rattle.std.specs.Prelude.{None, Some}
 use mathlib.Core.List.{[], ◌∷◌}
 use Prim.Native.Nat.{ℕ, zero, suc, ◌-◌, ◌≤◌}
 use native.Mathlib.Omega.{arith}
@@ -76,21 +76,21 @@ other-below log c t (inr h) l = go (dec_le t c)
     go (yes b) = b
     go (no n) = absurd (h.1 (omega arith))
 
-pub no_other : (log : Log) (c : ℕ) → There (log.version_file 0) → other_way_to log c ≡ none → NoOther log c
+pub no_other : (log : Log) (c : ℕ) → There (log.version_file 0) → other_way_to log c ≡ None → NoOther log c
 unfolding other_way_to
 no_other log zero z e s i r = apart (cc)
 no_other log (suc c) z e s i r = let l = other-below log c s i r.below in go (by_file-none (log.version_file (suc c)) (λ _. way_to log c) e) l
   where
-    go : (log.version_file (suc c) ≡ none) ⊎ (way_to log c ≡ none) → s ≤ c → ⊥
+    go : (log.version_file (suc c) ≡ None) ⊎ (way_to log c ≡ None) → s ≤ c → ⊥
     go (inl e) l = not_there e (r.between (suc c) (omega arith) (omega arith))
     go (inr e) l = no-way-no-start log c e s (other-start log (suc c) s i) (record { below = l; between = λ w a b. r.between w a (omega arith) })
 
-pub some-other : (log : Log) (c : ℕ) (w : Way) → There (log.version_file 0) → other_way_to log c ≡ some w → NoOther log c → ⊥
+pub some-other : (log : Log) (c : ℕ) (w : Way) → There (log.version_file 0) → other_way_to log c ≡ Some w → NoOther log c → ⊥
 unfolding other_way_to
 some-other log zero w z e n = n zero (inl (refl, z)) (record { below = omega arith; between = λ x a b. absurd (omega arith) })
 some-other log (suc c) w z e n = let b = by_file-some (log.version_file (suc c)) (λ _. way_to log c) w e in go b.0 b.1 b.2.0 b.2.1
   where
-    go : (g : File) → log.version_file (suc c) ≡ some g → (u : Way) → way_to log c ≡ some u → ⊥
+    go : (g : File) → log.version_file (suc c) ≡ Some g → (u : Way) → way_to log c ≡ Some u → ⊥
     go g eg u eu =
         let p = way-some-start log c u z eu in
         n p.s (start-other log c p.s p.reaches.below p.start) (reaches-next log p.s c p.reaches (g, eg))
@@ -108,7 +108,7 @@ other_from log c s _ _ (version-zero (inl e)) = at_zero e
 other_from log c s _ _ (version-zero (inr q)) = absurd (omega arith)
 other_from log c s _ _ (and-after {v = v} {w = w} h e) = and-then (other_from log c s v w h) e
 
-other-highest : (log : Log) (c : ℕ) (w : Way) → other_way_to log c ≡ some w → HighestOther log c w
+other-highest : (log : Log) (c : ℕ) (w : Way) → other_way_to log c ≡ Some w → HighestOther log c w
 unfolding other_way_to
 other-highest log zero w e = subst (HighestOther log zero) (cc) (record { s = zero; begins = version-zero (inr refl); highest = λ t i r. r.below })
 other-highest log (suc c) w e =
@@ -126,7 +126,7 @@ other-highest log (suc c) w e =
     below-it u p t i r l = p.highest t (other-start log (suc c) t i) (record { below = l; between = λ x a b. r.between x a (omega arith) })
 
 highest-other : (log : Log) (s c v : ℕ) (w : Way) → v ≡ c → FromOther log c s v w → ((t : ℕ) → IsOther log c t → Reaches log t c → t ≤ s)
-    → other_way_to log c ≡ some w
+    → other_way_to log c ≡ Some w
 unfolding other_way_to by_file onward_by
 highest-other log s c _ _ q (other-checkpoint e n) h = absurd (n q)
 highest-other log s zero _ _ q (version-zero e) h = refl
@@ -134,12 +134,12 @@ highest-other log s (suc c) _ _ q (version-zero e) h = absurd (omega arith)
 highest-other log s zero _ _ q (and-after f e) h = absurd (omega arith)
 highest-other log s (suc c) _ _ q (and-after {v = v} {w = w} {g = g} f e) h = go v (omega arith) f e
   where
-    go : (v : ℕ) → v ≡ c → FromOther log (suc c) s v w → log.version_file (suc v) ≡ some g
-        → by_file (log.version_file (suc c)) (λ _. way_to log c) ≡ some (and_then w g)
+    go : (v : ℕ) → v ≡ c → FromOther log (suc c) s v w → log.version_file (suc v) ≡ Some g
+        → by_file (log.version_file (suc c)) (λ _. way_to log c) ≡ Some (and_then w g)
     go v q f e =
-        let there : log.version_file (suc c) ≡ some g = subst (λ (x : ℕ). log.version_file (suc x) ≡ some g) q e in
+        let there : log.version_file (suc c) ≡ Some g = subst (λ (x : ℕ). log.version_file (suc x) ≡ Some g) q e in
         let from : From log s c w = subst (λ (x : ℕ). From log s x w) q (other_from log c s v w f) in
-        let way : way_to log c ≡ some w =
+        let way : way_to log c ≡ Some w =
         (read-from-the-highest log c
         w).1
         (record { s = s; begins = from; highest = λ t i r. h t (start-other log c t r.below i) (reaches-next log t c r (g, there)) }) in

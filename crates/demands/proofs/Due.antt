@@ -2,7 +2,7 @@
 use mathlib.Core.Path.{◌≡◌, refl, sym, ap, ap₂, ◌∙◌, subst}
 use mathlib.Core.Logic.{◌⊎◌, inl, inr}
 use mathlib.Core.Bool.{Bool, true, false}
-use mathlib.Core.Option.{Option, none, some}
+use Rattle.std.specs.Prelude.{Option, None, Some}
 use mathlib.Core.List.{List, [], ◌∷◌, map}
 use Prim.Native.Nat.{ℕ}
 use native.Mathlib.Omega.{arith}
@@ -86,7 +86,7 @@ listing-same l m a b c d e =
 
 module _ {room : ℕ} {s : Bytes} {asked : Asked} where
   asks_nothing : (r : Read room s (ascii "[]") asked) → r.opened.cs ≡ []
-  asks_nothing r = let e : some r.opened.cs ≡ some [] = sym r.opened.query-read ∙ query-none in cc
+  asks_nothing r = let e : Some r.opened.cs ≡ Some [] = sym r.opened.query-read ∙ query-none in cc
 
   all-picked : (r : Read room s (ascii "[]") asked) → picked r.opened.cs r.state.live ≡ r.state.live
   all-picked r = picked_none r.opened.cs r.state.live (asks_nothing r)
@@ -161,8 +161,8 @@ unfolding or_zero
 latest-kept fs z n = n (or_zero (marked (log_of fs))) (start (marked (log_of fs)) refl) (latest-stops fs).reached
   where
     start : (o : Option ℕ) → marked (log_of fs) ≡ o → IsStart (log_of fs) (or_zero o)
-    start none e = inl (refl, z)
-    start (some c) e = inr (marked_start (log_of fs) c e)
+    start None e = inl (refl, z)
+    start (Some c) e = inr (marked_start (log_of fs) c e)
 
 -- the numbers that name entry and line
 abbrev OfALine : ℕ → Type 0
@@ -187,7 +187,7 @@ module _ (room : ℕ) (s : Bytes) where
   unfolding asked-so
   never-10 e =
       let a = (reading-exactly room s (ascii "[]") the_latest).no-10.0 e in
-      let q : some [] ≡ none = sym query-none ∙ a.1 in
+      let q : Some [] ≡ None = sym query-none ∙ a.1 in
       apart (cc)
 
   never-11 : asked-so ≡ refused no_such_column → ⊥

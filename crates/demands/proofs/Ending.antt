@@ -2,7 +2,7 @@
 use mathlib.Core.Path.{◌≡◌, refl, subst}
 use mathlib.Core.Logic.{◌⊎◌, inl, inr}
 use mathlib.Core.Bool.{Bool, true, false, not}
-use mathlib.Core.Option.{Option, none, some}
+use Rattle.std.specs.Prelude.{Option, None, Some}
 use mathlib.Core.List.{List, [], ◌∷◌, map}
 use Prim.Native.Nat.{ℕ, suc, ◌+◌}
 use lib.Dec.{eqb, leb}
@@ -91,8 +91,8 @@ module _ (numbers : List ℕ) where
   ends-require r false o = refused-by r o
 
   ends-or_refuse : {A : Type 0} (r : Refusal) (o : Option A) → OneOf numbers r → Ends numbers (or_refuse r o)
-  ends-or_refuse r none o = refused-by r o
-  ends-or_refuse r (some a) o = answered a
+  ends-or_refuse r None o = refused-by r o
+  ends-or_refuse r (Some a) o = answered a
 
   -- ---- reading lines, files and ways
 
@@ -229,14 +229,14 @@ compared-ends zf f w =
 
 cleaned_by-ends : (zf : File) (o : Option File) (w : Option Way) (es : List ℕ) → Ends for_cleaning (cleaned_by zf o w es)
 unfolding cleaned_by
-cleaned_by-ends zf none w es = answered []
-cleaned_by-ends zf (some f) none es = answered []
-cleaned_by-ends zf (some f) (some w) es = ends-bind for_cleaning _ (compared-ends zf f w) (λ _. answered es)
+cleaned_by-ends zf None w es = answered []
+cleaned_by-ends zf (Some f) None es = answered []
+cleaned_by-ends zf (Some f) (Some w) es = ends-bind for_cleaning _ (compared-ends zf f w) (λ _. answered es)
 
 cleaned_at-ends : (o : Option ℕ) (zf : File) (now retention : ℕ) (fs : List File) → Ends for_cleaning (cleaned_at o zf now retention fs)
 unfolding cleaned_at
-cleaned_at-ends none zf now retention fs = answered []
-cleaned_at-ends (some c) zf now retention fs = cleaned_by-ends zf (start_at (log_of fs) c) (other_way_to (log_of fs) c) (named c now retention fs)
+cleaned_at-ends None zf now retention fs = answered []
+cleaned_at-ends (Some c) zf now retention fs = cleaned_by-ends zf (start_at (log_of fs) c) (other_way_to (log_of fs) c) (named c now retention fs)
 
 pub cleaning-ends : CleaningEnds
 unfolding cleaning is_in for_cleaning

@@ -1,7 +1,7 @@
 -- Demand 2 of reading and keeping: one condition holds for every input, each gives its refusal, and no two are the same refusal.
 use mathlib.Core.Path.{◌≡◌, refl, sym, ◌∙◌, ap, subst}
 use mathlib.Core.Bool.{Bool, true, false}
-use mathlib.Core.Option.{Option, none, some}
+use Rattle.std.specs.Prelude.{Option, None, Some}
 use mathlib.Core.List.{List}
 use Prim.Native.Nat.{ℕ, ◌≤◌, ◌<◌}
 use lib.Dec.{leb}
@@ -37,10 +37,10 @@ use Rattle.demands.proofs.Words.{in_range_all-words, words-in_range_all, none-in
 module _ (room : ℕ) (s q : Bytes) (asked : Asked) where
   data Says : Answer Listing → Type 0 where
     short : room < rows_room → Says (refused room_too_short)
-    bad-query : rows_room ≤ room → query q ≡ none → Says (refused query_malformed)
-    bad-bundle : rows_room ≤ room → There (query q) → bundle s ≡ none → Says (refused bundle_malformed)
-    large : rows_room ≤ room → There (query q) → (fs : List File) → bundle s ≡ some fs → SomeTooLarge fs → Says (refused version_too_large)
-    no_zero : (o : Opened room s q) → (log_in asked o).version_file 0 ≡ none → Says (refused no_version_zero)
+    bad-query : rows_room ≤ room → query q ≡ None → Says (refused query_malformed)
+    bad-bundle : rows_room ≤ room → There (query q) → bundle s ≡ None → Says (refused bundle_malformed)
+    large : rows_room ≤ room → There (query q) → (fs : List File) → bundle s ≡ Some fs → SomeTooLarge fs → Says (refused version_too_large)
+    no_zero : (o : Opened room s q) → (log_in asked o).version_file 0 ≡ None → Says (refused no_version_zero)
     not-kept : (o : Opened room s q) → There ((log_in asked o).version_file 0) → NoStart (log_in asked o) (version_in asked o) → Says (refused not_kept)
     six : (e l : ℕ) (r : Reached room s q asked) → Met r.zero r.way (malformed e l) → Says (refused (malformed e l))
     twenty-one : (e l : ℕ) (r : Reached room s q asked) → Met r.zero r.way (foreign_keys e l) → Says (refused (foreign_keys e l))
@@ -84,8 +84,8 @@ module _ (room : ℕ) (s q : Bytes) (asked : Asked) where
   says-reading _ (not-kept o z n) = opened-is o ∙ go (way_to (log_in asked o) (version_in asked o)) refl
     where
       go : (w : Option Way) → way_to (log_in asked o) (version_in asked o) ≡ w → listing_at o.cs (log_in asked o) (version_in asked o) ≡ refused not_kept
-      go none e = rw (z.1, e)
-      go (some w) e = let p = way-some-start (log_in asked o) (version_in asked o) w z e in absurd (n p.s p.start p.reaches)
+      go None e = rw (z.1, e)
+      go (Some w) e = let p = way-some-start (log_in asked o) (version_in asked o) w z e in absurd (n p.s p.start p.reaches)
   says-reading _ (six e l r m) = reached-is r (malformed e l) m
   says-reading _ (twenty-one e l r m) = reached-is r (foreign_keys e l) m
   says-reading _ (seven e l r m) = reached-is r (too_many_live e l) m
@@ -180,14 +180,14 @@ module _ (room : ℕ) (s q : Bytes) (asked : Asked) where
     where
       go : (z : Option File) → (log_in asked o).version_file 0 ≡ z → (w : Option Way) → way_to (log_in asked o) (version_in asked o) ≡ w
           → (a : Answer Listing) × Says a
-      go none e w f = (_, no_zero o e)
-      go (some zf) e none f = (_, not-kept o (zf, e) (no-way-no-start (log_in asked o) (version_in asked o) f))
-      go (some zf) e (some w) f = said-reached (record { opened = o; zero = zf; way = w; zero-there = e; way-there = f })
+      go None e w f = (_, no_zero o e)
+      go (Some zf) e None f = (_, not-kept o (zf, e) (no-way-no-start (log_in asked o) (version_in asked o) f))
+      go (Some zf) e (Some w) f = said-reached (record { opened = o; zero = zf; way = w; zero-there = e; way-there = f })
 
   said : (a : Answer Listing) × Says a
   said = go (leb rows_room room) refl (query q) refl (bundle s) refl
     where
-      named : (l : rows_room ≤ room) (cs : List Condition) → query q ≡ some cs → (fs : List File) → bundle s ≡ some fs → (b : Bool) → any_too_large fs ≡ b
+      named : (l : rows_room ≤ room) (cs : List Condition) → query q ≡ Some cs → (fs : List File) → bundle s ≡ Some fs → (b : Bool) → any_too_large fs ≡ b
           → (a : Answer Listing) × Says a
       named l cs eq fs eb true e = (_, large l (cs, eq) fs eb (any_too_large-some fs e))
       named l cs eq fs eb false e =
@@ -196,9 +196,9 @@ module _ (room : ℕ) (s q : Bytes) (asked : Asked) where
       go : (b : Bool) → leb rows_room room ≡ b → (c : Option (List Condition)) → query q ≡ c → (f : Option (List File)) → bundle s ≡ f
           → (a : Answer Listing) × Says a
       go false e c eq f eb = (_, short (leb-false rows_room room e))
-      go true e none eq f eb = (_, bad-query (leb-true rows_room room e) eq)
-      go true e (some cs) eq none eb = (_, bad-bundle (leb-true rows_room room e) (cs, eq) eb)
-      go true e (some cs) eq (some fs) eb = named (leb-true rows_room room e) cs eq fs eb (any_too_large fs) refl
+      go true e None eq f eb = (_, bad-query (leb-true rows_room room e) eq)
+      go true e (Some cs) eq None eb = (_, bad-bundle (leb-true rows_room room e) (cs, eq) eb)
+      go true e (Some cs) eq (Some fs) eb = named (leb-true rows_room room e) cs eq fs eb (any_too_large fs) refl
 
   reading-says : (a : Answer Listing) → reading room s q asked ≡ a → Says a
   reading-says a e = let p = said in subst Says (sym (says-reading p.0 p.1) ∙ e) p.1
@@ -229,16 +229,16 @@ reading-exactly room s q asked = record {
     f1 : Says room s q asked (refused room_too_short) → room < rows_room
     f1 (short l) = l
 
-    f10 : Says room s q asked (refused query_malformed) → (rows_room ≤ room) × (query q ≡ none)
+    f10 : Says room s q asked (refused query_malformed) → (rows_room ≤ room) × (query q ≡ None)
     f10 (bad-query l e) = (l, e)
 
-    f2 : Says room s q asked (refused bundle_malformed) → (rows_room ≤ room) × There (query q) × (bundle s ≡ none)
+    f2 : Says room s q asked (refused bundle_malformed) → (rows_room ≤ room) × There (query q) × (bundle s ≡ None)
     f2 (bad-bundle l c e) = (l, c, e)
 
-    f3 : Says room s q asked (refused version_too_large) → (rows_room ≤ room) × There (query q) × ((fs : List File) × (bundle s ≡ some fs) × SomeTooLarge fs)
+    f3 : Says room s q asked (refused version_too_large) → (rows_room ≤ room) × There (query q) × ((fs : List File) × (bundle s ≡ Some fs) × SomeTooLarge fs)
     f3 (large l c fs e t) = (l, c, (fs, e, t))
 
-    f4 : Says room s q asked (refused no_version_zero) → (o : Opened room s q) × ((log_in asked o).version_file 0 ≡ none)
+    f4 : Says room s q asked (refused no_version_zero) → (o : Opened room s q) × ((log_in asked o).version_file 0 ≡ None)
     f4 (no_zero o e) = (o, e)
 
     f5 : Says room s q asked (refused not_kept)

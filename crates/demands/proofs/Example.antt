@@ -1,7 +1,7 @@
 -- The example is a log as demand 3 takes it, and answers as its table says, by computation.
 use mathlib.Core.Path.{◌≡◌, refl, sym, ◌∙◌, subst}
 use mathlib.Core.Bool.{Bool, true, false}
-use mathlib.Core.Option.{Option, none, some}
+use Rattle.std.specs.Prelude.{Option, None, Some}
 use mathlib.Core.List.{List, [], ◌∷◌}
 use Prim.Native.Nat.{ℕ, zero, suc, ◌≤◌, ◌<◌}
 use native.Mathlib.Omega.{arith}
@@ -31,14 +31,14 @@ answers-hold = (refl, (refl, (refl, (refl, (refl, (refl, (refl, tt)))))))
 -- ---- its files
 
 found : Option (List File) → List File
-found none = []
-found (some fs) = fs
+found None = []
+found (Some fs) = fs
 
 files : List File
 unfolding found
 files = found (bundle whole)
 
-bundle-files : bundle whole ≡ some files
+bundle-files : bundle whole ≡ Some files
 unfolding rules files found whole Example.zero Example.one Example.checkpoint_at_one Example.two
 bundle-files = refl
 
@@ -51,12 +51,12 @@ names_of : List File → List Name
 names_of [] = []
 names_of (f ∷ fs) = name_of f.name ∷ names_of fs
 
-find_none : (test : Name → Bool) (fs : List File) → All (λ (n : Name). test n ≡ false) (names_of fs) → find test fs ≡ none
+find_none : (test : Name → Bool) (fs : List File) → All (λ (n : Name). test n ≡ false) (names_of fs) → find test fs ≡ None
 unfolding find names_of All
 find_none test [] h = refl
 find_none test (f ∷ fs) h = go (test (name_of f.name)) h.0 (find_none test fs h.1)
   where
-    go : (b : Bool) → b ≡ false → find test fs ≡ none → ◌≡◌ {A = Option File} (elim b [ true ↦ some f | false ↦ find test fs ]) none
+    go : (b : Bool) → b ≡ false → find test fs ≡ None → ◌≡◌ {A = Option File} (elim b [ true ↦ Some f | false ↦ find test fs ]) None
     go true e h = apart (cc)
     go false e h = h
 
@@ -64,14 +64,14 @@ names : names_of files ≡ version 0 ∷ checkpoint 1 ∷ version 1 ∷ version 
 unfolding rules files found names_of whole Example.zero Example.one Example.checkpoint_at_one Example.two
 names = refl
 
-no-version : (w : ℕ) → 2 < w → log.version_file w ≡ none
+no-version : (w : ℕ) → 2 < w → log.version_file w ≡ None
 unfolding log log_of All is version_in
 no-version w l =
     find_none (λ (n : Name). is w (version_in n)) files
     (subst (All (λ (n : Name). is w (version_in n) ≡ false)) (sym names)
     (ne_eqb w 0 (λ q. omega arith), (refl, (ne_eqb w 1 (λ q. omega arith), (ne_eqb w 2 (λ q. omega arith), tt)))))
 
-no-checkpoint : (c : ℕ) → (c ≡ 1 → ⊥) → log.checkpoint_file c ≡ none
+no-checkpoint : (c : ℕ) → (c ≡ 1 → ⊥) → log.checkpoint_file c ≡ None
 unfolding log log_of All is checkpoint_in
 no-checkpoint c h =
     find_none (λ (n : Name). is c (checkpoint_in n)) files
@@ -95,18 +95,18 @@ never-refused (refused s) r h e = apart (cc)
 
 -- a test of the file that is there
 passes : (File → Bool) → Option File → Bool
-passes test none = false
-passes test (some f) = test f
+passes test None = false
+passes test (Some f) = test f
 
-passes-there : (test : File → Bool) (o : Option File) (f : File) → passes test o ≡ true → o ≡ some f → test f ≡ true
+passes-there : (test : File → Bool) (o : Option File) (f : File) → passes test o ≡ true → o ≡ Some f → test f ≡ true
 unfolding passes
-passes-there test none f h e = apart (cc)
-passes-there test (some g) f h e = let q : g ≡ f = cc in subst (λ (x : File). test x ≡ true) q h
+passes-there test None f h e = apart (cc)
+passes-there test (Some g) f h e = let q : g ≡ f = cc in subst (λ (x : File). test x ≡ true) q h
 
 is-there : (test : File → Bool) (o : Option File) → passes test o ≡ true → There o
 unfolding passes
-is-there test none h = apart (cc)
-is-there test (some g) h = (g, refl)
+is-there test None h = apart (cc)
+is-there test (Some g) h = (g, refl)
 
 readable : File → Bool
 readable f = well_formed f.body
@@ -121,13 +121,13 @@ agreeing (accepted s) (refused r) = false
 agreeing (refused r) b = false
 
 true_at : ℕ → File → Bool
-true_at c f = agreeing (state_by log (some (from_checkpoint f))) (state_by log (history_to log c))
+true_at c f = agreeing (state_by log (Some (from_checkpoint f))) (state_by log (history_to log c))
 
 agreeing-true : (c : ℕ) (f : File) → true_at c f ≡ true → IsTrue log c f
 unfolding true_at agreeing
-agreeing-true c f h = go (state_by log (some (from_checkpoint f))) (state_by log (history_to log c)) refl refl h
+agreeing-true c f h = go (state_by log (Some (from_checkpoint f))) (state_by log (history_to log c)) refl refl h
   where
-    go : (a b : Answer State) → state_by log (some (from_checkpoint f)) ≡ a → state_by log (history_to log c) ≡ b → agreeing a b ≡ true → IsTrue log c f
+    go : (a b : Answer State) → state_by log (Some (from_checkpoint f)) ≡ a → state_by log (history_to log c) ≡ b → agreeing a b ≡ true → IsTrue log c f
     go (accepted s) (accepted t) e q h = record { own = s; history = t; own_read = e; history-read = q; same = agree-true s t h }
     go (accepted s) (refused r) e q h = apart (cc)
     go (refused r) b e q h = apart (cc)
@@ -179,15 +179,15 @@ example-is-full = (
     all (suc (suc zero)) l = is-there readable (log.version_file 2) readable-files.2
     all (suc (suc (suc w))) l = absurd (omega arith)
 
-    others-readable : (w : ℕ) (f : File) → log.version_file (suc w) ≡ some f → well_formed f.body ≡ true
+    others-readable : (w : ℕ) (f : File) → log.version_file (suc w) ≡ Some f → well_formed f.body ≡ true
     others-readable zero f e = passes-there readable (log.version_file 1) f readable-files.1 e
     others-readable (suc zero) f e = passes-there readable (log.version_file 2) f readable-files.2 e
-    others-readable (suc (suc w)) f e = let q : log.version_file (suc (suc (suc w))) ≡ none = no-version (suc (suc (suc w))) (omega arith) in apart (cc)
+    others-readable (suc (suc w)) f e = let q : log.version_file (suc (suc (suc w))) ≡ None = no-version (suc (suc (suc w))) (omega arith) in apart (cc)
 
-    checkpoints-true : (c : ℕ) (f : File) → log.checkpoint_file c ≡ some f → IsTrue log c f
-    checkpoints-true zero f e = let q : log.checkpoint_file zero ≡ none = no-checkpoint zero (λ q. omega arith) in apart (cc)
+    checkpoints-true : (c : ℕ) (f : File) → log.checkpoint_file c ≡ Some f → IsTrue log c f
+    checkpoints-true zero f e = let q : log.checkpoint_file zero ≡ None = no-checkpoint zero (λ q. omega arith) in apart (cc)
     checkpoints-true (suc zero) f e = agreeing-true 1 f (passes-there (true_at 1) (log.checkpoint_file 1) f readable-files.3 e)
-    checkpoints-true (suc (suc c)) f e = let q : log.checkpoint_file (suc (suc c)) ≡ none = no-checkpoint (suc (suc c)) (λ q. omega arith) in apart (cc)
+    checkpoints-true (suc (suc c)) f e = let q : log.checkpoint_file (suc (suc c)) ≡ None = no-checkpoint (suc (suc c)) (λ q. omega arith) in apart (cc)
 
     none-foreign : (v e l : ℕ) → v ≤ 2 → state_by log (history_to log v) ≡ refused (foreign_keys e l) → ⊥
     none-foreign zero e l b h = never-refused (state_by log (history_to log 0)) (foreign_keys e l) history-files.0 h

@@ -2,7 +2,7 @@
 use mathlib.Core.Path.{◌≡◌, refl, sym, ◌∙◌, ap, subst}
 use mathlib.Core.Logic.{◌⊎◌, inl, inr}
 use mathlib.Core.Bool.{false}
-use mathlib.Core.Option.{none, some}
+use Rattle.std.specs.Prelude.{None, Some}
 use mathlib.Core.List.{List, [], ◌∷◌, ◌++◌}
 use Prim.Native.Nat.{ℕ, suc, ◌+◌, ◌<◌}
 use native.Mathlib.Omega.{arith}
@@ -33,9 +33,9 @@ effect-length at size a st = length-same-rows (effect-same at 0 size 0 a st st (
 module _ (of : Origin) where
   -- a line that is not empty is refused as malformed, as foreign, or for too many live
   data Refuses (e k : ℕ) (l : Bytes) (st : State) : Refusal → Type 0 where
-    by_form : action l ≡ none → Refuses e k l st (malformed e k)
-    by-keys : (a : Action) → action l ≡ some a → Foreign of a st.table → Refuses e k l st (foreign_keys e k)
-    by_number : (a : Action) → action l ≡ some a → (Foreign of a st.table → ⊥) → most_live < length (effect 0 0 a st).live
+    by_form : action l ≡ None → Refuses e k l st (malformed e k)
+    by-keys : (a : Action) → action l ≡ Some a → Foreign of a st.table → Refuses e k l st (foreign_keys e k)
+    by_number : (a : Action) → action l ≡ Some a → (Foreign of a st.table → ⊥) → most_live < length (effect 0 0 a st).live
         → Refuses e k l st (too_many_live e k)
 
   read_line-refused : (e k at : ℕ) (l : Bytes) (st : State) (r : Refusal) → read_line most_live of e k at l st ≡ refused r → (l ≡ [] → ⊥) × Refuses e k l st r
@@ -44,7 +44,7 @@ module _ (of : Origin) where
   read_line-refused e k at (b ∷ bs) st r h =
       ((λ q. apart (cc)), go (bind-refused (or_refuse (malformed e k) (action (b ∷ bs))) (λ a. act most_live of e k at (length (b ∷ bs)) a st) h))
     where
-      over : (a : Action) → action (b ∷ bs) ≡ some a → (Foreign of a st.table → ⊥)
+      over : (a : Action) → action (b ∷ bs) ≡ Some a → (Foreign of a st.table → ⊥)
           → within_limit most_live e k (effect at (length (b ∷ bs)) a st) ≡ refused r → Refuses e k (b ∷ bs) st r
       over a q n h =
           by_cases (bind-refused (require (too_many_live e k) (leb (length (effect at (length (b ∷ bs)) a st).live) most_live))
@@ -62,7 +62,7 @@ module _ (of : Origin) where
               (leb-false (length (effect at (length (b ∷ bs)) a st).live) most_live p.0)))
           by_cases (inr (u, x, y)) = apart (cc)
 
-      keyed : (a : Action) → action (b ∷ bs) ≡ some a → act most_live of e k at (length (b ∷ bs)) a st ≡ refused r → Refuses e k (b ∷ bs) st r
+      keyed : (a : Action) → action (b ∷ bs) ≡ Some a → act most_live of e k at (length (b ∷ bs)) a st ≡ refused r → Refuses e k (b ∷ bs) st r
       keyed a q h =
           by_cases (bind-refused (require (foreign_keys e k) (fits of a st.table)) (λ _. within_limit most_live e k (effect at (length (b ∷ bs)) a st)) h)
         where

@@ -2,7 +2,7 @@
 use mathlib.Core.Path.{◌≡◌, refl, sym, ◌∙◌, subst}
 use mathlib.Core.Logic.{◌⊎◌, inl, inr}
 use mathlib.Core.Bool.{Bool, true, false}
-use mathlib.Core.Option.{Option, none, some}
+use Rattle.std.specs.Prelude.{Option, None, Some}
 use mathlib.Core.List.{List, [], ◌∷◌, map}
 use Prim.Native.Nat.{ℕ, zero, suc, ◌≤◌}
 use native.Mathlib.Omega.{arith}
@@ -40,8 +40,8 @@ use Rattle.demands.proofs.Readable.{history-way, state_by-is, history-told}
 module _ (z z' : State) where
   -- not reached; or reached, with the same facts
   data Agree : Option Way → Option Way → Type 0 where
-    unreached : {o : Option Way} → Agree o none
-    reached : {h w : Way} → SameAnswer SameState (follow most_live z h) (follow most_live z' w) → Agree (some h) (some w)
+    unreached : {o : Option Way} → Agree o None
+    reached : {h w : Way} → SameAnswer SameState (follow most_live z h) (follow most_live z' w) → Agree (Some h) (Some w)
 
   onward_by-agree : (f g : File) {u w : Option Way} → SameFile f g → Agree u w → Agree (onward_by f u) (onward_by g w)
   unfolding onward_by follow
@@ -55,22 +55,22 @@ module _ (z z' : State) where
   by_file-agree k l gone a = unreached
   by_file-agree k l (kept {f = f} {g = g} p) a = onward_by-agree f g p a
 
-  by_start-agree : (st : Option File) {o : Option Way} (l : Unit {0} → Option Way) → ((g : File) → st ≡ some g → Agree o (some (from_checkpoint g)))
+  by_start-agree : (st : Option File) {o : Option Way} (l : Unit {0} → Option Way) → ((g : File) → st ≡ Some g → Agree o (Some (from_checkpoint g)))
       → Agree o (l tt) → Agree o (by_start st l)
   unfolding by_start
-  by_start-agree none l h a = a
-  by_start-agree (some g) l h a = h g refl
+  by_start-agree None l h a = a
+  by_start-agree (Some g) l h a = h g refl
 
   all-agree : (log log' : Log) (n : ℕ) → ((w : ℕ) → Left (log.version_file w) (log'.version_file w)) → SameState z z'
-      → ((v : ℕ) → v ≤ n → (g : File) → start_at log' v ≡ some g → Agree (history_to log v) (some (from_checkpoint g)))
+      → ((v : ℕ) → v ≤ n → (g : File) → start_at log' v ≡ Some g → Agree (history_to log v) (Some (from_checkpoint g)))
       → (v : ℕ) → v ≤ n → Agree (history_to log v) (way_to log' v)
   unfolding history_to way_to follow
-  all-agree log log' n r h t zero l = by_start-agree (start_at log' zero) (λ _. some from_zero) (t zero l) (reached (both-accepted h))
+  all-agree log log' n r h t zero l = by_start-agree (start_at log' zero) (λ _. Some from_zero) (t zero l) (reached (both-accepted h))
   all-agree log log' n r h t (suc v) l =
       by_start-agree (start_at log' (suc v)) (λ _. by_file (log'.version_file (suc v)) (λ _. way_to log' v)) (t (suc v) l)
       (by_file-agree (λ _. history_to log v) (λ _. way_to log' v) (r (suc v)) (all-agree log log' n r h t v (omega arith)))
 
-agree-reached : (z z' : State) {h w : Way} → Agree z z' (some h) (some w) → SameAnswer SameState (follow most_live z h) (follow most_live z' w)
+agree-reached : (z z' : State) {h w : Way} → Agree z z' (Some h) (Some w) → SameAnswer SameState (follow most_live z h) (follow most_live z' w)
 agree-reached z z' (reached r) = r
 
 -- what is accepted from version 0 on is what the way gives
@@ -85,17 +85,17 @@ from_zero-accepted zf w z st e h =
 module _ (fs gs : List File) (n : ℕ) (full : FullHistory fs n)
     (versions : (w : ℕ) → Left ((log_of fs).version_file w) ((log_of gs).version_file w))
     (checkpoints : (c : ℕ) → Left ((log_of fs).checkpoint_file c) ((log_of gs).checkpoint_file c))
-    (zf zf' : File) (z z' : State) (e : (log_of fs).version_file 0 ≡ some zf) (e' : (log_of gs).version_file 0 ≡ some zf')
+    (zf zf' : File) (z z' : State) (e : (log_of fs).version_file 0 ≡ Some zf) (e' : (log_of gs).version_file 0 ≡ Some zf')
     (ez : read_zero zf ≡ accepted z) (ez' : read_zero zf' ≡ accepted z') (same : SameState z z') where
   -- what the whole history gives
   told : (v : ℕ) (st : State) → v ≤ n → state_by (log_of fs) (history_to (log_of fs) v) ≡ accepted st
-      → (h : Way) × (history_to (log_of fs) v ≡ some h) × (follow most_live z h ≡ accepted st)
+      → (h : Way) × (history_to (log_of fs) v ≡ Some h) × (follow most_live z h ≡ accepted st)
   told v st l q =
       let p = history-way (log_of fs) n full.all v l in
       (p.0, p.1, from_zero-accepted zf p.0 z st ez (sym (state_by-is (log_of fs) (history_to (log_of fs) v) zf p.0 e p.1) ∙ q))
 
   -- a checkpoint that is left is true
-  left-true : (v : ℕ) → v ≤ n → (g : File) → start_at (log_of gs) v ≡ some g → Agree z z' (history_to (log_of fs) v) (some (from_checkpoint g))
+  left-true : (v : ℕ) → v ≤ n → (g : File) → start_at (log_of gs) v ≡ Some g → Agree z z' (history_to (log_of fs) v) (Some (from_checkpoint g))
   unfolding follow
   left-true v l g eg =
       let p = left_there g (start_left (log_of fs) (log_of gs) v (checkpoints v)) eg in
@@ -105,18 +105,18 @@ module _ (fs gs : List File) (n : ℕ) (full : FullHistory fs n)
       from_zero-accepted zf
       (from_checkpoint f)
       z t.own ez
-      (sym (state_by-is (log_of fs) (some (from_checkpoint f)) zf (from_checkpoint f) e refl) ∙ t.own_read) in
+      (sym (state_by-is (log_of fs) (Some (from_checkpoint f)) zf (from_checkpoint f) e refl) ∙ t.own_read) in
       let h = told v t.history l t.history-read in
       let a : SameAnswer SameState (follow most_live z h.0) (read_file most_live of_checkpoint f nothing_live) =
       rw (h.2, own) (both-accepted (same-state-sym t.same)) in
       rw h.1 (reached (same-answer-trans (λ x y u. same-state-trans) a (begun-same most_live f g p.2.body)))
 
-  way_same : (v : ℕ) → v ≤ n → (w : Way) → way_to (log_of gs) v ≡ some w
+  way_same : (v : ℕ) → v ≤ n → (w : Way) → way_to (log_of gs) v ≡ Some w
       → SameAnswer SameState (state_by (log_of fs) (history_to (log_of fs) v)) (state_by (log_of gs) (way_to (log_of gs) v))
   way_same v l w ew =
       let h = history-way (log_of fs) n full.all v l in
       let a : Agree z z' (history_to (log_of fs) v) (way_to (log_of gs) v) = all-agree z z' (log_of fs) (log_of gs) n versions same left-true v l in
-      let b : Agree z z' (some h.0) (some w) = rw (h.1, ew) at a in
+      let b : Agree z z' (Some h.0) (Some w) = rw (h.1, ew) at a in
       rw (state_by-is (log_of fs) (history_to (log_of fs) v) zf h.0 e h.1, state_by-is (log_of gs) (way_to (log_of gs) v) zf' w e' ew, ez, ez')
       (agree-reached z z' b)
 
@@ -149,7 +149,7 @@ same-accepted : {A : Type 0} {Same : A → A → Type 0} {x y : Answer A} (a : A
 same-accepted a (both-accepted {b = b} r) e = (b, refl)
 same-accepted a (both-refused r) e = apart (cc)
 
-not-reached : (log : Log) (zf : File) (o : Option Way) → log.version_file 0 ≡ some zf → o ≡ none → state_by log o ≡ refused not_kept
+not-reached : (log : Log) (zf : File) (o : Option Way) → log.version_file 0 ≡ Some zf → o ≡ None → state_by log o ≡ refused not_kept
 unfolding state_within
 not-reached log zf o e q = rw (e, q)
 
@@ -178,14 +178,14 @@ module _ (fs gs : List File) (n : ℕ) (full : FullHistory fs n)
           let p : x₁ ≡ x = cc in let q : y₁ ≡ y = cc in subst (λ (u : State). SameState u y) p (subst (λ (u : State). SameState x₁ u) q r)
       both-held x y (both-refused r) e f = apart (cc)
 
-      go : (o : Option Way) → way_to (log_of gs) v ≡ o → (zf : File) → (log_of gs).version_file 0 ≡ some zf
-          → ((w : Way) → way_to (log_of gs) v ≡ some w
+      go : (o : Option Way) → way_to (log_of gs) v ≡ o → (zf : File) → (log_of gs).version_file 0 ≡ Some zf
+          → ((w : Way) → way_to (log_of gs) v ≡ Some w
           → SameAnswer SameState (state_by (log_of fs) (history_to (log_of fs) v)) (state_by (log_of gs) (way_to (log_of gs) v)))
           → KeptOrNot (log_of gs) v (history_listing cs (log_of fs) v) (listing_at cs (log_of gs) v)
-      go none e zf ez same =
+      go None e zf ez same =
           let q : listing_at cs (log_of gs) v ≡ refused not_kept = rw (not-reached (log_of gs) zf (way_to (log_of gs) v) ez e) in
           record { either = inr q; exactly-when = ((λ _. no-way-no-start (log_of gs) v e), (λ _. q)) }
-      go (some w) e zf ez same =
+      go (Some w) e zf ez same =
           let s = same w e in
           let st = history-told fs n full v l in
           let st' = same-accepted st.0 s st.1 in

@@ -1,7 +1,7 @@
 -- Demand 2 of keeping manifests.
 use mathlib.Core.Path.{◌≡◌, refl, sym, ◌∙◌, ap, subst}
 use mathlib.Core.Bool.{Bool, true, false}
-use mathlib.Core.Option.{Option, none, some}
+use Rattle.std.specs.Prelude.{Option, None, Some}
 use mathlib.Core.List.{List}
 use Prim.Native.Nat.{ℕ, ◌≤◌, ◌<◌}
 use lib.Dec.{leb}
@@ -19,11 +19,11 @@ use Rattle.demands.specs.Exactly.{KeepingRefusesExactly}
 module _ (room : ℕ) (state q : Bytes) where
   data Says : Answer (List ℕ) → Type 0 where
     short : room < kept_room → Says (refused room_too_short)
-    bad-query : kept_room ≤ room → query q ≡ none → Says (refused query_malformed)
-    bad-state : kept_room ≤ room → There (query q) → manifests state ≡ none → Says (refused state_malformed)
-    many : kept_room ≤ room → There (query q) → (ms : List Manifest) → manifests state ≡ some ms → most_manifests < length ms
+    bad-query : kept_room ≤ room → query q ≡ None → Says (refused query_malformed)
+    bad-state : kept_room ≤ room → There (query q) → manifests state ≡ None → Says (refused state_malformed)
+    many : kept_room ≤ room → There (query q) → (ms : List Manifest) → manifests state ≡ Some ms → most_manifests < length ms
         → Says (refused too_many_manifests)
-    answer : kept_room ≤ room → (cs : List Condition) → query q ≡ some cs → (ms : List Manifest) → manifests state ≡ some ms → length ms ≤ most_manifests
+    answer : kept_room ≤ room → (cs : List Condition) → query q ≡ Some cs → (ms : List Manifest) → manifests state ≡ Some ms → length ms ≤ most_manifests
         → Says (accepted (kept_from 0 cs ms))
 
   says-keeping : (a : Answer (List ℕ)) → Says a → keeping room state q ≡ a
@@ -37,7 +37,7 @@ module _ (room : ℕ) (state q : Bytes) where
   said : (a : Answer (List ℕ)) × Says a
   said = go (leb kept_room room) refl (query q) refl (manifests state) refl
     where
-      counted : kept_room ≤ room → (cs : List Condition) → query q ≡ some cs → (ms : List Manifest) → manifests state ≡ some ms → (b : Bool)
+      counted : kept_room ≤ room → (cs : List Condition) → query q ≡ Some cs → (ms : List Manifest) → manifests state ≡ Some ms → (b : Bool)
           → leb (length ms) most_manifests ≡ b → (a : Answer (List ℕ)) × Says a
       counted l cs eq ms em true e = (_, answer l cs eq ms em (leb-true (length ms) most_manifests e))
       counted l cs eq ms em false e = (_, many l (cs, eq) ms em (leb-false (length ms) most_manifests e))
@@ -45,9 +45,9 @@ module _ (room : ℕ) (state q : Bytes) where
       go : (b : Bool) → leb kept_room room ≡ b → (c : Option (List Condition)) → query q ≡ c → (m : Option (List Manifest)) → manifests state ≡ m
           → (a : Answer (List ℕ)) × Says a
       go false e c eq m em = (_, short (leb-false kept_room room e))
-      go true e none eq m em = (_, bad-query (leb-true kept_room room e) eq)
-      go true e (some cs) eq none em = (_, bad-state (leb-true kept_room room e) (cs, eq) em)
-      go true e (some cs) eq (some ms) em = counted (leb-true kept_room room e) cs eq ms em (leb (length ms) most_manifests) refl
+      go true e None eq m em = (_, bad-query (leb-true kept_room room e) eq)
+      go true e (Some cs) eq None em = (_, bad-state (leb-true kept_room room e) (cs, eq) em)
+      go true e (Some cs) eq (Some ms) em = counted (leb-true kept_room room e) cs eq ms em (leb (length ms) most_manifests) refl
 
   keeping-says : (a : Answer (List ℕ)) → keeping room state q ≡ a → Says a
   keeping-says a e = let p = said in subst Says (sym (says-keeping p.0 p.1) ∙ e) p.1
@@ -70,18 +70,18 @@ keeping-exactly room state q = record {
     f1 : Says room state q (refused room_too_short) → room < kept_room
     f1 (short l) = l
 
-    f10 : Says room state q (refused query_malformed) → (kept_room ≤ room) × (query q ≡ none)
+    f10 : Says room state q (refused query_malformed) → (kept_room ≤ room) × (query q ≡ None)
     f10 (bad-query l e) = (l, e)
 
-    f14 : Says room state q (refused state_malformed) → (kept_room ≤ room) × There (query q) × (manifests state ≡ none)
+    f14 : Says room state q (refused state_malformed) → (kept_room ≤ room) × There (query q) × (manifests state ≡ None)
     f14 (bad-state l c e) = (l, c, e)
 
     f15 : Says room state q (refused too_many_manifests)
-        → (kept_room ≤ room) × There (query q) × ((ms : List Manifest) × (manifests state ≡ some ms) × (most_manifests < length ms))
+        → (kept_room ≤ room) × There (query q) × ((ms : List Manifest) × (manifests state ≡ Some ms) × (most_manifests < length ms))
     f15 (many l c ms e m) = (l, c, (ms, e, m))
 
     f0 : (ks : List ℕ) → Says room state q (accepted ks)
         → (kept_room ≤ room)
-        × ((cs : List Condition) × (query q ≡ some cs)
-        × ((ms : List Manifest) × (manifests state ≡ some ms) × (length ms ≤ most_manifests) × (kept_from 0 cs ms ≡ ks)))
+        × ((cs : List Condition) × (query q ≡ Some cs)
+        × ((ms : List Manifest) × (manifests state ≡ Some ms) × (length ms ≤ most_manifests) × (kept_from 0 cs ms ≡ ks)))
     f0 ks (answer l cs c ms e m) = (l, (cs, c, (ms, e, m, refl)))

@@ -1,7 +1,7 @@
 -- What is kept of a bundle's files: the padded names, the times and the bodies; taken out of a bundle, and some of them.
 use mathlib.Core.Path.{◌≡◌, refl, sym, ◌∙◌, ap, subst}
 use mathlib.Core.Bool.{Bool, true, false}
-use mathlib.Core.Option.{Option, some}
+use Rattle.std.specs.Prelude.{Option, Some}
 use mathlib.Core.List.{List, [], ◌∷◌, ◌++◌}
 use Prim.Native.Nat.{ℕ, zero, suc, ◌+◌, ◌-◌, ◌*◌, ◌≤◌, ◌<◌}
 use native.Mathlib.Omega.{arith}
@@ -34,7 +34,7 @@ pub record Kept : Type 0 where
   pub body : Bytes
 
 pub record Fit (x : Kept) : Type 0 where
-  pub named : name_in x.padded ≡ some x.name
+  pub named : name_in x.padded ≡ Some x.name
   pub wide : length x.padded ≡ 96
   pub padded-bytes : AreBytes x.padded
   pub time-fits : Fits 8 x.time
@@ -81,7 +81,7 @@ record Taken (es : List Entry) (rest : Bytes) (fs : List File) : Type 0 where
   below : (p : Bytes) → All (λ (e : Entry). order p e.padded ≡ less) es → All (λ (x : Kept). order p x.padded ≡ less) kept
   ascends : Ascends padded_of es → Ascends kept_padded kept
 
-taken-one : (k at : ℕ) (e : Entry) (es : List Entry) (rest name : Bytes) (fs : List File) → EntryFits e → AreBytes rest → name_in e.padded ≡ some name
+taken-one : (k at : ℕ) (e : Entry) (es : List Entry) (rest name : Bytes) (fs : List File) → EntryFits e → AreBytes rest → name_in e.padded ≡ Some name
     → e.size ≤ length rest → Taken es (drop e.size rest) fs
     → Taken (e ∷ es) rest (record { entry = k; name = name; start = at; time = e.time; body = take e.size rest } ∷ fs)
 unfolding All bodies
@@ -98,10 +98,10 @@ taken-one k at e es rest name fs h b named within r = record {
   ascends = λ l. (r.below e.padded l.0, r.ascends l.1);
 }
 
-taken : (k at : ℕ) (es : List Entry) (rest : Bytes) (fs : List File) → All EntryFits es → AreBytes rest → files_from k at es rest ≡ some fs → Taken es rest fs
+taken : (k at : ℕ) (es : List Entry) (rest : Bytes) (fs : List File) → All EntryFits es → AreBytes rest → files_from k at es rest ≡ Some fs → Taken es rest fs
 unfolding files_from All bodies is_empty
 taken k at [] rest fs h b e =
-    let r = bind-some (guard (is_empty rest)) (λ _. some []) e in
+    let r = bind-some (guard (is_empty rest)) (λ _. Some []) e in
     record {
       kept = [];
       files = subst (Of []) (nothing r.2) no_more;
@@ -112,7 +112,7 @@ taken k at [] rest fs h b e =
       ascends = λ a. tt;
     }
   where
-    nothing : some [] ≡ some fs → [] ≡ fs
+    nothing : Some [] ≡ Some fs → [] ≡ fs
     nothing q = cc
 
     empty : (t : Bytes) → is_empty t ≡ true → t ≡ []
@@ -121,8 +121,8 @@ taken k at [] rest fs h b e =
 taken k at (e ∷ es) rest fs h b q =
     let a = bind-some (name_in e.padded) (λ name. guard (eqb e.start at) >>= (λ _. sized name)) q in
     let c = bind-some (guard (eqb e.start at)) (λ _. sized a.0) a.2 in
-    let d = bind-some (guard (leb e.size (length rest))) (λ _. further >>= (λ gs. some (this a.0 ∷ gs))) c.2 in
-    let g = bind-some further (λ gs. some (this a.0 ∷ gs)) d.2 in
+    let d = bind-some (guard (leb e.size (length rest))) (λ _. further >>= (λ gs. Some (this a.0 ∷ gs))) c.2 in
+    let g = bind-some further (λ gs. Some (this a.0 ∷ gs)) d.2 in
     let within : e.size ≤ length rest = leb-true e.size (length rest) (guard-some (leb e.size (length rest)) d.1) in
     let r = taken (suc k) (at + e.size) es (drop e.size rest) g.0 h.1 (All-drop (λ (x : ℕ). x < 256) e.size rest b) g.1 in
     then a.0 g.0 a.1 within r g.2
@@ -134,10 +134,10 @@ taken k at (e ∷ es) rest fs h b q =
     further = files_from (suc k) (at + e.size) es (drop e.size rest)
 
     sized : Bytes → Option (List File)
-    sized name = guard (leb e.size (length rest)) >>= (λ _. further >>= (λ gs. some (this name ∷ gs)))
+    sized name = guard (leb e.size (length rest)) >>= (λ _. further >>= (λ gs. Some (this name ∷ gs)))
 
-    then : (name : Bytes) (gs : List File) → name_in e.padded ≡ some name → e.size ≤ length rest → Taken es (drop e.size rest) gs
-        → some (this name ∷ gs) ≡ some fs → Taken (e ∷ es) rest fs
+    then : (name : Bytes) (gs : List File) → name_in e.padded ≡ Some name → e.size ≤ length rest → Taken es (drop e.size rest) gs
+        → Some (this name ∷ gs) ≡ Some fs → Taken (e ∷ es) rest fs
     then name gs n l r i = subst (Taken (e ∷ es) rest) (some_same i) (taken-one k at e es rest name gs h.0 b n l r)
 
 is_less-less : (o : Order) → is_less o ≡ true → o ≡ less
@@ -165,13 +165,13 @@ pub record Source (s : Bytes) (fs : List File) : Type 0 where
   pub few : length kept ≤ 1_024
   pub short : 4 + 112 * length kept + length (bodies kept) ≤ 1_048_576
 
-pub source : (s : Bytes) (fs : List File) → AreBytes s → bundle s ≡ some fs → Source s fs
+pub source : (s : Bytes) (fs : List File) → AreBytes s → bundle s ≡ Some fs → Source s fs
 unfolding bundle files_of entry_bytes most_bytes most_entries
 source s fs b h =
     let a = bind-some (guard (among 4 most_bytes (length s))) (λ _. files_of (little (take 4 s)) s) h in
     go (little (take 4 s)) (among-true 4 most_bytes (length s) (guard-some (among 4 most_bytes (length s)) a.1)).1 a.2
   where
-    go : (n : ℕ) → length s ≤ 1_048_576 → files_of n s ≡ some fs → Source s fs
+    go : (n : ℕ) → length s ≤ 1_048_576 → files_of n s ≡ Some fs → Source s fs
     go n most h =
         let es = entries n (drop 4 s) in
         let rest = drop (4 + 112 * n) s in
@@ -195,23 +195,23 @@ source s fs b h =
 
 -- ---- some of them
 
-pub data Some : (ys xs : List Kept) → Type 0 where
-  none_left : Some [] []
-  this : {x : Kept} {ys xs : List Kept} → Some ys xs → Some (x ∷ ys) (x ∷ xs)
-  past : {x : Kept} {ys xs : List Kept} → Some ys xs → Some ys (x ∷ xs)
+pub data Stays : (ys xs : List Kept) → Type 0 where
+  none_left : Stays [] []
+  this : {x : Kept} {ys xs : List Kept} → Stays ys xs → Stays (x ∷ ys) (x ∷ xs)
+  past : {x : Kept} {ys xs : List Kept} → Stays ys xs → Stays ys (x ∷ xs)
 
-pub some-all : (P : Kept → Type 0) {ys xs : List Kept} → Some ys xs → All P xs → All P ys
+pub some-all : (P : Kept → Type 0) {ys xs : List Kept} → Stays ys xs → All P xs → All P ys
 unfolding All
 some-all P none_left h = tt
 some-all P (this s) h = (h.0, some-all P s h.1)
 some-all P (past s) h = some-all P s h.1
 
-pub some-ascends : {ys xs : List Kept} → Some ys xs → Ascends kept_padded xs → Ascends kept_padded ys
+pub some-ascends : {ys xs : List Kept} → Stays ys xs → Ascends kept_padded xs → Ascends kept_padded ys
 some-ascends none_left h = tt
 some-ascends (this {x} s) h = (some-all (λ (y : Kept). order (kept_padded x) (kept_padded y) ≡ less) s h.0, some-ascends s h.1)
 some-ascends (past s) h = some-ascends s h.1
 
-pub some-fewer : {ys xs : List Kept} → Some ys xs → (length ys ≤ length xs) × (length (bodies ys) ≤ length (bodies xs))
+pub some-fewer : {ys xs : List Kept} → Stays ys xs → (length ys ≤ length xs) × (length (bodies ys) ≤ length (bodies xs))
 unfolding bodies
 some-fewer none_left = (omega arith, omega arith)
 some-fewer (this {x} {ys} {xs} s) =
@@ -219,7 +219,7 @@ some-fewer (this {x} {ys} {xs} s) =
     (omega (arith, r.0), omega (arith, r.1, length-append x.body (bodies ys), length-append x.body (bodies xs)))
 some-fewer (past {x} {ys} {xs} s) = let r = some-fewer s in (omega (arith, r.0), omega (arith, r.1, length-append x.body (bodies xs)))
 
-pub left : {MayGo : File → Type 0} {xs : List Kept} {fs gs : List File} → Of xs fs → Without MayGo fs gs → (ys : List Kept) × Some ys xs × Of ys gs
+pub left : {MayGo : File → Type 0} {xs : List Kept} {fs gs : List File} → Of xs fs → Without MayGo fs gs → (ys : List Kept) × Stays ys xs × Of ys gs
 left no_more end = ([], none_left, no_more)
 left (of {x} n t b o) (keep s w) = let (ys, p, q) = left o w in (x ∷ ys, this p, of (n ∙ s.name) (t ∙ s.time) (b ∙ s.body) q)
 left (of n t b o) (remove m w) = let (ys, p, q) = left o w in (ys, past p, q)

@@ -2,7 +2,7 @@
 use mathlib.Core.Path.{◌≡◌, refl, sym, ◌∙◌, ap, subst}
 use mathlib.Core.Logic.{inl, inr}
 use mathlib.Core.Bool.{Bool, true, false, not}
-use mathlib.Core.Option.{Option, none, some}
+use Rattle.std.specs.Prelude.{Option, None, Some}
 use mathlib.Core.List.{List, [], ◌∷◌}
 use Prim.Native.Nat.{ℕ, suc, ◌≤◌, ◌<◌}
 use native.Mathlib.Omega.{arith}
@@ -99,24 +99,24 @@ nothing-in n (x ∷ es) e h = apart (cc)
 cleaned-names : (zf : File) (now retention : ℕ) (fs : List File) (o : Option ℕ) (es : List ℕ) → cleaned_at o zf now retention fs ≡ accepted es
     → (n : ℕ) → In n es → In n (named (or_zero o) now retention fs)
 unfolding cleaned_at or_zero cleaned_by
-cleaned-names zf now retention fs none es e n h = nothing-in n es e h
-cleaned-names zf now retention fs (some c) es e n h = go (start_at (log_of fs) c) (other_way_to (log_of fs) c) e
+cleaned-names zf now retention fs None es e n h = nothing-in n es e h
+cleaned-names zf now retention fs (Some c) es e n h = go (start_at (log_of fs) c) (other_way_to (log_of fs) c) e
   where
     go : (o : Option File) (w : Option Way) → cleaned_by zf o w (named c now retention fs) ≡ accepted es → In n (named c now retention fs)
-    go none w e = nothing-in n es e h
-    go (some f) none e = nothing-in n es e h
-    go (some f) (some w) e =
+    go None w e = nothing-in n es e h
+    go (Some f) None e = nothing-in n es e h
+    go (Some f) (Some w) e =
         let p = bind-accepted (compared zf f w) (λ _. accepted (named c now retention fs)) e in
         let q : accepted (named c now retention fs) ≡ accepted es = p.2 in
         let r : es ≡ named c now retention fs = cc in
         subst (In n) r h
 
-cleaning-names : (lent : Lent) (s : Bytes) (now retention : ℕ) (fs : List File) (es : List ℕ) → bundle s ≡ some fs → cleaning lent s now retention ≡ accepted es
+cleaning-names : (lent : Lent) (s : Bytes) (now retention : ℕ) (fs : List File) (es : List ℕ) → bundle s ≡ Some fs → cleaning lent s now retention ≡ accepted es
     → (n : ℕ) → In n es → In n (named (checkpoint_of fs) now retention fs)
 unfolding cleaning
 cleaning-names lent s now retention fs es eb h =
     let a = bind-accepted (require room_too_short (enough lent)) (λ _. or_refuse bundle_malformed (bundle s) >>= passed) h in
-    let b : (or_refuse bundle_malformed (some fs) >>= passed) ≡ accepted es = rw eb at a.2 in
+    let b : (or_refuse bundle_malformed (Some fs) >>= passed) ≡ accepted es = rw eb at a.2 in
     let c = bind-accepted (require version_too_large (not (any_too_large fs)))
     (λ _. or_refuse no_version_zero ((log_of fs).version_file 0) >>= (λ zf. cleaned_at (marked (log_of fs)) zf now retention fs)) b in
     let d = bind-accepted (or_refuse no_version_zero ((log_of fs).version_file 0)) (λ zf. cleaned_at (marked (log_of fs)) zf now retention fs) c.2 in
@@ -157,7 +157,7 @@ unfolding is_too_large
 without-large c fs gs w = large-same (Between c) (between-fails c is_too_large (λ x a b. refl)) w
 
 -- reading two bundles alike, as far as their logs answer alike
-reading-same : (room : ℕ) (s t q : Bytes) (asked : Asked) (fs gs : List File) → bundle s ≡ some fs → bundle t ≡ some gs → any_too_large fs ≡ any_too_large gs
+reading-same : (room : ℕ) (s t q : Bytes) (asked : Asked) (fs gs : List File) → bundle s ≡ Some fs → bundle t ≡ Some gs → any_too_large fs ≡ any_too_large gs
     → ((cs : List Condition)
     → SameAnswer SameListing (listing_at cs (log_of fs) (version_asked asked (log_of fs))) (listing_at cs (log_of gs) (version_asked asked (log_of gs))))
     → SameAnswer SameListing (reading room s q asked) (reading room t q asked)
@@ -221,7 +221,7 @@ stopped-halfway s _ fs e not-run =
     (λ room q v l. same-answer-refl same-listing-refl (reading room s q (the_version v)))
     (λ room q. same-answer-refl same-listing-refl (reading room s q the_latest))
 stopped-halfway s u fs e (once_more {t = t} {fs = hs} {gs = gs} r more) =
-    let p : some hs ≡ some fs = sym r.before ∙ e in
+    let p : Some hs ≡ Some fs = sym r.before ∙ e in
     let q : hs ≡ fs = cc in
     let c : checkpoint_of hs ≡ checkpoint_of gs = ap or_zero (marked-same (checkpoint_of hs) (log_of hs) (log_of gs) (run-same s t hs gs r).0) in
     subst (λ (xs : List File). KeepsAnswers (checkpoint_of xs) s u) q

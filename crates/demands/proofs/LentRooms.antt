@@ -2,7 +2,7 @@
 use mathlib.Core.Path.{◌≡◌, refl, sym, ◌∙◌, ap, subst}
 use mathlib.Core.Logic.{◌⊎◌, inl, inr}
 use mathlib.Core.Bool.{Bool, true, false, not}
-use mathlib.Core.Option.{Option, none, some}
+use Rattle.std.specs.Prelude.{Option, None, Some}
 use mathlib.Core.List.{List, [], ◌∷◌, ◌++◌, map, append_assoc}
 use Prim.Native.Nat.{ℕ, zero, suc, ◌+◌, ◌*◌, ◌-◌, ◌≤◌}
 use native.Mathlib.Omega.{arith}
@@ -284,13 +284,13 @@ length-named c now retention (f ∷ fs) =
 cleaned_at-few : (o : Option ℕ) (zf : File) (now retention : ℕ) (fs : List File) (es : List ℕ) → cleaned_at o zf now retention fs ≡ accepted es
     → length es ≤ length fs
 unfolding cleaned_at cleaned_by
-cleaned_at-few none zf now retention fs es h = let e : [] ≡ es = cc in subst (λ (xs : List ℕ). length xs ≤ length fs) e (omega arith)
-cleaned_at-few (some c) zf now retention fs es h = go (start_at (log_of fs) c) (other_way_to (log_of fs) c) h
+cleaned_at-few None zf now retention fs es h = let e : [] ≡ es = cc in subst (λ (xs : List ℕ). length xs ≤ length fs) e (omega arith)
+cleaned_at-few (Some c) zf now retention fs es h = go (start_at (log_of fs) c) (other_way_to (log_of fs) c) h
   where
     go : (o : Option File) (w : Option Way) → cleaned_by zf o w (named c now retention fs) ≡ accepted es → length es ≤ length fs
-    go none w h = let e : [] ≡ es = cc in subst (λ (xs : List ℕ). length xs ≤ length fs) e (omega arith)
-    go (some f) none h = let e : [] ≡ es = cc in subst (λ (xs : List ℕ). length xs ≤ length fs) e (omega arith)
-    go (some f) (some w) h =
+    go None w h = let e : [] ≡ es = cc in subst (λ (xs : List ℕ). length xs ≤ length fs) e (omega arith)
+    go (Some f) None h = let e : [] ≡ es = cc in subst (λ (xs : List ℕ). length xs ≤ length fs) e (omega arith)
+    go (Some f) (Some w) h =
         let p = bind-accepted (compared zf f w) (λ _. accepted (named c now retention fs)) h in
         let q : accepted (named c now retention fs) ≡ accepted es = p.2 in
         let e : named c now retention fs ≡ es = cc in
@@ -309,8 +309,8 @@ cleaning-few lent s now retention es h =
     opened fs = require version_too_large (not (any_too_large fs)) >>= (λ _. or_refuse no_version_zero ((log_of fs).version_file 0) >>= cleaned fs)
 
     go : (o : Option (List File)) → bundle s ≡ o → (or_refuse bundle_malformed o >>= opened) ≡ accepted es → length es ≤ names_room
-    go none e h = apart (cc)
-    go (some fs) e h =
+    go None e h = apart (cc)
+    go (Some fs) e h =
         let b =
         bind-accepted (require version_too_large (not (any_too_large fs))) (λ _. or_refuse no_version_zero ((log_of fs).version_file 0) >>= cleaned fs) h in
         let c = bind-accepted (or_refuse no_version_zero ((log_of fs).version_file 0)) (cleaned fs) b.2 in

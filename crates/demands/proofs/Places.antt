@@ -1,7 +1,7 @@
 -- The files of a bundle stand in it one behind the other, and their lines in them; a row comes from one of these lines.
 use mathlib.Core.Path.{◌≡◌, refl, sym, ◌∙◌, ap, subst}
 use mathlib.Core.Bool.{Bool, true, false}
-use mathlib.Core.Option.{Option, none, some}
+use Rattle.std.specs.Prelude.{Option, None, Some}
 use mathlib.Core.List.{List, [], ◌∷◌, ◌++◌, append_assoc}
 use Prim.Native.Nat.{ℕ, suc, ◌+◌, ◌*◌, ◌≤◌}
 use native.Mathlib.Omega.{arith}
@@ -46,7 +46,7 @@ record BodyIn (s : Bytes) (f : File) : Type 0 where
   parts : s ≡ before ++ (f.body ++ behind)
   place : length before ≡ f.start
 
-files_from-stand : (k at : ℕ) (es : List Entry) (before rest : Bytes) (fs : List File) → length before ≡ at → files_from k at es rest ≡ some fs
+files_from-stand : (k at : ℕ) (es : List Entry) (before rest : Bytes) (fs : List File) → length before ≡ at → files_from k at es rest ≡ Some fs
     → All (BodyIn (before ++ rest)) fs
 unfolding files_from All
 files_from-stand k at [] before rest fs l h = bound (guard (is_empty rest)) _ h (λ _ _ e. subst (All (BodyIn (before ++ rest))) (some_same e) tt)
@@ -73,11 +73,11 @@ files_from-stand k at (e ∷ es) before rest fs l h =
     further gs a =
         subst (λ (x : Bytes). All (BodyIn x) gs) (append_assoc before (take n rest) (drop n rest) ∙ ap (λ (x : Bytes). before ++ x) (take-append-drop n rest)) a
 
-bundle-stand : (s : Bytes) (fs : List File) → bundle s ≡ some fs → All (BodyIn s) fs
+bundle-stand : (s : Bytes) (fs : List File) → bundle s ≡ Some fs → All (BodyIn s) fs
 unfolding bundle files_of
 bundle-stand s fs h = bound (guard (among 4 most_bytes (length s))) _ h (λ _ _ a. go (little (take 4 s)) a)
   where
-    go : (n : ℕ) → files_of n s ≡ some fs → All (BodyIn s) fs
+    go : (n : ℕ) → files_of n s ≡ Some fs → All (BodyIn s) fs
     go n h =
         let m : ℕ = 4 + entry_bytes * n in
         bound (guard (leb n most_entries)) _ h (λ _ _ a.
@@ -121,7 +121,7 @@ record LineIn (s : Bytes) (l : Line) : Type 0 where
   place : length before ≡ l.at
   long : length line ≡ l.size
   is-line : is_line line ≡ true
-  says : action line ≡ some l.does
+  says : action line ≡ Some l.does
 
 first-line : (l : Bytes) (ls : List Bytes) (at : ℕ) (s before behind : Bytes) → s ≡ before ++ (l ++ behind) → length before ≡ at → is_line l ≡ true
     → All (LineIn s) (lines_from (at + length l + 1) ls) → All (LineIn s) (lines_from at (l ∷ ls))
@@ -133,9 +133,9 @@ first-line (c ∷ cs) ls at s before behind p b i h = go (action (c ∷ cs)) ref
     size = length (c ∷ cs)
 
     go : (o : Option Action) → action (c ∷ cs) ≡ o
-        → All (LineIn s) (elim o [ none ↦ lines_from (at + size + 1) ls | some a ↦ record { at = at; size = size; does = a } ∷ lines_from (at + size + 1) ls ])
-    go none e = h
-    go (some a) e = (record { before = before; line = c ∷ cs; behind = behind; parts = p; place = b; long = refl; is-line = i; says = e }, h)
+        → All (LineIn s) (elim o [ None ↦ lines_from (at + size + 1) ls | Some a ↦ record { at = at; size = size; does = a } ∷ lines_from (at + size + 1) ls ])
+    go None e = h
+    go (Some a) e = (record { before = before; line = c ∷ cs; behind = behind; parts = p; place = b; long = refl; is-line = i; says = e }, h)
 
 split-stand : (body : Bytes) (ls : List Bytes) → Split body ls → (at : ℕ) (before behind : Bytes) → length before ≡ at
     → All (LineIn (before ++ (body ++ behind))) (lines_from at ls)
@@ -171,33 +171,33 @@ file-stand s f p =
 
 -- ---- lines on a way
 
-find-all : (P : File → Type 0) (test : Name → Bool) (fs : List File) (f : File) → All P fs → find test fs ≡ some f → P f
+find-all : (P : File → Type 0) (test : Name → Bool) (fs : List File) (f : File) → All P fs → find test fs ≡ Some f → P f
 unfolding find All
 find-all P test [] f a e = apart (cc)
 find-all P test (g ∷ fs) f a e = go (test (name_of g.name)) e (find-all P test fs f a.1)
   where
-    go : (b : Bool) → ◌≡◌ {A = Option File} (elim b [ true ↦ some g | false ↦ find test fs ]) (some f) → (find test fs ≡ some f → P f) → P f
+    go : (b : Bool) → ◌≡◌ {A = Option File} (elim b [ true ↦ Some g | false ↦ find test fs ]) (Some f) → (find test fs ≡ Some f → P f) → P f
     go true e ih = subst P (some_same e) a.0
     go false e ih = ih e
 
 module _ (P : File → Type 0) (fs : List File) (a : All P fs) where
-  version-all : (v : ℕ) (f : File) → (log_of fs).version_file v ≡ some f → P f
+  version-all : (v : ℕ) (f : File) → (log_of fs).version_file v ≡ Some f → P f
   unfolding log_of
   version-all v f e = find-all P (λ n. is v (version_in n)) fs f a e
 
-  checkpoint-all : (c : ℕ) (f : File) → (log_of fs).checkpoint_file c ≡ some f → P f
+  checkpoint-all : (c : ℕ) (f : File) → (log_of fs).checkpoint_file c ≡ Some f → P f
   unfolding log_of
   checkpoint-all c f e = find-all P (λ n. is c (checkpoint_in n)) fs f a e
 
-  start-all : (c : ℕ) (f : File) → start_at (log_of fs) c ≡ some f → P f
+  start-all : (c : ℕ) (f : File) → start_at (log_of fs) c ≡ Some f → P f
   unfolding start_at if_start
   start-all c f e = go ((log_of fs).checkpoint_file c) refl e
     where
-      go : (o : Option File) → (log_of fs).checkpoint_file c ≡ o → if_start o ≡ some f → P f
-      go none q e = apart (cc)
-      go (some g) q e = well (is_start g.body) e
+      go : (o : Option File) → (log_of fs).checkpoint_file c ≡ o → if_start o ≡ Some f → P f
+      go None q e = apart (cc)
+      go (Some g) q e = well (is_start g.body) e
         where
-          well : (b : Bool) → ◌≡◌ {A = Option File} (elim b [ true ↦ some g | false ↦ none ]) (some f) → P f
+          well : (b : Bool) → ◌≡◌ {A = Option File} (elim b [ true ↦ Some g | false ↦ None ]) (Some f) → P f
           well true e = subst P (some_same e) (checkpoint-all c g q)
           well false e = apart (cc)
 
@@ -219,69 +219,69 @@ line_row s l f p e =
       parts = p.parts;
       place = p.place;
       long = p.long;
-      says = (p.is-line, p.says ∙ ap some e);
+      says = (p.is-line, p.says ∙ ap Some e);
     }
 
 -- a skip moves no line
-with_skip-stand : (s : Bytes) (y : Skip) (was : Option Row) (r : Row) → ((x : Row) → was ≡ some x → StandsIn s x) → with_skip y was ≡ some r → StandsIn s r
+with_skip-stand : (s : Bytes) (y : Skip) (was : Option Row) (r : Row) → ((x : Row) → was ≡ Some x → StandsIn s x) → with_skip y was ≡ Some r → StandsIn s r
 unfolding with_skip
-with_skip-stand s y none r k e = apart (cc)
-with_skip-stand s y (some x) r k e =
+with_skip-stand s y None r k e = apart (cc)
+with_skip-stand s y (Some x) r k e =
     let p = k x refl in
     subst (StandsIn s) (some_same e)
     (record { before = p.before; line = p.line; behind = p.behind; parts = p.parts; place = p.place; long = p.long; says = p.says })
 
-after-stand : (s p : Bytes) (l : Line) (was : Option Row) (r : Row) → LineIn s l → ((x : Row) → was ≡ some x → StandsIn s x)
-    → after l.at l.size p l.does was ≡ some r → StandsIn s r
+after-stand : (s p : Bytes) (l : Line) (was : Option Row) (r : Row) → LineIn s l → ((x : Row) → was ≡ Some x → StandsIn s x)
+    → after l.at l.size p l.does was ≡ Some r → StandsIn s r
 unfolding after
 after-stand s p l was r i k e = go l.does refl e
   where
-    go : (a : Action) → l.does ≡ a → after l.at l.size p a was ≡ some r → StandsIn s r
+    go : (a : Action) → l.does ≡ a → after l.at l.size p a was ≡ Some r → StandsIn s r
     go (add f) q e = added (same p f.path) e
       where
         added : (b : Bool)
-            → ◌≡◌ {A = Option Row} (elim b [ true ↦ some (record { at = l.at; size = l.size; facts = f; skip = no_skip }) | false ↦ was ]) (some r)
+            → ◌≡◌ {A = Option Row} (elim b [ true ↦ Some (record { at = l.at; size = l.size; facts = f; skip = no_skip }) | false ↦ was ]) (Some r)
             → StandsIn s r
         added true e = subst (StandsIn s) (some_same e) (line_row s l f i q)
         added false e = k r e
     go (remove x) q e = removed (same p x) e
       where
-        removed : (b : Bool) → ◌≡◌ {A = Option Row} (elim b [ true ↦ none | false ↦ was ]) (some r) → StandsIn s r
+        removed : (b : Bool) → ◌≡◌ {A = Option Row} (elim b [ true ↦ None | false ↦ was ]) (Some r) → StandsIn s r
         removed true e = apart (cc)
         removed false e = k r e
     go (protocol x) q e = k r e
     go (meta_data m) q e = k r e
     go (mergeskip x y) q e = marked (same p x) e
       where
-        marked : (b : Bool) → ◌≡◌ {A = Option Row} (elim b [ true ↦ with_skip y was | false ↦ was ]) (some r) → StandsIn s r
+        marked : (b : Bool) → ◌≡◌ {A = Option Row} (elim b [ true ↦ with_skip y was | false ↦ was ]) (Some r) → StandsIn s r
         marked true e = with_skip-stand s y was r k e
         marked false e = k r e
     go other q e = k r e
 
-after_all-stand : (s p : Bytes) (ls : List Line) (was : Option Row) (r : Row) → All (LineIn s) ls → ((x : Row) → was ≡ some x → StandsIn s x)
-    → after_all p ls was ≡ some r → StandsIn s r
+after_all-stand : (s p : Bytes) (ls : List Line) (was : Option Row) (r : Row) → All (LineIn s) ls → ((x : Row) → was ≡ Some x → StandsIn s x)
+    → after_all p ls was ≡ Some r → StandsIn s r
 unfolding after_all All
 after_all-stand s p [] was r a k e = k r e
 after_all-stand s p (l ∷ ls) was r a k e =
     after_all-stand s p ls (after l.at l.size p l.does was) r a.1 (λ x. after-stand s p l was x a.0 k) e
 
 -- in path order, each row is the one at its path
-rows_at : (rs : List Row) → InPathOrder rs → All (λ (r : Row). live_at (path_of r) rs ≡ some r) rs
+rows_at : (rs : List Row) → InPathOrder rs → All (λ (r : Row). live_at (path_of r) rs ≡ Some r) rs
 unfolding live_at All
 rows_at [] o = tt
 rows_at (x ∷ xs) o = (
   here,
   All-weaken
-      (λ (r : Row). (order (path_of x) (path_of r) ≡ less) × (live_at (path_of r) xs ≡ some r))
-      (λ (r : Row). live_at (path_of r) (x ∷ xs) ≡ some r)
+      (λ (r : Row). (order (path_of x) (path_of r) ≡ less) × (live_at (path_of r) xs ≡ Some r))
+      (λ (r : Row). live_at (path_of r) (x ∷ xs) ≡ Some r)
       xs later
-      (all_both (λ (r : Row). order (path_of x) (path_of r) ≡ less) (λ (r : Row). live_at (path_of r) xs ≡ some r) xs o.0 (rows_at xs o.1)),
+      (all_both (λ (r : Row). order (path_of x) (path_of r) ≡ less) (λ (r : Row). live_at (path_of r) xs ≡ Some r) xs o.0 (rows_at xs o.1)),
 )
   where
-    here : live_at (path_of x) (x ∷ xs) ≡ some x
+    here : live_at (path_of x) (x ∷ xs) ≡ Some x
     here = rw (live_at, same_refl (path_of x))
 
-    later : (r : Row) → (order (path_of x) (path_of r) ≡ less) × (live_at (path_of r) xs ≡ some r) → live_at (path_of r) (x ∷ xs) ≡ some r
+    later : (r : Row) → (order (path_of x) (path_of r) ≡ less) × (live_at (path_of r) xs ≡ Some r) → live_at (path_of r) (x ∷ xs) ≡ Some r
     later r (l, e) = rw (live_at, ne_same (path_of r) (path_of x) (λ q. order-less-ne (path_of x) (path_of r) l (sym q))) e
 
 picked_all : (P : Row → Type 0) (cs : List Condition) (rs : List Row) → All P rs → All P (picked cs rs)
@@ -295,14 +295,14 @@ picked_all P cs (r ∷ rs) a = go (meets_all cs r.facts) (picked_all P cs rs a.1
 
 -- ---- reading
 
-state-stand : (s : Bytes) (fs : List File) (v : ℕ) (st : State) → bundle s ≡ some fs → state_by (log_of fs) (way_to (log_of fs) v) ≡ accepted st
+state-stand : (s : Bytes) (fs : List File) (v : ℕ) (st : State) → bundle s ≡ Some fs → state_by (log_of fs) (way_to (log_of fs) v) ≡ accepted st
     → All (StandsIn s) st.live
 state-stand s fs v st eb h =
     let p = replays-exactly (log_of fs) (way_to (log_of fs) v) st h in
     let q = (read-from-the-highest (log_of fs) v p.w).0 p.way-there in
     let ls : All (LineIn s) (lines_on p.w) = from-stand s fs (bundle-stand s fs eb) q.s v p.w q.begins in
-    All-weaken (λ (r : Row). live_at (path_of r) st.live ≡ some r) (StandsIn s) st.live
-    (λ r e. after_all-stand s (path_of r) (lines_on p.w) none r ls (λ x n. apart (cc)) (sym (p.live (path_of r)) ∙ e)) (rows_at st.live p.in_order)
+    All-weaken (λ (r : Row). live_at (path_of r) st.live ≡ Some r) (StandsIn s) st.live
+    (λ r e. after_all-stand s (path_of r) (lines_on p.w) None r ls (λ x n. apart (cc)) (sym (p.live (path_of r)) ∙ e)) (rows_at st.live p.in_order)
 
 pub rows-stand-in-the-bundle : RowsStandInTheBundle
 rows-stand-in-the-bundle room s q asked l h =

@@ -1,7 +1,7 @@
 -- A well-formed file is accepted, or has a foreign add or more than 1,024 live: so a full history has a state at each of its versions.
 use mathlib.Core.Path.{◌≡◌, refl, sym, ◌∙◌, subst}
 use mathlib.Core.Bool.{Bool, true, false}
-use mathlib.Core.Option.{Option, none, some}
+use Rattle.std.specs.Prelude.{Option, None, Some}
 use mathlib.Core.List.{List, [], ◌∷◌}
 use Prim.Native.Nat.{ℕ, zero, suc, ◌+◌, ◌≤◌}
 use native.Mathlib.Omega.{arith}
@@ -62,11 +62,11 @@ unfolding every_line read_line
 every_line-cons [] ls h = ((λ e k at st. fine st), h)
 every_line-cons (b ∷ bs) ls h = go (action (b ∷ bs)) h
   where
-    go : (o : Option Action) → elim o [ none ↦ false | some a ↦ every_line ls ] ≡ true
+    go : (o : Option Action) → elim o [ None ↦ false | Some a ↦ every_line ls ] ≡ true
         → ((e k at : ℕ) (st : State) → Fine (or_refuse (malformed e k) o >>= (λ a. act most_live of_version e k at (length (b ∷ bs)) a st)))
         × (every_line ls ≡ true)
-    go none h = apart (cc)
-    go (some a) h = ((λ e k at st. act-fine e k at (length (b ∷ bs)) a st), h)
+    go None h = apart (cc)
+    go (Some a) h = ((λ e k at st. act-fine e k at (length (b ∷ bs)) a st), h)
 
 read_lines-fine : (e k at : ℕ) (ls : List Bytes) (st : State) → every_line ls ≡ true → Fine (read_lines most_live of_version e k at ls st)
 unfolding read_lines
@@ -105,8 +105,8 @@ history-way log n h (suc v) l = go (log.version_file (suc v)) (history_to log v)
     go : (o : Option File) (k : Option Way) → There o → There k → There (by_file o (λ _. k))
     go o k (g, e) (u, e') = (and_then u g, rw (e, e'))
 
-history-fine : (log : Log) → ((w : ℕ) (f : File) → log.version_file (suc w) ≡ some f → well_formed f.body ≡ true)
-    → (v : ℕ) (h : Way) (z : State) → history_to log v ≡ some h → Fine (follow most_live z h)
+history-fine : (log : Log) → ((w : ℕ) (f : File) → log.version_file (suc w) ≡ Some f → well_formed f.body ≡ true)
+    → (v : ℕ) (h : Way) (z : State) → history_to log v ≡ Some h → Fine (follow most_live z h)
 unfolding history_to follow
 history-fine log r zero h z e = let q : from_zero ≡ h = cc in subst (λ (w : Way). Fine (follow most_live z w)) q (fine z)
 history-fine log r (suc v) h z e =
@@ -117,7 +117,7 @@ history-fine log r (suc v) h z e =
     (fine_bind (λ st. read_file most_live of_version g st) (history-fine log r v u z b.2.1) (λ st. read_file-fine g st (r v g b.1)))
 
 -- reading from version file `zf` along w
-pub state_by-is : (log : Log) (o : Option Way) (zf : File) (w : Way) → log.version_file 0 ≡ some zf → o ≡ some w
+pub state_by-is : (log : Log) (o : Option Way) (zf : File) (w : Way) → log.version_file 0 ≡ Some zf → o ≡ Some w
     → state_by log o ≡ (read_zero zf >>= (λ z. follow most_live z w))
 unfolding state_within
 state_by-is log o zf w e e' = rw (e, e')
@@ -142,7 +142,7 @@ history-told fs n full v l =
 -- ---- and what is accepted is readable
 
 -- the history gives an id: version 0 does, and lines keep it
-history-id : (log : Log) (v : ℕ) (h : Way) (z st : State) → history_to log v ≡ some h → HasId z.table → follow most_live z h ≡ accepted st → HasId st.table
+history-id : (log : Log) (v : ℕ) (h : Way) (z st : State) → history_to log v ≡ Some h → HasId z.table → follow most_live z h ≡ accepted st → HasId st.table
 unfolding history_to follow
 history-id log zero h z st e p f =
     let q : from_zero ≡ h = cc in
@@ -164,7 +164,7 @@ history-id log (suc v) h z st e p f =
     (history-id log v b.2.0 z c.0 b.2.1 p c.1)
 
 state_by-begun : (log : Log) (w : Option Way) (st : State) → state_by log w ≡ accepted st
-    → (zf : File) × ((z : State) × ((u : Way) × ((w ≡ some u) × ((read_zero zf ≡ accepted z) × (follow most_live z u ≡ accepted st)))))
+    → (zf : File) × ((z : State) × ((u : Way) × ((w ≡ Some u) × ((read_zero zf ≡ accepted z) × (follow most_live z u ≡ accepted st)))))
 unfolding state_within
 state_by-begun log w st h =
     let a =
@@ -177,7 +177,7 @@ state_by-begun log w st h =
 pub true-is-start : TrueIsStart
 unfolding follow start_at
 true-is-start log c f e t =
-    let (zf, (z, (u, (q, (ez, own))))) = state_by-begun log (some (from_checkpoint f)) t.own t.own_read in
+    let (zf, (z, (u, (q, (ez, own))))) = state_by-begun log (Some (from_checkpoint f)) t.own t.own_read in
     let (yf, (y, (h, (p, (ey, his))))) = state_by-begun log (history_to log c) t.history t.history-read in
     let w : from_checkpoint f ≡ u = cc in
     let mine : read_file most_live of_checkpoint f nothing_live ≡ accepted t.own = subst (λ (x : Way). follow most_live z x ≡ accepted t.own) (sym w) own in

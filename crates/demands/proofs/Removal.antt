@@ -1,7 +1,7 @@
 -- What is found in a log after files were removed: the same file, or nothing.
 use mathlib.Core.Path.{◌≡◌, refl, sym, ◌∙◌, ap, subst}
 use mathlib.Core.Bool.{Bool, true, false}
-use mathlib.Core.Option.{Option, none, some}
+use Rattle.std.specs.Prelude.{Option, None, Some}
 use mathlib.Core.List.{List, ◌∷◌}
 use Prim.Native.Nat.{ℕ}
 use Rattle.rules.specs.Bundle.{File}
@@ -13,37 +13,37 @@ use Rattle.demands.specs.Removed.{SameFile, Without, end, keep, remove}
 
 -- both missing, or both there and the same
 pub data SameFound : Option File → Option File → Type 0 where
-  neither : SameFound none none
-  both : {f g : File} → SameFile f g → SameFound (some f) (some g)
+  neither : SameFound None None
+  both : {f g : File} → SameFile f g → SameFound (Some f) (Some g)
 
 -- gone, or there and the same
 pub data Left : Option File → Option File → Type 0 where
-  gone : {o : Option File} → Left o none
-  kept : {f g : File} → SameFile f g → Left (some f) (some g)
+  gone : {o : Option File} → Left o None
+  kept : {f g : File} → SameFile f g → Left (Some f) (Some g)
 
-pub found-there : {o o' : Option File} (f : File) → SameFound o o' → o ≡ some f → (g : File) × (o' ≡ some g) × SameFile f g
+pub found-there : {o o' : Option File} (f : File) → SameFound o o' → o ≡ Some f → (g : File) × (o' ≡ Some g) × SameFile f g
 found-there f neither e = apart (cc)
 found-there f (both {f = a} {g = b} p) e = let q : a ≡ f = cc in (b, refl, subst (λ (z : File). SameFile z b) q p)
 
-pub left_there : {o o' : Option File} (g : File) → Left o o' → o' ≡ some g → (f : File) × (o ≡ some f) × SameFile f g
+pub left_there : {o o' : Option File} (g : File) → Left o o' → o' ≡ Some g → (f : File) × (o ≡ Some f) × SameFile f g
 left_there g gone e = apart (cc)
 left_there g (kept {f = a} {g = b} p) e = let q : b ≡ g = cc in (a, refl, subst (λ (z : File). SameFile a z) q p)
 
-left-none : {o o' : Option File} → Left o o' → o ≡ none → o' ≡ none
+left-none : {o o' : Option File} → Left o o' → o ≡ None → o' ≡ None
 left-none gone e = refl
 left-none (kept p) e = apart (cc)
 
 -- ---- found by name
 
 unfoldable found_if : Bool → File → Option File → Option File
-found_if true f o = some f
+found_if true f o = Some f
 found_if false f o = o
 
 find-is : (test : Name → Bool) (f : File) (fs : List File) → find test (f ∷ fs) ≡ found_if (test (name_of f.name)) f (find test fs)
 unfolding find found_if
 find-is test f fs = go (test (name_of f.name))
   where
-    go : (b : Bool) → ◌≡◌ {A = Option File} (elim b [ true ↦ some f | false ↦ find test fs ]) (found_if b f (find test fs))
+    go : (b : Bool) → ◌≡◌ {A = Option File} (elim b [ true ↦ Some f | false ↦ find test fs ]) (found_if b f (find test fs))
     go true = refl
     go false = refl
 
@@ -78,8 +78,8 @@ module _ (MayGo : File → Type 0) (test : Name → Bool) where
       (found_if-left (test (name_of f.name)) f g p (find-left l.1 w)))
   find-left l (remove {f = f} {fs = fs} {gs = gs} m w) = rw (find-is test f fs) (go (test (name_of f.name)) l.0 (find-left l.1 w))
     where
-      go : (b : Bool) → (b ≡ true → find test fs ≡ none) → Left (find test fs) (find test gs) → Left (found_if b f (find test fs)) (find test gs)
-      go true h r = subst (λ (o : Option File). Left (some f) o) (sym (left-none r (h refl))) gone
+      go : (b : Bool) → (b ≡ true → find test fs ≡ None) → Left (find test fs) (find test gs) → Left (found_if b f (find test fs)) (find test gs)
+      go true h r = subst (λ (o : Option File). Left (Some f) o) (sym (left-none r (h refl))) gone
       go false h r = r
 
 -- ---- names too large
@@ -125,14 +125,14 @@ module _ (MayGo : File → Type 0) where
 -- ---- starts
 
 if_start-by : (b : Bool) → File → Option File
-if_start-by true f = some f
-if_start-by false f = none
+if_start-by true f = Some f
+if_start-by false f = None
 
-if_start-is : (f : File) → if_start (some f) ≡ if_start-by (is_start f.body) f
+if_start-is : (f : File) → if_start (Some f) ≡ if_start-by (is_start f.body) f
 unfolding if_start if_start-by
 if_start-is f = go (is_start f.body)
   where
-    go : (b : Bool) → ◌≡◌ {A = Option File} (elim b [ true ↦ some f | false ↦ none ]) (if_start-by b f)
+    go : (b : Bool) → ◌≡◌ {A = Option File} (elim b [ true ↦ Some f | false ↦ None ]) (if_start-by b f)
     go true = refl
     go false = refl
 
@@ -165,16 +165,16 @@ pub start_left : (log log' : Log) (s : ℕ) → Left (log.checkpoint_file s) (lo
 unfolding start_at
 start_left log log' s h = if_start-left h
 
-if_start-found : (o : Option File) (f : File) → if_start o ≡ some f → o ≡ some f
+if_start-found : (o : Option File) (f : File) → if_start o ≡ Some f → o ≡ Some f
 unfolding if_start if_start-by
-if_start-found none f e = e
-if_start-found (some g) f e = go (is_start g.body) (sym (if_start-is g) ∙ e)
+if_start-found None f e = e
+if_start-found (Some g) f e = go (is_start g.body) (sym (if_start-is g) ∙ e)
   where
-    go : (b : Bool) → if_start-by b g ≡ some f → some g ≡ some f
+    go : (b : Bool) → if_start-by b g ≡ Some f → Some g ≡ Some f
     go true e = e
     go false e = apart (cc)
 
 -- what is a start is there
-pub start-found : (log : Log) (s : ℕ) (f : File) → start_at log s ≡ some f → log.checkpoint_file s ≡ some f
+pub start-found : (log : Log) (s : ℕ) (f : File) → start_at log s ≡ Some f → log.checkpoint_file s ≡ Some f
 unfolding start_at
 start-found log s f e = if_start-found (log.checkpoint_file s) f e

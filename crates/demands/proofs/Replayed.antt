@@ -1,7 +1,7 @@
 -- Line by line, what is live at a path and what protocol is in force go as the lines say.
 use mathlib.Core.Path.{◌≡◌, refl, sym, ◌∙◌, ap, subst}
 use mathlib.Core.Bool.{Bool, true, false}
-use mathlib.Core.Option.{Option, none, some}
+use Rattle.std.specs.Prelude.{Option, None, Some}
 use mathlib.Core.List.{List, [], ◌∷◌, ◌++◌, append-nil}
 use Prim.Native.Nat.{ℕ, suc, ◌+◌}
 use native.Mathlib.Omega.{arith}
@@ -35,7 +35,7 @@ live_at-lookup p [] = refl
 live_at-lookup p (r ∷ rs) = go (same p (path_of r)) (live_at-lookup p rs)
   where
     go : (b : Bool) → live_at p rs ≡ lookup path_of p rs
-        → ◌≡◌ {A = Option Row} (elim b [ true ↦ some r | false ↦ live_at p rs ]) (elim b [ true ↦ some r | false ↦ lookup path_of p rs ])
+        → ◌≡◌ {A = Option Row} (elim b [ true ↦ Some r | false ↦ live_at p rs ]) (elim b [ true ↦ Some r | false ↦ lookup path_of p rs ])
     go true ih = refl
     go false ih = ih
 
@@ -50,8 +50,8 @@ live_at-put p at size f rs = by (same p f.path) here there
     here : same p f.path ≡ true → live_at p (put path_of r rs) ≡ after at size p (add f) (live_at p rs)
     here e =
         let q : p ≡ f.path = same_true p f.path e in
-        let found : lookup path_of p (put path_of r rs) ≡ some r =
-        subst (λ (x : Bytes). lookup path_of x (put path_of r rs) ≡ some r) (sym q) (lookup-put path_of r rs) in
+        let found : lookup path_of p (put path_of r rs) ≡ Some r =
+        subst (λ (x : Bytes). lookup path_of x (put path_of r rs) ≡ Some r) (sym q) (lookup-put path_of r rs) in
         rw (after, e) (live_at-lookup p (put path_of r rs) ∙ found)
 
     there : same p f.path ≡ false → live_at p (put path_of r rs) ≡ after at size p (add f) (live_at p rs)
@@ -65,8 +65,8 @@ live_at-take_out p at size q rs s = by (same p q) here there
     here : same p q ≡ true → live_at p (take_out path_of q rs) ≡ after at size p (remove q) (live_at p rs)
     here e =
         let f : p ≡ q = same_true p q e in
-        let gone : lookup path_of p (take_out path_of q rs) ≡ none =
-        subst (λ (x : Bytes). lookup path_of x (take_out path_of q rs) ≡ none) (sym f) (lookup-take_out path_of q rs s) in
+        let gone : lookup path_of p (take_out path_of q rs) ≡ None =
+        subst (λ (x : Bytes). lookup path_of x (take_out path_of q rs) ≡ None) (sym f) (lookup-take_out path_of q rs s) in
         rw (after, e) (live_at-lookup p (take_out path_of q rs) ∙ gone)
 
     there : same p q ≡ false → live_at p (take_out path_of q rs) ≡ after at size p (remove q) (live_at p rs)
@@ -78,8 +78,8 @@ unfolding after with_skip path_of skipped
 live_at-change p at size q k rs = by (same p q) here there
   where
     found : (o : Option Row) → lookup path_of q rs ≡ o → lookup path_of q (change path_of q (skipped k) rs) ≡ with_skip k o
-    found none e = ap (lookup path_of q) (change-none path_of q (skipped k) rs (none-lookup path_of q rs e)) ∙ e
-    found (some r) e = lookup-change path_of q (skipped k) (λ x. refl) rs r e
+    found None e = ap (lookup path_of q) (change-none path_of q (skipped k) rs (none-lookup path_of q rs e)) ∙ e
+    found (Some r) e = lookup-change path_of q (skipped k) (λ x. refl) rs r e
 
     here : same p q ≡ true → live_at p (change path_of q (skipped k) rs) ≡ after at size p (mergeskip q k) (live_at p rs)
     here e =
@@ -164,9 +164,9 @@ read_lines-goes of e k at ((b ∷ bs) ∷ ls) st to s h = go (action (b ∷ bs))
         >>= (λ next. read_lines most_live of e (suc k) (at + size + 1) ls next)) ≡ accepted to
         → ((next : State) → Ordered next → read_lines most_live of e (suc k) (at + size + 1) ls next ≡ accepted to
         → Goes (lines_from (at + size + 1) ls) next to)
-        → Goes (elim o [ none ↦ lines_from (at + size + 1) ls | some a ↦ record { at = at; size = size; does = a } ∷ lines_from (at + size + 1) ls ]) st to
-    go none h ih = apart (cc)
-    go (some a) h ih =
+        → Goes (elim o [ None ↦ lines_from (at + size + 1) ls | Some a ↦ record { at = at; size = size; does = a } ∷ lines_from (at + size + 1) ls ]) st to
+    go None h ih = apart (cc)
+    go (Some a) h ih =
         let r = bind-accepted (act most_live of e k at size a st) (λ next. read_lines most_live of e (suc k) (at + size + 1) ls next) h in
         let w = within_limit-accepted most_live e k (effect at size a st) (act-accepted most_live of e k at size a st r.1).1 in
         let t : read_lines most_live of e (suc k) (at + size + 1) ls (effect at size a st) ≡ accepted to =
@@ -215,7 +215,7 @@ last_table-append (other ∷ acts) bs was = last_table-append acts bs was
 
 -- along a way, from where nothing is live
 record Comes (w : Way) (z to : State) : Type 0 where
-  live : (path : Bytes) → live_at path to.live ≡ after_all path (lines_on w) none
+  live : (path : Bytes) → live_at path to.live ≡ after_all path (lines_on w) None
   table : to.table ≡ last_table (actions (lines_on w)) (table_before w z.table)
   in_force : to.in_force ≡ last_protocol (actions (lines_on w)) (protocol_before w z.in_force)
   ordered : Ordered to
@@ -236,7 +236,7 @@ follow-comes z (and_then w g) st e h = go (bind-accepted (follow most_live z w) 
         let c = ih x a in
         let d = read_file-goes of_version g x st c.ordered b in
         record {
-          live = λ p. d.live p ∙ ap (after_all p (lines_in g)) (c.live p) ∙ sym (after_all-append p (lines_on w) (lines_in g) none);
+          live = λ p. d.live p ∙ ap (after_all p (lines_in g)) (c.live p) ∙ sym (after_all-append p (lines_on w) (lines_in g) None);
           table =
               d.table ∙ ap (last_table (actions (lines_in g))) c.table
               ∙ sym
@@ -252,11 +252,11 @@ follow-comes z (and_then w g) st e h = go (bind-accepted (follow most_live z w) 
 -- ---- version 0
 
 list_of : Option MetaData → List MetaData
-list_of none = []
-list_of (some m) = m ∷ []
+list_of None = []
+list_of (Some m) = m ∷ []
 
 -- one action, in front of those that are left
-say-goes : (a : Action) (left : List Action) (s next : Said) → say a s ≡ some next
+say-goes : (a : Action) (left : List Action) (s next : Said) → say a s ≡ Some next
     → (list_of next.of_table ++ tables_in left ≡ list_of s.of_table ++ tables_in (a ∷ left))
     × (last_protocol left (or_unstated next.of_protocol) ≡ last_protocol (a ∷ left) (or_unstated s.of_protocol))
 unfolding say say_table say_protocol tables_in last_protocol list_of or_unstated
@@ -264,28 +264,28 @@ say-goes (add f) left s next e = apart (cc)
 say-goes (remove q) left s next e = apart (cc)
 say-goes (protocol p) left s next e = go s.of_protocol e
   where
-    go : (o : Option Protocol) → say_protocol o p s ≡ some next
+    go : (o : Option Protocol) → say_protocol o p s ≡ Some next
         → (list_of next.of_table ++ tables_in left ≡ list_of s.of_table ++ tables_in left)
         × (last_protocol left (or_unstated next.of_protocol) ≡ last_protocol left p)
-    go none e =
+    go None e =
         subst
         (λ (n : Said). (list_of n.of_table ++ tables_in left ≡ list_of s.of_table ++ tables_in left)
         × (last_protocol left (or_unstated n.of_protocol) ≡ last_protocol left p))
         (some_same e)
         (refl, refl)
-    go (some q) e = apart (cc)
+    go (Some q) e = apart (cc)
 say-goes (meta_data m) left s next e = go s.of_table e
   where
-    go : (o : Option MetaData) → say_table o m s ≡ some next
+    go : (o : Option MetaData) → say_table o m s ≡ Some next
         → (list_of next.of_table ++ tables_in left ≡ list_of o ++ (m ∷ tables_in left))
         × (last_protocol left (or_unstated next.of_protocol) ≡ last_protocol left (or_unstated s.of_protocol))
-    go none e =
+    go None e =
         subst
         (λ (n : Said). (list_of n.of_table ++ tables_in left ≡ m ∷ tables_in left)
         × (last_protocol left (or_unstated n.of_protocol) ≡ last_protocol left (or_unstated s.of_protocol)))
         (some_same e)
         (refl, refl)
-    go (some n) e = apart (cc)
+    go (Some n) e = apart (cc)
 say-goes (mergeskip q k) left s next e = apart (cc)
 say-goes other left s next e =
     subst
@@ -313,14 +313,14 @@ zero_lines-goes e k at ((b ∷ bs) ∷ ls) s to h = go (action (b ∷ bs)) refl 
         → ((next : Said) → zero_lines e (suc k) ls next ≡ accepted to → Said-so rest next to)
         → (list_of to.of_table ≡ list_of s.of_table ++ tables_in (a ∷ actions rest))
         × (or_unstated to.of_protocol ≡ last_protocol (a ∷ actions rest) (or_unstated s.of_protocol))
-    said-so a none q h ih = apart (cc)
-    said-so a (some next) q h ih = let r = ih next h in let t = say-goes a (actions rest) s next q in (r.table ∙ t.0, r.in_force ∙ t.1)
+    said-so a None q h ih = apart (cc)
+    said-so a (Some next) q h ih = let r = ih next h in let t = say-goes a (actions rest) s next q in (r.table ∙ t.0, r.in_force ∙ t.1)
 
     go : (o : Option Action) → action (b ∷ bs) ≡ o
         → (or_refuse (malformed e k) o >>= (λ a. or_refuse (malformed e k) (say a s) >>= (λ next. zero_lines e (suc k) ls next))) ≡ accepted to
         → ((next : Said) → zero_lines e (suc k) ls next ≡ accepted to → Said-so rest next to) → Said-so (lines_from at ((b ∷ bs) ∷ ls)) s to
-    go none q h ih = apart (cc)
-    go (some a) q h ih = let r = said-so a (say a s) refl h ih in record { table = rw (lines_from, q) r.0; in_force = rw (lines_from, q) r.1 }
+    go None q h ih = apart (cc)
+    go (Some a) q h ih = let r = said-so a (say a s) refl h ih in record { table = rw (lines_from, q) r.0; in_force = rw (lines_from, q) r.1 }
 
 read_zero-says : (f : File) (z : State) → read_zero f ≡ accepted z → ZeroSays f z
 unfolding read_zero list_of said_nothing or_unstated
@@ -338,7 +338,7 @@ read_zero-says f z h =
     state_of : Said → MetaData → State
     state_of s m = record { table = m; in_force = or_unstated s.of_protocol; live = [] }
 
-    go : (s : Said) (m : MetaData) → Said-so (lines_in f) said_nothing s → s.of_table ≡ some m → accepted (state_of s m) ≡ accepted z → ZeroSays f z
+    go : (s : Said) (m : MetaData) → Said-so (lines_in f) said_nothing s → s.of_table ≡ Some m → accepted (state_of s m) ≡ accepted z → ZeroSays f z
     go s m r t e =
         let q : state_of s m ≡ z = cc in
         subst (ZeroSays f) q (record { table = sym r.table ∙ ap list_of t; in_force = r.in_force; live = refl })

@@ -2,7 +2,7 @@
 use mathlib.Core.Path.{◌≡◌, refl, sym, ◌∙◌, ap, subst}
 use mathlib.Core.Logic.{◌⊎◌, inl, inr}
 use mathlib.Core.Bool.{Bool, true, false, ◌&&◌}
-use mathlib.Core.Option.{Option, none, some}
+use Rattle.std.specs.Prelude.{Option, None, Some}
 use mathlib.Core.List.{List, [], ◌∷◌, ◌++◌}
 use Prim.Native.Nat.{ℕ}
 use lib.Dec.{eqb}
@@ -33,20 +33,20 @@ shown-not : (line : Bytes) → is_line line ≡ false → (path_shown line ≡ [
 unfolding path_shown records_shown
 shown-not line l = (rw (path_shown, l), rw (records_shown, l))
 
-written-add : (line : Text) (m : Member) (ms : List Member) (v : Text) → line_member line ≡ some m → object_of in_action m.1 ≡ some ms
-    → once "path" ms ≡ some v → path_written line ≡ some (unquoted v)
+written-add : (line : Text) (m : Member) (ms : List Member) (v : Text) → line_member line ≡ Some m → object_of in_action m.1 ≡ Some ms
+    → once "path" ms ≡ Some v → path_written line ≡ Some (unquoted v)
 unfolding path_written
 written-add line m ms v e f g = rw (e, f, g)
 
 shown-add : (line : Bytes) (f : Facts) → IsAdd line f
-    → (v : Bytes) × (path_written line ≡ some (unquoted v)) × (string_of v ≡ some f.path) × (path_shown line ≡ unquoted v)
+    → (v : Bytes) × (path_written line ≡ Some (unquoted v)) × (string_of v ≡ Some f.path) × (path_shown line ≡ unquoted v)
 unfolding path_in or_nothing
 shown-add line f (l, a) =
     let m = action-add line f a in
     let ms = m.2.0 in
     let v = path_at-once ms f.path (add_of-path ms f m.2.2) in
     let w = written-add line m.0 ms v.0 m.1 m.2.1 v.1 in
-    (v.0, w, v.2, (shown_by line (some (add f)) l a).0 ∙ ap or_nothing w)
+    (v.0, w, v.2, (shown_by line (Some (add f)) l a).0 ∙ ap or_nothing w)
 
 -- ---- lines by what they are
 
@@ -61,33 +61,33 @@ kind line = go (is_line line) refl (action line) refl
   where
     go : (b : Bool) → is_line line ≡ b → (a : Option Action) → action line ≡ a → Kind line
     go false l a e = adds_nothing (λ f h. true-not-false h.0 l) (shown-not line l).0 (shown-not line l).1
-    go true l none e = adds_nothing (λ f h. differ (sym e ∙ h.1)) (shown_by line none l e).0 (shown_by line none l e).1
+    go true l None e = adds_nothing (λ f h. differ (sym e ∙ h.1)) (shown_by line None l e).0 (shown_by line None l e).1
       where
-        differ : {f : Facts} → ◌≡◌ {A = Option Action} none (some (add f)) → ⊥
+        differ : {f : Facts} → ◌≡◌ {A = Option Action} None (Some (add f)) → ⊥
         differ q = apart (cc)
-    go true l (some (add f)) e = an-add f (l, e)
-    go true l (some (remove p)) e = adds_nothing (λ f h. differ (sym e ∙ h.1)) (shown_by line (some (remove p)) l e).0 (shown_by line (some (remove p)) l e).1
+    go true l (Some (add f)) e = an-add f (l, e)
+    go true l (Some (remove p)) e = adds_nothing (λ f h. differ (sym e ∙ h.1)) (shown_by line (Some (remove p)) l e).0 (shown_by line (Some (remove p)) l e).1
       where
-        differ : {f : Facts} → ◌≡◌ {A = Option Action} (some (remove p)) (some (add f)) → ⊥
+        differ : {f : Facts} → ◌≡◌ {A = Option Action} (Some (remove p)) (Some (add f)) → ⊥
         differ q = apart (cc)
-    go true l (some (protocol p)) e =
-        adds_nothing (λ f h. differ (sym e ∙ h.1)) (shown_by line (some (protocol p)) l e).0 (shown_by line (some (protocol p)) l e).1
+    go true l (Some (protocol p)) e =
+        adds_nothing (λ f h. differ (sym e ∙ h.1)) (shown_by line (Some (protocol p)) l e).0 (shown_by line (Some (protocol p)) l e).1
       where
-        differ : {f : Facts} → ◌≡◌ {A = Option Action} (some (protocol p)) (some (add f)) → ⊥
+        differ : {f : Facts} → ◌≡◌ {A = Option Action} (Some (protocol p)) (Some (add f)) → ⊥
         differ q = apart (cc)
-    go true l (some (meta_data m)) e =
-        adds_nothing (λ f h. differ (sym e ∙ h.1)) (shown_by line (some (meta_data m)) l e).0 (shown_by line (some (meta_data m)) l e).1
+    go true l (Some (meta_data m)) e =
+        adds_nothing (λ f h. differ (sym e ∙ h.1)) (shown_by line (Some (meta_data m)) l e).0 (shown_by line (Some (meta_data m)) l e).1
       where
-        differ : {f : Facts} → ◌≡◌ {A = Option Action} (some (meta_data m)) (some (add f)) → ⊥
+        differ : {f : Facts} → ◌≡◌ {A = Option Action} (Some (meta_data m)) (Some (add f)) → ⊥
         differ q = apart (cc)
-    go true l (some (mergeskip p k)) e =
-        adds_nothing (λ f h. differ (sym e ∙ h.1)) (shown_by line (some (mergeskip p k)) l e).0 (shown_by line (some (mergeskip p k)) l e).1
+    go true l (Some (mergeskip p k)) e =
+        adds_nothing (λ f h. differ (sym e ∙ h.1)) (shown_by line (Some (mergeskip p k)) l e).0 (shown_by line (Some (mergeskip p k)) l e).1
       where
-        differ : {f : Facts} → ◌≡◌ {A = Option Action} (some (mergeskip p k)) (some (add f)) → ⊥
+        differ : {f : Facts} → ◌≡◌ {A = Option Action} (Some (mergeskip p k)) (Some (add f)) → ⊥
         differ q = apart (cc)
-    go true l (some other) e = adds_nothing (λ f h. differ (sym e ∙ h.1)) (shown_by line (some other) l e).0 (shown_by line (some other) l e).1
+    go true l (Some other) e = adds_nothing (λ f h. differ (sym e ∙ h.1)) (shown_by line (Some other) l e).0 (shown_by line (Some other) l e).1
       where
-        differ : {f : Facts} → ◌≡◌ {A = Option Action} (some other) (some (add f)) → ⊥
+        differ : {f : Facts} → ◌≡◌ {A = Option Action} (Some other) (Some (add f)) → ⊥
         differ q = apart (cc)
 
 pub path-is-shown : PathIsShown
@@ -113,7 +113,7 @@ path-is-shown line =
 
 pub records-are-shown : RecordsAreShown
 unfolding records_in
-records-are-shown line = record { of-add = λ f h. (shown_by line (some (add f)) h.0 h.1).1; of_others = others (kind line) }
+records-are-shown line = record { of-add = λ f h. (shown_by line (Some (add f)) h.0 h.1).1; of_others = others (kind line) }
   where
     others : Kind line → ((f : Facts) → IsAdd line f → ⊥) → records_shown line ≡ no_add
     others (an-add f h) n = absurd (n f h)

@@ -1,7 +1,7 @@
 -- A checkpoint is a start exactly when it has an object, every line is well formed, and a metaData is among them.
 use mathlib.Core.Path.{◌≡◌, refl, sym, ap, subst}
 use mathlib.Core.Bool.{Bool, true, false}
-use mathlib.Core.Option.{Option, none, some}
+use Rattle.std.specs.Prelude.{Option, None, Some}
 use mathlib.Core.List.{List, [], ◌∷◌, ◌++◌}
 use Rattle.rules.specs.Bytes.{Bytes}
 use Rattle.rules.specs.Bundle.{File}
@@ -15,15 +15,15 @@ use Rattle.demands.specs.Reaching.{TableLine, StartsExactly}
 
 -- ---- lines
 
-is_table-said : (o : Option Action) → is_table o ≡ true → (m : MetaData) × (o ≡ some (meta_data m))
+is_table-said : (o : Option Action) → is_table o ≡ true → (m : MetaData) × (o ≡ Some (meta_data m))
 unfolding is_table
-is_table-said none e = apart (cc)
-is_table-said (some (add f)) e = apart (cc)
-is_table-said (some (remove p)) e = apart (cc)
-is_table-said (some (protocol p)) e = apart (cc)
-is_table-said (some (meta_data m)) e = (m, refl)
-is_table-said (some (mergeskip p k)) e = apart (cc)
-is_table-said (some other) e = apart (cc)
+is_table-said None e = apart (cc)
+is_table-said (Some (add f)) e = apart (cc)
+is_table-said (Some (remove p)) e = apart (cc)
+is_table-said (Some (protocol p)) e = apart (cc)
+is_table-said (Some (meta_data m)) e = (m, refl)
+is_table-said (Some (mergeskip p k)) e = apart (cc)
+is_table-said (Some other) e = apart (cc)
 
 record Among (ls : List Bytes) : Type 0 where
   before : List Bytes
@@ -31,7 +31,7 @@ record Among (ls : List Bytes) : Type 0 where
   behind : List Bytes
   split : ls ≡ before ++ line ∷ behind
   table : MetaData
-  said : action line ≡ some (meta_data table)
+  said : action line ≡ Some (meta_data table)
 
 says_table-among : (ls : List Bytes) → says_table ls ≡ true → Among ls
 unfolding says_table
@@ -52,7 +52,7 @@ says_table-among (l ∷ ls) e = go (is_table (action l)) refl e (λ h. says_tabl
         }
 
 -- one said behind others is said
-among-says_table : (before : List Bytes) (l : Bytes) (behind : List Bytes) (m : MetaData) → action l ≡ some (meta_data m)
+among-says_table : (before : List Bytes) (l : Bytes) (behind : List Bytes) (m : MetaData) → action l ≡ Some (meta_data m)
     → says_table (before ++ l ∷ behind) ≡ true
 unfolding says_table is_table
 among-says_table [] l behind m q = rw (says_table, q, is_table)
@@ -73,17 +73,17 @@ is_start-parts body e = go (well_formed body) refl e
     go true q e = (q, e)
     go false q e = apart (cc)
 
-if_start-some : (o : Option File) (f : File) → if_start o ≡ some f → (o ≡ some f) × (is_start f.body ≡ true)
+if_start-some : (o : Option File) (f : File) → if_start o ≡ Some f → (o ≡ Some f) × (is_start f.body ≡ true)
 unfolding if_start
-if_start-some none f e = apart (cc)
-if_start-some (some g) f e = go (is_start g.body) refl e
+if_start-some None f e = apart (cc)
+if_start-some (Some g) f e = go (is_start g.body) refl e
   where
-    go : (b : Bool) → is_start g.body ≡ b → ◌≡◌ {A = Option File} (elim b [ true ↦ some g | false ↦ none ]) (some f)
-        → (some g ≡ some f) × (is_start f.body ≡ true)
+    go : (b : Bool) → is_start g.body ≡ b → ◌≡◌ {A = Option File} (elim b [ true ↦ Some g | false ↦ None ]) (Some f)
+        → (Some g ≡ Some f) × (is_start f.body ≡ true)
     go true q e = (e, subst (λ (x : File). is_start x.body ≡ true) (some_same e) q)
     go false q e = apart (cc)
 
-pub if_start-there : (o : Option File) (f : File) → o ≡ some f → is_start f.body ≡ true → if_start o ≡ some f
+pub if_start-there : (o : Option File) (f : File) → o ≡ Some f → is_start f.body ≡ true → if_start o ≡ Some f
 unfolding if_start
 if_start-there o f e q = rw (e, if_start, q)
 
@@ -91,14 +91,14 @@ pub starts-exactly : StartsExactly
 unfolding start_at
 starts-exactly log s f = (there, back)
   where
-    there : start_at log s ≡ some f → (log.checkpoint_file s ≡ some f) × ((well_formed f.body ≡ true) × TableLine f.body)
+    there : start_at log s ≡ Some f → (log.checkpoint_file s ≡ Some f) × ((well_formed f.body ≡ true) × TableLine f.body)
     there e =
         let a = if_start-some (log.checkpoint_file s) f e in
         let p = is_start-parts f.body a.1 in
         let r = says_table-among (lines f.body) p.1 in
         (a.0, (p.0, record { before = r.before; line = r.line; behind = r.behind; split = r.split; table = r.table; said = r.said }))
 
-    back : (log.checkpoint_file s ≡ some f) × ((well_formed f.body ≡ true) × TableLine f.body) → start_at log s ≡ some f
+    back : (log.checkpoint_file s ≡ Some f) × ((well_formed f.body ≡ true) × TableLine f.body) → start_at log s ≡ Some f
     back (e, (w, t)) =
         let says = subst (λ (ls : List Bytes). says_table ls ≡ true) (sym t.split) (among-says_table t.before t.line t.behind t.table t.said) in
         if_start-there (log.checkpoint_file s) f e (is_start-both f.body w says)

@@ -1,7 +1,7 @@
 -- Two logs with the same checkpoints, marker and version 0, and the same version files from c upward, answer alike from c upward,
 -- where c is 0 or a checkpoint that is a start.
 use mathlib.Core.Path.{◌≡◌, refl, ◌∙◌, ap, subst}
-use mathlib.Core.Option.{Option, none, some}
+use Rattle.std.specs.Prelude.{Option, None, Some}
 use mathlib.Core.List.{List}
 use Prim.Native.Nat.{ℕ, zero, suc, ◌≤◌}
 use native.Mathlib.Omega.{arith}
@@ -33,8 +33,8 @@ data SameWay : Way → Way → Type 0 where
   then-way : {u w : Way} {f g : File} → SameWay u w → SameFile f g → SameWay (and_then u f) (and_then w g)
 
 data SameWays : Option Way → Option Way → Type 0 where
-  no_way : SameWays none none
-  a-way : {u w : Way} → SameWay u w → SameWays (some u) (some w)
+  no_way : SameWays None None
+  a-way : {u w : Way} → SameWay u w → SameWays (Some u) (Some w)
 
 follow-same : {u w : Way} (s t : State) → SameWay u w → SameState s t → SameAnswer SameState (follow most_live s u) (follow most_live t w)
 unfolding follow
@@ -72,7 +72,7 @@ unfolding by_file
 by_file-same k l neither h = no_way
 by_file-same k l (both {f = f} {g = g} p) h = onward_by-same f g p h
 
-by_start-same : {o o' : Option File} (k l : Unit {0} → Option Way) → SameFound o o' → (o ≡ none → SameWays (k tt) (l tt))
+by_start-same : {o o' : Option File} (k l : Unit {0} → Option Way) → SameFound o o' → (o ≡ None → SameWays (k tt) (l tt))
     → SameWays (by_start o k) (by_start o' l)
 unfolding by_start
 by_start-same k l neither h = h refl
@@ -88,12 +88,12 @@ pub record SameFrom (c : ℕ) (log log' : Log) : Type 0 where
 
 -- c is 0, or a start stands there
 abbrev Anchored : Log → ℕ → Type 0
-Anchored log c = (v : ℕ) → c ≡ suc v → start_at log (suc v) ≡ none → ⊥
+Anchored log c = (v : ℕ) → c ≡ suc v → start_at log (suc v) ≡ None → ⊥
 
 way_same : (c : ℕ) (log log' : Log) → SameFrom c log log' → Anchored log c → (v : ℕ) → c ≤ v → SameWays (way_to log v) (way_to log' v)
 unfolding way_to
 way_same c log log' h a zero l =
-    by_start-same (λ _. some from_zero) (λ _. some from_zero) (start-same log log' zero (h.checkpoints zero)) (λ e. a-way zero-way)
+    by_start-same (λ _. Some from_zero) (λ _. Some from_zero) (start-same log log' zero (h.checkpoints zero)) (λ e. a-way zero-way)
 way_same c log log' h a (suc v) l =
     by_start-same
     (λ _. by_file (log.version_file (suc v)) (λ _. way_to log v))
@@ -101,19 +101,19 @@ way_same c log log' h a (suc v) l =
     (start-same log log' (suc v) (h.checkpoints (suc v)))
     (λ e. by_file-same (λ _. way_to log v) (λ _. way_to log' v) (h.versions (suc v) l) (go (way_same c log log' h a v) e (dec_le c v)))
   where
-    go : (c ≤ v → SameWays (way_to log v) (way_to log' v)) → start_at log (suc v) ≡ none → Dec (c ≤ v) → SameWays (way_to log v) (way_to log' v)
+    go : (c ≤ v → SameWays (way_to log v) (way_to log' v)) → start_at log (suc v) ≡ None → Dec (c ≤ v) → SameWays (way_to log v) (way_to log' v)
     go ih e (yes b) = ih b
     go ih e (no n) = absurd (a v (omega arith) e)
 
 -- ---- the marker, and the latest
 
-pub marked_start : (log : Log) (c : ℕ) → marked log ≡ some c → There (start_at log c)
+pub marked_start : (log : Log) (c : ℕ) → marked log ≡ Some c → There (start_at log c)
 unfolding marked
 marked_start log c e =
-    let a = bind-some log.marker_file (λ m. marker_version m.body >>= (λ d. start_at log d >>= (λ _. some d))) e in
-    let b = bind-some (marker_version a.0.body) (λ d. start_at log d >>= (λ _. some d)) a.2 in
-    let f = bind-some (start_at log b.0) (λ _. some b.0) b.2 in
-    let p : some b.0 ≡ some c = f.2 in
+    let a = bind-some log.marker_file (λ m. marker_version m.body >>= (λ d. start_at log d >>= (λ _. Some d))) e in
+    let b = bind-some (marker_version a.0.body) (λ d. start_at log d >>= (λ _. Some d)) a.2 in
+    let f = bind-some (start_at log b.0) (λ _. Some b.0) b.2 in
+    let p : Some b.0 ≡ Some c = f.2 in
     let q : b.0 ≡ c = cc in
     subst (λ (x : ℕ). There (start_at log x)) q (f.0, f.1)
 
@@ -122,8 +122,8 @@ unfolding or_zero
 marked-anchored log = go (marked log) refl
   where
     go : (o : Option ℕ) → marked log ≡ o → Anchored log (or_zero o)
-    go none e v q h = omega arith
-    go (some c) e v q h =
+    go None e v q h = omega arith
+    go (Some c) e v q h =
         let t = subst (λ (x : ℕ). There (start_at log x)) q (marked_start log c e) in
         let r = t.1 in
         apart (cc)
@@ -132,16 +132,16 @@ pub marked-same : (c : ℕ) (log log' : Log) → SameFrom c log log' → marked 
 unfolding marked
 marked-same c log log' h = go h.marker
   where
-    started : (d : ℕ) {o o' : Option File} → SameFound o o' → ◌≡◌ {A = Option ℕ} (o >>= (λ _. some d)) (o' >>= (λ _. some d))
+    started : (d : ℕ) {o o' : Option File} → SameFound o o' → ◌≡◌ {A = Option ℕ} (o >>= (λ _. Some d)) (o' >>= (λ _. Some d))
     started d neither = refl
     started d (both p) = refl
 
     says : Log → Option ℕ → Option ℕ
-    says l o = o >>= (λ d. start_at l d >>= (λ _. some d))
+    says l o = o >>= (λ d. start_at l d >>= (λ _. Some d))
 
     told : (o : Option ℕ) → says log o ≡ says log' o
-    told none = refl
-    told (some d) = started d (start-same log log' d (h.checkpoints d))
+    told None = refl
+    told (Some d) = started d (start-same log log' d (h.checkpoints d))
 
     go : {o o' : Option File} → SameFound o o'
         → ◌≡◌ {A = Option ℕ} (o >>= (λ m. says log (marker_version m.body))) (o' >>= (λ m. says log' (marker_version m.body)))

@@ -1,7 +1,7 @@
 -- The first line met in version 0, and on the whole way.
 use mathlib.Core.Path.{◌≡◌, refl, sym, ◌∙◌, ap, subst}
 use mathlib.Core.Logic.{◌⊎◌, inl, inr}
-use mathlib.Core.Option.{Option, none, some}
+use Rattle.std.specs.Prelude.{Option, None, Some}
 use mathlib.Core.List.{List, [], ◌∷◌, ◌++◌}
 use Prim.Native.Nat.{ℕ, suc, ◌+◌}
 use native.Mathlib.Omega.{arith}
@@ -24,8 +24,8 @@ use Rattle.demands.proofs.FirstMet.{read_file-met, met-read_file}
 
 -- a line that is refused: malformed, or out of place
 data Refuses (l : Bytes) (s : Said) : Type 0 where
-  by_form : action l ≡ none → Refuses l s
-  by_place : (a : Action) → action l ≡ some a → say a s ≡ none → Refuses l s
+  by_form : action l ≡ None → Refuses l s
+  by_place : (a : Action) → action l ≡ Some a → say a s ≡ None → Refuses l s
 
 record Stop (e k : ℕ) (ls : List Bytes) (s : Said) (r : Refusal) : Type 0 where
   before : List Bytes
@@ -77,17 +77,17 @@ zero_lines-stop e k ((b ∷ bs) ∷ ls) s r h =
           is = ap (malformed e) n ∙ q;
         }
 
-    said-so : (a : Action) → action (b ∷ bs) ≡ some a → (o : Option Said) → say a s ≡ o
+    said-so : (a : Action) → action (b ∷ bs) ≡ Some a → (o : Option Said) → say a s ≡ o
         → (or_refuse (malformed e k) o >>= (λ next. zero_lines e (suc k) ls next)) ≡ refused r
         → ((next : Said) → zero_lines e (suc k) ls next ≡ refused r → Stop e (suc k) ls next r) → Stop e k ((b ∷ bs) ∷ ls) s r
-    said-so a q none p h ih = here (by_place a q p) (cc)
-    said-so a q (some next) p h ih = stop-later e k (b ∷ bs) ls s next r (λ xs. rw (q, p)) (ih next h)
+    said-so a q None p h ih = here (by_place a q p) (cc)
+    said-so a q (Some next) p h ih = stop-later e k (b ∷ bs) ls s next r (λ xs. rw (q, p)) (ih next h)
 
     go : (o : Option Action) → action (b ∷ bs) ≡ o
         → (or_refuse (malformed e k) o >>= (λ a. or_refuse (malformed e k) (say a s) >>= (λ next. zero_lines e (suc k) ls next))) ≡ refused r
         → ((next : Said) → zero_lines e (suc k) ls next ≡ refused r → Stop e (suc k) ls next r) → Stop e k ((b ∷ bs) ∷ ls) s r
-    go none q h ih = here (by_form q) (cc)
-    go (some a) q h ih = said-so a q (say a s) refl h ih
+    go None q h ih = here (by_form q) (cc)
+    go (Some a) q h ih = said-so a q (say a s) refl h ih
 
 zero_lines-past : (e k : ℕ) (before rest : List Bytes) (s to : Said) → zero_lines e k before s ≡ accepted to
     → zero_lines e k (before ++ rest) s ≡ zero_lines e (length before + k) rest to
@@ -106,13 +106,13 @@ zero_lines-past e k ((b ∷ bs) ∷ ls) rest s to h = go (action (b ∷ bs)) h (
         → ((next : Said) → zero_lines e (suc k) ls next ≡ accepted to → zero_lines e (suc k) (ls ++ rest) next ≡ zero_lines e (length ls + suc k) rest to)
         → (or_refuse (malformed e k) o >>= (λ a. or_refuse (malformed e k) (say a s) >>= (λ next. zero_lines e (suc k) (ls ++ rest) next)))
         ≡ zero_lines e (suc (length ls) + k) rest to
-    go none h ih = apart (cc)
-    go (some a) h ih = said-so (say a s) h
+    go None h ih = apart (cc)
+    go (Some a) h ih = said-so (say a s) h
       where
         said-so : (o : Option Said) → (or_refuse (malformed e k) o >>= (λ next. zero_lines e (suc k) ls next)) ≡ accepted to
             → (or_refuse (malformed e k) o >>= (λ next. zero_lines e (suc k) (ls ++ rest) next)) ≡ zero_lines e (suc (length ls) + k) rest to
-        said-so none h = apart (cc)
-        said-so (some next) h =
+        said-so None h = apart (cc)
+        said-so (Some next) h =
             let n : length ls + suc k ≡ suc (length ls) + k = omega arith in
             ih next h ∙ ap (λ (x : ℕ). zero_lines e x rest to) n
 

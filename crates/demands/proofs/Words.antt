@@ -2,7 +2,7 @@
 use mathlib.Core.Path.{◌≡◌, refl, ap, ◌∙◌}
 use mathlib.Core.Logic.{inl, inr}
 use mathlib.Core.Bool.{Bool, true, false, ◌&&◌}
-use mathlib.Core.Option.{Option, none, some}
+use Rattle.std.specs.Prelude.{Option, None, Some}
 use mathlib.Core.List.{List, [], ◌∷◌}
 use Rattle.rules.specs.Bytes.{Bytes, holds, all_among, same_set, firsts}
 use Rattle.rules.specs.Bundle.{File}
@@ -125,9 +125,9 @@ unfolding out_of
 out_of-words c f h = go (value_at c.column f.partition_values) refl h
   where
     go : (o : Option (Option Bytes)) → value_at c.column f.partition_values ≡ o → out_of c o ≡ true → OutOf c f
-    go none e h = apart (cc)
-    go (some none) e h = apart (cc)
-    go (some (some x)) e h = let p = out_of_as-true c.kind x h in (p.0, (x, e, p.1))
+    go None e h = apart (cc)
+    go (Some None) e h = apart (cc)
+    go (Some (Some x)) e h = let p = out_of_as-true c.kind x h in (p.0, (x, e, p.1))
 
 words-out_of : (c : Condition) (f : Facts) → OutOf c f → out_of c (value_at c.column f.partition_values) ≡ true
 unfolding out_of out_of_as is_out_of_range

@@ -1,6 +1,6 @@
 -- The wrong programs that list the due files are told from right ones by one small bundle, by computation.
 use mathlib.Core.Path.{◌≡◌, refl, sym, ◌∙◌, ap}
-use mathlib.Core.Option.{Option, none, some}
+use Rattle.std.specs.Prelude.{Option, None, Some}
 use Prim.Native.Nat.{ℕ, ◌<◌}
 use native.Mathlib.Omega.{arith}
 use lib.ListN.{get_or}
@@ -22,15 +22,15 @@ use Rattle.demands.proofs.WrongPrograms.{count_in, length-sevens}
 room_at_five : Room
 room_at_five = room_after_reading (due rows_room two_waiting the_latest 5) sevens
 
-two-at-5 : count_in (told (due rows_room two_waiting the_latest 5)) ≡ some 2
+two-at-5 : count_in (told (due rows_room two_waiting the_latest 5)) ≡ Some 2
 unfolding rules count_in told two_waiting
 two-at-5 = refl
 
-none-at-4 : count_in (told (due rows_room two_waiting the_latest 4)) ≡ some 0
+none-at-4 : count_in (told (due rows_room two_waiting the_latest 4)) ≡ Some 0
 unfolding rules count_in told two_waiting
 none-at-4 = refl
 
-three-live : count_in (told (reading rows_room two_waiting (ascii "[]") the_latest)) ≡ some 3
+three-live : count_in (told (reading rows_room two_waiting (ascii "[]") the_latest)) ≡ Some 3
 unfolding rules count_in told two_waiting
 three-live = refl
 
@@ -62,7 +62,7 @@ module _ (p : Lister) (k : KeepsPromise p) where
   unfolding count_in
   accepts = go (p.answer sevens two_waiting 5) refl (ap count_in (answers-as 5) ∙ two-at-5)
     where
-      go : (a : Answer Told) → p.answer sevens two_waiting 5 ≡ a → count_in a ≡ some 2
+      go : (a : Answer Told) → p.answer sevens two_waiting 5 ≡ a → count_in a ≡ Some 2
           → (t : Told) × (p.answer sevens two_waiting 5 ≡ accepted t) × (t.count ≡ 2)
       go (accepted t) q h = (t, q, cc)
       go (refused r) q h = apart (cc)
@@ -70,7 +70,7 @@ module _ (p : Lister) (k : KeepsPromise p) where
   not-refusing : RefusesEverything p → ⊥
   unfolding count_in
   not-refusing h =
-      let e : ◌≡◌ {A = Option ℕ} none (some 2) = sym (ap count_in (h sevens two_waiting 5).1) ∙ ap count_in (answers-as 5) ∙ two-at-5 in
+      let e : ◌≡◌ {A = Option ℕ} None (Some 2) = sym (ap count_in (h sevens two_waiting 5).1) ∙ ap count_in (answers-as 5) ∙ two-at-5 in
       apart (cc)
 
   not_none : ListsNone p → ⊥
@@ -81,7 +81,7 @@ module _ (p : Lister) (k : KeepsPromise p) where
 
   not-all : ListsAll p → ⊥
   not-all h =
-      let e : ◌≡◌ {A = Option ℕ} (some 2) (some 3) =
+      let e : ◌≡◌ {A = Option ℕ} (Some 2) (Some 3) =
       sym two-at-5
       ∙ sym (ap count_in (answers-as 5))
       ∙ ap count_in (h sevens two_waiting 5 ∙ ap (λ (n : ℕ). told (reading n two_waiting (ascii "[]") the_latest)) length-sevens)
@@ -90,7 +90,7 @@ module _ (p : Lister) (k : KeepsPromise p) where
 
   not-timeless : HeedsNoTime p → ⊥
   not-timeless h =
-      let e : ◌≡◌ {A = Option ℕ} (some 2) (some 0) =
+      let e : ◌≡◌ {A = Option ℕ} (Some 2) (Some 0) =
       sym two-at-5 ∙ sym (ap count_in (answers-as 5)) ∙ ap count_in (h sevens two_waiting 5 4 ∙ answers-as 4) ∙ none-at-4 in
       apart (cc)
 

@@ -1,6 +1,6 @@
 -- The wrong programs are told from right ones by three small bundles, by computation.
 use mathlib.Core.Path.{◌≡◌, refl, sym, ◌∙◌, ap, subst}
-use mathlib.Core.Option.{Option, none, some}
+use Rattle.std.specs.Prelude.{Option, None, Some}
 use mathlib.Core.List.{List, []}
 use Prim.Native.Nat.{ℕ}
 use native.Mathlib.Omega.{arith}
@@ -21,8 +21,8 @@ use Rattle.demands.specs.WrongPrograms.{NoneKeepsThePromise, removed_and_added, 
 -- ---- what is looked at
 
 unfoldable pub count_in : Answer Told → Option ℕ
-count_in (accepted t) = some t.count
-count_in (refused r) = none
+count_in (accepted t) = Some t.count
+count_in (refused r) = None
 
 -- the third number of a room: the size of the first row's file
 size_in : Room → ℕ
@@ -33,11 +33,11 @@ all = ascii "[]"
 
 -- ---- computed
 
-count-live : count_in (told (reading rows_room removed_and_added all the_latest)) ≡ some 1
+count-live : count_in (told (reading rows_room removed_and_added all the_latest)) ≡ Some 1
 unfolding rules all count_in told removed_and_added
 count-live = refl
 
-count_none : count_in (told (reading rows_room added_and_removed all the_latest)) ≡ some 0
+count_none : count_in (told (reading rows_room added_and_removed all the_latest)) ≡ Some 0
 unfolding rules all count_in told added_and_removed
 count_none = refl
 
@@ -49,11 +49,11 @@ size_none : size_in (room_after_reading (reading rows_room added_and_removed all
 unfolding rules all size_in added_and_removed sevens
 size_none = refl
 
-count-at-1 : count_in (told (reading rows_room removed_later all (the_version 1))) ≡ some 1
+count-at-1 : count_in (told (reading rows_room removed_later all (the_version 1))) ≡ Some 1
 unfolding rules all count_in told removed_later
 count-at-1 = refl
 
-count-at-2 : count_in (told (reading rows_room removed_later all (the_version 2))) ≡ some 0
+count-at-2 : count_in (told (reading rows_room removed_later all (the_version 2))) ≡ Some 0
 unfolding rules all count_in told removed_later
 count-at-2 = refl
 
@@ -66,14 +66,14 @@ unfolding rules all size_in removed_later sevens
 size-at-2 = refl
 
 files_of : Option (List File) → List File
-files_of none = []
-files_of (some fs) = fs
+files_of None = []
+files_of (Some fs) = fs
 
 later-no-checkpoint : NoCheckpoint removed_later
 unfolding rules removed_later files_of
-later-no-checkpoint fs e c = subst (λ (x : List File). start_at (log_of x) c ≡ none) (ap files_of e) computed
+later-no-checkpoint fs e c = subst (λ (x : List File). start_at (log_of x) c ≡ None) (ap files_of e) computed
   where
-    computed : start_at (log_of (files_of (bundle removed_later))) c ≡ none
+    computed : start_at (log_of (files_of (bundle removed_later))) c ≡ None
     computed = refl
 
 size-sevens : size_in sevens ≡ 7
@@ -100,19 +100,19 @@ module _ (p : Reader) (k : KeepsPromise p) where
   unfolding count_in
   not-refusing h =
       let r = h sevens removed_and_added all the_latest in
-      let e : ◌≡◌ {A = Option ℕ} none (some 1) = sym (ap count_in r.1) ∙ ap count_in (answers-as p k removed_and_added the_latest) ∙ count-live in
+      let e : ◌≡◌ {A = Option ℕ} None (Some 1) = sym (ap count_in r.1) ∙ ap count_in (answers-as p k removed_and_added the_latest) ∙ count-live in
       apart (cc)
 
-  accepts : (s : Bytes) (asked : Asked) (n : ℕ) → count_in (told (reading rows_room s all asked)) ≡ some n
+  accepts : (s : Bytes) (asked : Asked) (n : ℕ) → count_in (told (reading rows_room s all asked)) ≡ Some n
       → (t : Told) × (p.answer sevens s all asked ≡ accepted t) × (t.count ≡ n)
   unfolding count_in
   accepts s asked n e = go (p.answer sevens s all asked) refl (ap count_in (answers-as p k s asked) ∙ e)
     where
-      go : (a : Answer Told) → p.answer sevens s all asked ≡ a → count_in a ≡ some n → (t : Told) × (p.answer sevens s all asked ≡ accepted t) × (t.count ≡ n)
+      go : (a : Answer Told) → p.answer sevens s all asked ≡ a → count_in a ≡ Some n → (t : Told) × (p.answer sevens s all asked ≡ accepted t) × (t.count ≡ n)
       go (accepted t) q h = (t, q, cc)
       go (refused r) q h = apart (cc)
 
-  is-accepted : (s : Bytes) (asked : Asked) (n : ℕ) → count_in (told (reading rows_room s all asked)) ≡ some n → Accepts p sevens s all asked
+  is-accepted : (s : Bytes) (asked : Asked) (n : ℕ) → count_in (told (reading rows_room s all asked)) ≡ Some n → Accepts p sevens s all asked
   is-accepted s asked n e = let a = accepts s asked n e in (a.0, a.1)
 
   not-same-table : SameTableForAll p → ⊥
@@ -146,7 +146,7 @@ module _ (p : Reader) (k : KeepsPromise p) where
   unfolding count_in told
   not-invented i =
       let e : accepted i.t ≡ told (reading (length i.room) i.s i.q i.asked) = sym i.says ∙ k.answers i.room i.s i.q i.asked in
-      let c : some i.t.count ≡ some (length i.l.rows) = ap count_in (e ∙ ap told i.picks) in
+      let c : Some i.t.count ≡ Some (length i.l.rows) = ap count_in (e ∙ ap told i.picks) in
       i.invents (some_same c)
 
   not-same-count : SameCountForAll p → ⊥

@@ -1,6 +1,6 @@
 -- Demand 2: the files a query picks, the manifests it keeps and the verdict of a protocol are exactly those of the written rules.
 use Rattle.std.specs.Prelude.{◌≡◌, ◌⊎◌, ◌↔◌, true, false, List, [], ◌∷◌, ℕ, suc, ℤ}
-use Rattle.std.proofs.Math.Option.{Option, none, some}
+use Rattle.std.specs.Prelude.{Option, None, Some}
 use Rattle.facts.specs.Lists.{All}
 use Rattle.rules.specs.Bytes.{Bytes, Order, same, order, is_more}
 use Rattle.rules.specs.Actions.{Facts, Protocol}
@@ -19,7 +19,7 @@ MeetsAs as_text op x b = meets op (order x b) ≡ true
 MeetsAs as_number op x b = (m n : ℤ) × (number_of x ≡ number m) × (number_of b ≡ number n) × (meets op (order_of_numbers m n) ≡ true)
 
 abbrev pub Meets : Condition → Facts → Type 0
-Meets c f = (x : Bytes) × (value_at c.column f.partition_values ≡ some (some x)) × MeetsAs c.kind c.op x c.bound
+Meets c f = (x : Bytes) × (value_at c.column f.partition_values ≡ Some (Some x)) × MeetsAs c.kind c.op x c.bound
 
 abbrev pub MeetsEvery : List Condition → Facts → Type 0
 MeetsEvery cs f = All (λ (c : Condition). Meets c f) cs
@@ -46,16 +46,16 @@ ExcludesAs as_number op b lo hi =
 
 -- the bounds of a column
 unfoldable pub bounds_at : Bytes → List (Bytes × Bounds) → Option Bounds
-bounds_at column [] = none
-bounds_at column (b ∷ bs) = elim (same column b.0) [ true ↦ some b.1 | false ↦ bounds_at column bs ]
+bounds_at column [] = None
+bounds_at column (b ∷ bs) = elim (same column b.0) [ true ↦ Some b.1 | false ↦ bounds_at column bs ]
 
 pub record Drops (c : Condition) (m : Manifest) : Type 0 where
   pub bounds : Bounds
   pub min : Bytes
   pub max : Bytes
-  pub bounds-there : bounds_at c.column m.bounds ≡ some bounds
-  pub min-there : bounds.min ≡ some min
-  pub max-there : bounds.max ≡ some max
+  pub bounds-there : bounds_at c.column m.bounds ≡ Some bounds
+  pub min-there : bounds.min ≡ Some min
+  pub max-there : bounds.max ≡ Some max
   pub excludes : ExcludesAs c.kind c.op c.bound min max
 
 abbrev pub Dropped : List Condition → Manifest → Type 0

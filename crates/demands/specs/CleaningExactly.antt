@@ -1,6 +1,6 @@
 -- Demand 2 of the cleaner: each refusal is given when its rule says so, and only then; and which files are named.
 use Rattle.std.specs.Prelude.{◌≡◌, ◌⊎◌, ◌↔◌, List, [], ◌∷◌, ℕ, ◌-◌, ◌≤◌, ◌<◌}
-use Rattle.std.proofs.Math.Option.{none, some}
+use Rattle.std.specs.Prelude.{None, Some}
 use Rattle.rules.specs.Bytes.{Bytes}
 use Rattle.rules.specs.Bundle.{File, bundle}
 use Rattle.rules.specs.Names.{version, name_of}
@@ -34,7 +34,7 @@ NoOther log c = (s : ℕ) → IsOther log c s → Reaches log s c → ⊥
 
 -- no usable marker names nothing; nor does one whose checkpoint no other start reaches
 abbrev pub NothingToName : Log → Type 0
-NothingToName log = (marked log ≡ none) ⊎ ((c : ℕ) × (marked log ≡ some c) × NoOther log c)
+NothingToName log = (marked log ≡ None) ⊎ ((c : ℕ) × (marked log ≡ Some c) × NoOther log c)
 
 -- ---- cleaning, as far as it has come
 
@@ -43,9 +43,9 @@ pub record Begun (lent : Lent) (s : Bytes) : Type 0 where
   pub fs : List File
   pub zero : File
   pub long : Enough lent
-  pub bundle-read : bundle s ≡ some fs
+  pub bundle-read : bundle s ≡ Some fs
   pub none-large : SomeTooLarge fs → ⊥
-  pub zero-there : (log_of fs).version_file 0 ≡ some zero
+  pub zero-there : (log_of fs).version_file 0 ≡ Some zero
 
 -- the marker is usable, its checkpoint is at c, and the highest other start's way leads to c
 pub record Comparing (lent : Lent) (s : Bytes) : Type 0 where
@@ -53,9 +53,9 @@ pub record Comparing (lent : Lent) (s : Bytes) : Type 0 where
   pub c : ℕ
   pub checkpoint : File
   pub way : Way
-  pub marked-there : marked (log_of begun.fs) ≡ some c
-  pub checkpoint-there : start_at (log_of begun.fs) c ≡ some checkpoint
-  pub way-there : other_way_to (log_of begun.fs) c ≡ some way
+  pub marked-there : marked (log_of begun.fs) ≡ Some c
+  pub checkpoint-there : start_at (log_of begun.fs) c ≡ Some checkpoint
+  pub way-there : other_way_to (log_of begun.fs) c ≡ Some way
 
 -- the first line met that is refused: version 0, then the checkpoint, then the other way is read
 pub data MetComparing (zero-file checkpoint : File) (w : Way) : Refusal → Type 0 where
@@ -79,10 +79,10 @@ pub record Compared (lent : Lent) (s : Bytes) : Type 0 where
 
 pub record CleaningExactly (lent : Lent) (s : Bytes) (now retention : ℕ) : Type 0 where
   pub no-1 : (cleaning lent s now retention ≡ refused room_too_short) ↔ (Enough lent → ⊥)
-  pub no-2 : (cleaning lent s now retention ≡ refused bundle_malformed) ↔ (Enough lent × (bundle s ≡ none))
-  pub no-3 : (cleaning lent s now retention ≡ refused version_too_large) ↔ (Enough lent × ((fs : List File) × (bundle s ≡ some fs) × SomeTooLarge fs))
+  pub no-2 : (cleaning lent s now retention ≡ refused bundle_malformed) ↔ (Enough lent × (bundle s ≡ None))
+  pub no-3 : (cleaning lent s now retention ≡ refused version_too_large) ↔ (Enough lent × ((fs : List File) × (bundle s ≡ Some fs) × SomeTooLarge fs))
   pub no-4 : (cleaning lent s now retention ≡ refused no_version_zero)
-      ↔ (Enough lent × ((fs : List File) × (bundle s ≡ some fs) × (SomeTooLarge fs → ⊥) × ((log_of fs).version_file 0 ≡ none)))
+      ↔ (Enough lent × ((fs : List File) × (bundle s ≡ Some fs) × (SomeTooLarge fs → ⊥) × ((log_of fs).version_file 0 ≡ None)))
   pub no-6 : (e l : ℕ) → (cleaning lent s now retention ≡ refused (malformed e l))
       ↔ ((c : Comparing lent s) × MetComparing c.begun.zero c.checkpoint c.way (malformed e l))
   pub no-21 : (e l : ℕ) → (cleaning lent s now retention ≡ refused (foreign_keys e l))

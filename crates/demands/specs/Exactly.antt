@@ -1,6 +1,6 @@
 -- Demand 2 of reading and of keeping manifests: each refusal is given when its rule says so, and only then.
 use Rattle.std.specs.Prelude.{◌≡◌, ◌⊎◌, ◌↔◌, List, [], ◌∷◌, map, ℕ, ◌≤◌, ◌<◌, length}
-use Rattle.std.proofs.Math.Option.{none, some}
+use Rattle.std.specs.Prelude.{None, Some}
 use Rattle.rules.specs.Bytes.{Bytes}
 use Rattle.rules.specs.Bundle.{File, bundle}
 use Rattle.rules.specs.Names.{too_large, name_of}
@@ -34,7 +34,7 @@ Readable p = (p.min_reader_version ≤ known_reader) × (Unknown reader_names p.
 
 -- under a condition that reads numbers, the file's value has the shape of a number and is beyond the ends of the range
 abbrev pub OutOf : Condition → Facts → Type 0
-OutOf c f = (c.kind ≡ as_number) × ((x : Bytes) × (value_at c.column f.partition_values ≡ some (some x)) × (number_of x ≡ out_of_range))
+OutOf c f = (c.kind ≡ as_number) × ((x : Bytes) × (value_at c.column f.partition_values ≡ Some (Some x)) × (number_of x ≡ out_of_range))
 
 abbrev pub AnyOutOf : List Condition → Facts → Type 0
 AnyOutOf [] f = ⊥
@@ -52,8 +52,8 @@ pub record Opened (room : ℕ) (s q : Bytes) : Type 0 where
   pub cs : List Condition
   pub fs : List File
   pub long : rows_room ≤ room
-  pub query-read : query q ≡ some cs
-  pub bundle-read : bundle s ≡ some fs
+  pub query-read : query q ≡ Some cs
+  pub bundle-read : bundle s ≡ Some fs
   pub none-large : SomeTooLarge fs → ⊥
 
 module _ {room : ℕ} {s q : Bytes} (asked : Asked) (o : Opened room s q) where
@@ -68,8 +68,8 @@ pub record Reached (room : ℕ) (s q : Bytes) (asked : Asked) : Type 0 where
   pub opened : Opened room s q
   pub zero : File
   pub way : Way
-  pub zero-there : (log_in asked opened).version_file 0 ≡ some zero
-  pub way-there : way_to (log_in asked opened) (version_in asked opened) ≡ some way
+  pub zero-there : (log_in asked opened).version_file 0 ≡ Some zero
+  pub way-there : way_to (log_in asked opened) (version_in asked opened) ≡ Some way
 
 -- no line met is refused: there is a state
 pub record Read (room : ℕ) (s q : Bytes) (asked : Asked) : Type 0 where
@@ -94,11 +94,11 @@ module _ {room : ℕ} {s q : Bytes} {asked : Asked} (r : Read room s q asked) wh
 
 pub record ReadingExactly (room : ℕ) (s q : Bytes) (asked : Asked) : Type 0 where
   pub no-1 : (reading room s q asked ≡ refused room_too_short) ↔ (room < rows_room)
-  pub no-10 : (reading room s q asked ≡ refused query_malformed) ↔ ((rows_room ≤ room) × (query q ≡ none))
-  pub no-2 : (reading room s q asked ≡ refused bundle_malformed) ↔ ((rows_room ≤ room) × There (query q) × (bundle s ≡ none))
+  pub no-10 : (reading room s q asked ≡ refused query_malformed) ↔ ((rows_room ≤ room) × (query q ≡ None))
+  pub no-2 : (reading room s q asked ≡ refused bundle_malformed) ↔ ((rows_room ≤ room) × There (query q) × (bundle s ≡ None))
   pub no-3 : (reading room s q asked ≡ refused version_too_large)
-      ↔ ((rows_room ≤ room) × There (query q) × ((fs : List File) × (bundle s ≡ some fs) × SomeTooLarge fs))
-  pub no-4 : (reading room s q asked ≡ refused no_version_zero) ↔ ((o : Opened room s q) × ((log_in asked o).version_file 0 ≡ none))
+      ↔ ((rows_room ≤ room) × There (query q) × ((fs : List File) × (bundle s ≡ Some fs) × SomeTooLarge fs))
+  pub no-4 : (reading room s q asked ≡ refused no_version_zero) ↔ ((o : Opened room s q) × ((log_in asked o).version_file 0 ≡ None))
   pub no-5 : (reading room s q asked ≡ refused not_kept)
       ↔ ((o : Opened room s q) × There ((log_in asked o).version_file 0) × NoStart (log_in asked o) (version_in asked o))
   pub no-6 : (e l : ℕ) → (reading room s q asked ≡ refused (malformed e l)) ↔ ((r : Reached room s q asked) × Met r.zero r.way (malformed e l))
@@ -123,14 +123,14 @@ ReadingRefusesExactly = (room : ℕ) (s q : Bytes) (asked : Asked) → ReadingEx
 
 pub record KeepingExactly (room : ℕ) (state q : Bytes) : Type 0 where
   pub no-1 : (keeping room state q ≡ refused room_too_short) ↔ (room < kept_room)
-  pub no-10 : (keeping room state q ≡ refused query_malformed) ↔ ((kept_room ≤ room) × (query q ≡ none))
-  pub no-14 : (keeping room state q ≡ refused state_malformed) ↔ ((kept_room ≤ room) × There (query q) × (manifests state ≡ none))
+  pub no-10 : (keeping room state q ≡ refused query_malformed) ↔ ((kept_room ≤ room) × (query q ≡ None))
+  pub no-14 : (keeping room state q ≡ refused state_malformed) ↔ ((kept_room ≤ room) × There (query q) × (manifests state ≡ None))
   pub no-15 : (keeping room state q ≡ refused too_many_manifests)
-      ↔ ((kept_room ≤ room) × There (query q) × ((ms : List Manifest) × (manifests state ≡ some ms) × (most_manifests < length ms)))
+      ↔ ((kept_room ≤ room) × There (query q) × ((ms : List Manifest) × (manifests state ≡ Some ms) × (most_manifests < length ms)))
   pub no-0 : (ks : List ℕ) → (keeping room state q ≡ accepted ks)
       ↔ ((kept_room ≤ room)
-      × ((cs : List Condition) × (query q ≡ some cs)
-      × ((ms : List Manifest) × (manifests state ≡ some ms) × (length ms ≤ most_manifests) × (kept_from 0 cs ms ≡ ks))))
+      × ((cs : List Condition) × (query q ≡ Some cs)
+      × ((ms : List Manifest) × (manifests state ≡ Some ms) × (length ms ≤ most_manifests) × (kept_from 0 cs ms ≡ ks))))
 
 abbrev pub KeepingRefusesExactly : Type 0
 KeepingRefusesExactly = (room : ℕ) (state q : Bytes) → KeepingExactly room state q

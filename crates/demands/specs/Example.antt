@@ -1,7 +1,7 @@
 -- A log as demand 3 takes it, so that the premise is seen to be met: versions 0 to 2, and at 1 a checkpoint that writes the same facts
 -- in other words. And what is left of its answers when files go.
 use Rattle.std.specs.Prelude.{◌≡◌, List, [], ◌∷◌}
-use Rattle.std.proofs.Math.Option.{some}
+use Rattle.std.specs.Prelude.{Some}
 use Rattle.rules.specs.Bytes.{Bytes, ascii}
 use Rattle.rules.specs.Bundle.{File, bundle}
 use Rattle.rules.specs.Reading.{the_version}
@@ -44,7 +44,7 @@ unfoldable pub whole : Bytes
 whole = bundle_of (zero ∷ checkpoint_at_one ∷ one ∷ two ∷ [])
 
 abbrev pub ExampleIsFull : Type 0
-ExampleIsFull = (fs : List File) × (bundle whole ≡ some fs) × FullHistory fs 2
+ExampleIsFull = (fs : List File) × (bundle whole ≡ Some fs) × FullHistory fs 2
 
 -- whole, and what is due of it; without version file 1, whose part the checkpoint takes; without the checkpoint; without both: not kept.
 -- A checkpoint that is not true is believed, so that the premise cannot go

@@ -1,7 +1,7 @@
 -- Demand 3, first sentences: from such a log remove any files except version 0; a version from 0 to n asked for by number, with a
 -- well-formed query and long enough room, gets the answer that the full history gives, or "not kept", and that exactly when no start is left that reaches it.
 use Rattle.std.specs.Prelude.{◌≡◌, ◌⊎◌, ◌↔◌, List, ℕ, ◌≤◌}
-use Rattle.std.proofs.Math.Option.{some}
+use Rattle.std.specs.Prelude.{Some}
 use Rattle.rules.specs.Bytes.{Bytes}
 use Rattle.rules.specs.Bundle.{File, bundle}
 use Rattle.rules.specs.Query.{Condition, query}
@@ -22,14 +22,14 @@ pub record KeptOrNot (left : Log) (v : ℕ) (full answer : Answer Listing) : Typ
 abbrev pub FirstSentence : Type 0
 FirstSentence =
     (s t q : Bytes) (fs gs : List File) (cs : List Condition) (n v room : ℕ)
-    → bundle s ≡ some fs → FullHistory fs n
-    → bundle t ≡ some gs → Without NotVersionZero fs gs
-    → v ≤ n → query q ≡ some cs → rows_room ≤ room
+    → bundle s ≡ Some fs → FullHistory fs n
+    → bundle t ≡ Some gs → Without NotVersionZero fs gs
+    → v ≤ n → query q ≡ Some cs → rows_room ≤ room
     → KeptOrNot (log_of gs) v (history_listing cs (log_of fs) v) (reading room t q (the_version v))
 
 -- nothing removed: the highest start, be it a checkpoint, gives what the beginning gives
 abbrev pub FullLogIsHistory : Type 0
 FullLogIsHistory =
     (s q : Bytes) (fs : List File) (cs : List Condition) (n v room : ℕ)
-    → bundle s ≡ some fs → FullHistory fs n → v ≤ n → query q ≡ some cs → rows_room ≤ room
+    → bundle s ≡ Some fs → FullHistory fs n → v ≤ n → query q ≡ Some cs → rows_room ≤ room
     → SameAnswer SameListing (history_listing cs (log_of fs) v) (reading room s q (the_version v))

@@ -1,7 +1,7 @@
 -- Demand 3, last sentence: for any log, if only files the cleaner named are removed, all or some, the versions from its checkpoint
 -- upward and the latest one keep their answers. So a cleaner may stop halfway, and begin again, as often as it likes.
 use Rattle.std.specs.Prelude.{◌≡◌, List, ℕ, ◌≤◌}
-use Rattle.std.proofs.Math.Option.{some}
+use Rattle.std.specs.Prelude.{Some}
 use Rattle.rules.specs.Bytes.{Bytes}
 use Rattle.rules.specs.Bundle.{File, bundle}
 use Rattle.rules.specs.Starts.{log_of}
@@ -29,9 +29,9 @@ pub record Run (s t : Bytes) (fs gs : List File) : Type 0 where
   pub now : ℕ
   pub retention : ℕ
   pub es : List ℕ
-  pub before : bundle s ≡ some fs
+  pub before : bundle s ≡ Some fs
   pub names : cleaning lent s now retention ≡ accepted es
-  pub after : bundle t ≡ some gs
+  pub after : bundle t ≡ Some gs
   pub removed : Without (Named es) fs gs
 
 abbrev pub LastSentence : Type 0
@@ -43,4 +43,4 @@ pub data Cleaned : (s t : Bytes) → Type 0 where
   once_more : {s t u : Bytes} {fs gs : List File} → Run s t fs gs → Cleaned t u → Cleaned s u
 
 abbrev pub StoppedHalfway : Type 0
-StoppedHalfway = (s t : Bytes) (fs : List File) → bundle s ≡ some fs → Cleaned s t → KeepsAnswers (checkpoint_of fs) s t
+StoppedHalfway = (s t : Bytes) (fs : List File) → bundle s ≡ Some fs → Cleaned s t → KeepsAnswers (checkpoint_of fs) s t

@@ -1,6 +1,6 @@
 -- Refusals 6, 21 and 7: the first line met that is refused, on the way that is read, version 0 first.
 use Rattle.std.specs.Prelude.{◌≡◌, true, false, List, [], ◌∷◌, ◌++◌, suc, ◌<◌, length}
-use Rattle.std.proofs.Math.Option.{none, some}
+use Rattle.std.specs.Prelude.{None, Some}
 use Rattle.rules.specs.Bytes.{Bytes, holds, firsts}
 use Rattle.rules.specs.Bundle.{File}
 use Rattle.rules.specs.Lines.{lines, any_object}
@@ -36,10 +36,10 @@ pub record Line (of : Origin) (f : File) (st : State) : Type 0 where
 -- malformed; or foreign to the columns in force at it; or not, and more than 1,024 live after it. A file with no object is malformed, which is
 -- met at its end. Lines are numbered from 1
 pub data MetIn (of : Origin) (f : File) (st : State) : Refusal → Type 0 where
-  malformed-line : (l : Line of f st) → action l.line ≡ none → MetIn of f st (malformed f.entry (suc (length l.before)))
-  foreign : (l : Line of f st) (a : Action) → action l.line ≡ some a → Foreign of a l.come-to.table
+  malformed-line : (l : Line of f st) → action l.line ≡ None → MetIn of f st (malformed f.entry (suc (length l.before)))
+  foreign : (l : Line of f st) (a : Action) → action l.line ≡ Some a → Foreign of a l.come-to.table
       → MetIn of f st (foreign_keys f.entry (suc (length l.before)))
-  too_many : (l : Line of f st) (a : Action) → action l.line ≡ some a → (Foreign of a l.come-to.table → ⊥)
+  too_many : (l : Line of f st) (a : Action) → action l.line ≡ Some a → (Foreign of a l.come-to.table → ⊥)
       → most_live < length (effect 0 0 a l.come-to).live
       → MetIn of f st (too_many_live f.entry (suc (length l.before)))
   no-object : any_object (lines f.body) ≡ false → MetIn of f st (malformed f.entry 0)
@@ -57,10 +57,10 @@ pub record ZeroLine (f : File) : Type 0 where
 
 -- an add, remove or mergeskip, a second metaData, a second protocol: out of place. A missing metaData is met at the file's end
 pub data MetInZero (f : File) : Refusal → Type 0 where
-  malformed-line : (l : ZeroLine f) → action l.line ≡ none → MetInZero f (malformed f.entry (suc (length l.before)))
-  out-of-place : (l : ZeroLine f) (a : Action) → action l.line ≡ some a → say a l.said ≡ none
+  malformed-line : (l : ZeroLine f) → action l.line ≡ None → MetInZero f (malformed f.entry (suc (length l.before)))
+  out-of-place : (l : ZeroLine f) (a : Action) → action l.line ≡ Some a → say a l.said ≡ None
       → MetInZero f (malformed f.entry (suc (length l.before)))
-  no-meta_data : (s : Said) → zero_lines f.entry 1 (lines f.body) said_nothing ≡ accepted s → s.of_table ≡ none → MetInZero f (malformed f.entry 0)
+  no-meta_data : (s : Said) → zero_lines f.entry 1 (lines f.body) said_nothing ≡ accepted s → s.of_table ≡ None → MetInZero f (malformed f.entry 0)
 
 -- ---- the way
 

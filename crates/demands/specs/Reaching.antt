@@ -1,6 +1,6 @@
 -- Starts, and what they reach, as the paper says it; beside them the way that the rules take.
 use Rattle.std.specs.Prelude.{◌≡◌, ◌⊎◌, ◌↔◌, true, List, ◌∷◌, ◌++◌, ℕ, suc, ◌≤◌, ◌<◌}
-use Rattle.std.proofs.Math.Option.{Option, none, some}
+use Rattle.std.specs.Prelude.{Option, None, Some}
 use Rattle.rules.specs.Bytes.{Bytes}
 use Rattle.rules.specs.Bundle.{File}
 use Rattle.rules.specs.Lines.{lines}
@@ -9,7 +9,7 @@ use Rattle.rules.specs.Starts.{Log, log_of, well_formed, start_at, Way, from_zer
 use Rattle.rules.specs.Marker.{marked, or_zero, latest}
 
 abbrev pub There : {A : Type 0} → Option A → Type 0
-There {A} o = (x : A) × (o ≡ some x)
+There {A} o = (x : A) × (o ≡ Some x)
 
 -- a line of the body that says the metadata
 pub record TableLine (body : Bytes) : Type 0 where
@@ -18,12 +18,12 @@ pub record TableLine (body : Bytes) : Type 0 where
   pub behind : List Bytes
   pub split : lines body ≡ before ++ line ∷ behind
   pub table : MetaData
-  pub said : action line ≡ some (meta_data table)
+  pub said : action line ≡ Some (meta_data table)
 
 -- a checkpoint is a start exactly when it has an object, every line is well formed, and a metaData is among them
 abbrev pub StartsExactly : Type 0
 StartsExactly = (log : Log) (s : ℕ) (f : File)
-    → (start_at log s ≡ some f) ↔ ((log.checkpoint_file s ≡ some f) × ((well_formed f.body ≡ true) × TableLine f.body))
+    → (start_at log s ≡ Some f) ↔ ((log.checkpoint_file s ≡ Some f) × ((well_formed f.body ≡ true) × TableLine f.body))
 
 -- a start is version file 0, or a checkpoint that is one
 abbrev pub IsStart : Log → ℕ → Type 0
@@ -46,9 +46,9 @@ NoStart log v = (s : ℕ) → IsStart log s → Reaches log s v → ⊥
 
 -- w begins at s, with version file 0 only where no checkpoint is a start there, and reads the version files s + 1 to v in order
 pub data From (log : Log) : (s v : ℕ) → Way → Type 0 where
-  at-checkpoint : {s : ℕ} {f : File} → start_at log s ≡ some f → From log s s (from_checkpoint f)
-  at_zero : start_at log 0 ≡ none → From log 0 0 from_zero
-  and-then : {s v : ℕ} {w : Way} {g : File} → From log s v w → log.version_file (suc v) ≡ some g → From log s (suc v) (and_then w g)
+  at-checkpoint : {s : ℕ} {f : File} → start_at log s ≡ Some f → From log s s (from_checkpoint f)
+  at_zero : start_at log 0 ≡ None → From log 0 0 from_zero
+  and-then : {s v : ℕ} {w : Way} {g : File} → From log s v w → log.version_file (suc v) ≡ Some g → From log s (suc v) (and_then w g)
 
 pub record Highest (log : Log) (v : ℕ) (w : Way) : Type 0 where
   pub s : ℕ
@@ -56,7 +56,7 @@ pub record Highest (log : Log) (v : ℕ) (w : Way) : Type 0 where
   pub highest : (t : ℕ) → IsStart log t → Reaches log t v → t ≤ s
 
 abbrev pub ReadFromTheHighest : Type 0
-ReadFromTheHighest = (log : Log) (v : ℕ) (w : Way) → (way_to log v ≡ some w) ↔ Highest log v w
+ReadFromTheHighest = (log : Log) (v : ℕ) (w : Way) → (way_to log v ≡ Some w) ↔ Highest log v w
 
 -- ---- a marked checkpoint is compared with the highest other start that reaches it
 
@@ -67,9 +67,9 @@ IsOther log c s = ((s ≡ 0) × There (log.version_file 0)) ⊎ (There (start_at
 -- w begins at s, a start other than the checkpoint at c, and reads the version files s + 1 to v in order;
 -- on equal s the checkpoint goes first: with version file 0 only where no checkpoint is a start there, or c is 0
 pub data FromOther (log : Log) (c : ℕ) : (s v : ℕ) → Way → Type 0 where
-  other-checkpoint : {s : ℕ} {f : File} → start_at log s ≡ some f → (s ≡ c → ⊥) → FromOther log c s s (from_checkpoint f)
-  version-zero : (start_at log 0 ≡ none) ⊎ (c ≡ 0) → FromOther log c 0 0 from_zero
-  and-after : {s v : ℕ} {w : Way} {g : File} → FromOther log c s v w → log.version_file (suc v) ≡ some g → FromOther log c s (suc v) (and_then w g)
+  other-checkpoint : {s : ℕ} {f : File} → start_at log s ≡ Some f → (s ≡ c → ⊥) → FromOther log c s s (from_checkpoint f)
+  version-zero : (start_at log 0 ≡ None) ⊎ (c ≡ 0) → FromOther log c 0 0 from_zero
+  and-after : {s v : ℕ} {w : Way} {g : File} → FromOther log c s v w → log.version_file (suc v) ≡ Some g → FromOther log c s (suc v) (and_then w g)
 
 pub record HighestOther (log : Log) (c : ℕ) (w : Way) : Type 0 where
   pub s : ℕ
@@ -77,14 +77,14 @@ pub record HighestOther (log : Log) (c : ℕ) (w : Way) : Type 0 where
   pub highest : (t : ℕ) → IsOther log c t → Reaches log t c → t ≤ s
 
 abbrev pub OtherFromTheHighest : Type 0
-OtherFromTheHighest = (log : Log) (c : ℕ) (w : Way) → (other_way_to log c ≡ some w) ↔ HighestOther log c w
+OtherFromTheHighest = (log : Log) (c : ℕ) (w : Way) → (other_way_to log c ≡ Some w) ↔ HighestOther log c w
 
 -- ---- the latest version is the highest one reached from the marker's checkpoint, or from version 0: reading stops at a gap
 
 pub record StopsAtAGap (log : Log) (from r : ℕ) : Type 0 where
   pub reached : Reaches log from r
   pub highest : (v : ℕ) → Reaches log from v → v ≤ r
-  pub gap : log.version_file (suc r) ≡ none
+  pub gap : log.version_file (suc r) ≡ None
 
 abbrev pub LatestStopsAtAGap : Type 0
 LatestStopsAtAGap = (fs : List File) → StopsAtAGap (log_of fs) (or_zero (marked (log_of fs))) (latest (log_of fs))

@@ -1,6 +1,6 @@
 -- Files removed from a log: those left have the same name, time and body. Their entry numbers and places are free.
 use Rattle.std.specs.Prelude.{◌≡◌, ◌⊎◌, false, List, [], ◌∷◌, ℕ, ◌<◌}
-use Rattle.std.proofs.Math.Option.{some}
+use Rattle.std.specs.Prelude.{Some}
 use Rattle.facts.specs.Lists.{All}
 use Rattle.rules.specs.Bytes.{Bytes}
 use Rattle.rules.specs.Bundle.{File, bundle}
@@ -31,7 +31,7 @@ pub record LeftOf (MayGo : File → Type 0) (fs gs : List File) : Type 0 where
 -- names ascend in both bundles, so that it is the same
 abbrev pub RemovalKeepsOrder : Type 1
 RemovalKeepsOrder =
-    (MayGo : File → Type 0) (s t : Bytes) (fs gs : List File) → bundle s ≡ some fs → bundle t ≡ some gs → LeftOf MayGo fs gs → Without MayGo fs gs
+    (MayGo : File → Type 0) (s t : Bytes) (fs gs : List File) → bundle s ≡ Some fs → bundle t ≡ Some gs → LeftOf MayGo fs gs → Without MayGo fs gs
 
 -- ---- any choice of files that is left has a bundle
 
@@ -40,8 +40,8 @@ AreBytes s = All (λ (b : ℕ). b < 256) s
 
 -- its files are those that are left, but for their entry numbers and places: none of them may go
 abbrev pub RemovalKeepsABundle : Type 1
-RemovalKeepsABundle = (MayGo : File → Type 0) (s : Bytes) (fs gs : List File) → AreBytes s → bundle s ≡ some fs → Without MayGo fs gs
-    → (t : Bytes) × (hs : List File) × AreBytes t × (bundle t ≡ some hs) × Without (λ f. ⊥) gs hs
+RemovalKeepsABundle = (MayGo : File → Type 0) (s : Bytes) (fs gs : List File) → AreBytes s → bundle s ≡ Some fs → Without MayGo fs gs
+    → (t : Bytes) × (hs : List File) × AreBytes t × (bundle t ≡ Some hs) × Without (λ f. ⊥) gs hs
 
 -- ---- which may go
 

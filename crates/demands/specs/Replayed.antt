@@ -1,7 +1,7 @@
 -- Demand 2: the live files, their places, the metadata and the protocol in force are exactly those that the lines on the way say, one after the
 -- other.
 use Rattle.std.specs.Prelude.{◌≡◌, true, false, List, [], ◌∷◌, ◌++◌, ℕ, ◌+◌, ◌≤◌, length}
-use Rattle.std.proofs.Math.Option.{Option, none, some}
+use Rattle.std.specs.Prelude.{Option, None, Some}
 use Rattle.facts.specs.Lists.{All}
 use Rattle.rules.specs.Bytes.{Bytes, less, order, same}
 use Rattle.rules.specs.Bundle.{File}
@@ -28,8 +28,8 @@ lines_from at ([] ∷ ls) = lines_from (at + 1) ls
 lines_from at ((b ∷ bs) ∷ ls) =
     elim
     (action (b ∷ bs)) [
-      | none ↦ lines_from (at + length (b ∷ bs) + 1) ls
-      | some a ↦ record { at = at; size = length (b ∷ bs); does = a } ∷ lines_from (at + length (b ∷ bs) + 1) ls
+      | None ↦ lines_from (at + length (b ∷ bs) + 1) ls
+      | Some a ↦ record { at = at; size = length (b ∷ bs); does = a } ∷ lines_from (at + length (b ∷ bs) + 1) ls
     ]
 
 abbrev pub lines_in : File → List Line
@@ -48,16 +48,16 @@ actions (l ∷ ls) = l.does ∷ actions ls
 
 -- the same file, of which a mergeskip line says this
 unfoldable pub with_skip : Skip → Option Row → Option Row
-with_skip k none = none
-with_skip k (some r) = some (record { at = r.at; size = r.size; facts = r.facts; skip = k })
+with_skip k None = None
+with_skip k (Some r) = Some (record { at = r.at; size = r.size; facts = r.facts; skip = k })
 
 -- what the action of a line at `at`, of `size` bytes, does to it
 module _ (at size : ℕ) where
   -- an add puts its path into the live set or replaces the entry there, with its line's place and length, and clears skip count and retry time;
   -- a remove takes its path out, if there; a mergeskip sets both, if its path is there
   unfoldable pub after : Bytes → Action → Option Row → Option Row
-  after p (add f) was = elim (same p f.path) [ true ↦ some (record { at = at; size = size; facts = f; skip = no_skip }) | false ↦ was ]
-  after p (remove q) was = elim (same p q) [ true ↦ none | false ↦ was ]
+  after p (add f) was = elim (same p f.path) [ true ↦ Some (record { at = at; size = size; facts = f; skip = no_skip }) | false ↦ was ]
+  after p (remove q) was = elim (same p q) [ true ↦ None | false ↦ was ]
   after p (protocol x) was = was
   after p (meta_data m) was = was
   after p (mergeskip q k) was = elim (same p q) [ true ↦ with_skip k was | false ↦ was ]
@@ -68,8 +68,8 @@ after_all p [] was = was
 after_all p (l ∷ ls) was = after_all p ls (after l.at l.size p l.does was)
 
 unfoldable pub live_at : Bytes → List Row → Option Row
-live_at p [] = none
-live_at p (r ∷ rs) = elim (same p (path_of r)) [ true ↦ some r | false ↦ live_at p rs ]
+live_at p [] = None
+live_at p (r ∷ rs) = elim (same p (path_of r)) [ true ↦ Some r | false ↦ live_at p rs ]
 
 -- in path byte order, each path once
 abbrev pub InPathOrder : List Row → Type 0
@@ -133,12 +133,12 @@ pub record StateSays (log : Log) (way : Option Way) (st : State) : Type 0 where
   pub zero : File
   pub z : State
   pub w : Way
-  pub zero-there : log.version_file 0 ≡ some zero
-  pub way-there : way ≡ some w
+  pub zero-there : log.version_file 0 ≡ Some zero
+  pub way-there : way ≡ Some w
   pub zero-says : ZeroSays zero z
   pub table : st.table ≡ last_table (actions (lines_on w)) (table_before w z.table)
   pub in_force : st.in_force ≡ last_protocol (actions (lines_on w)) (protocol_before w z.in_force)
-  pub live : (p : Bytes) → live_at p st.live ≡ after_all p (lines_on w) none
+  pub live : (p : Bytes) → live_at p st.live ≡ after_all p (lines_on w) None
   pub in_order : InPathOrder st.live
   pub few : length st.live ≤ most_live
 

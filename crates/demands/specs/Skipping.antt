@@ -1,7 +1,7 @@
 -- "A skipped manifest held nothing a teacher asked for": where every file of a manifest lies within the manifest's bounds, and the query
 -- drops the manifest, the query picks none of these files.
 use Rattle.std.specs.Prelude.{◌≡◌, true, false, List, [], ℤ}
-use Rattle.std.proofs.Math.Option.{some}
+use Rattle.std.specs.Prelude.{Some}
 use Rattle.facts.specs.Lists.{All}
 use Rattle.rules.specs.Bytes.{Bytes, order, is_more}
 use Rattle.rules.specs.Actions.{Facts}
@@ -18,13 +18,13 @@ AtMost as_number a b = (m n : ℤ) → number_of a ≡ number m → number_of b 
 
 -- the value lies between min and max, as far as they are stated
 pub record Between (kind : As) (bounds : Bounds) (value : Bytes) : Type 0 where
-  pub from-min : (min : Bytes) → bounds.min ≡ some min → AtMost kind min value
-  pub to-max : (max : Bytes) → bounds.max ≡ some max → AtMost kind value max
+  pub from-min : (min : Bytes) → bounds.min ≡ Some min → AtMost kind min value
+  pub to-max : (max : Bytes) → bounds.max ≡ Some max → AtMost kind value max
 
 -- the file's value of the condition's column lies between the manifest's bounds of that column, as the condition compares
 abbrev pub HeldUnder : Manifest → Facts → Condition → Type 0
 HeldUnder m f c =
-    (b : Bounds) (x : Bytes) → bounds_at c.column m.bounds ≡ some b → value_at c.column f.partition_values ≡ some (some x) → Between c.kind b x
+    (b : Bounds) (x : Bytes) → bounds_at c.column m.bounds ≡ Some b → value_at c.column f.partition_values ≡ Some (Some x) → Between c.kind b x
 
 -- and so it is under every condition of the query
 abbrev pub HeldBy : List Condition → Manifest → Facts → Type 0

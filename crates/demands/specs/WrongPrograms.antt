@@ -1,6 +1,6 @@
 -- The wrong programs that the paper lists: none of them keeps the promise of reading.
 use Rattle.std.specs.Prelude.{◌≡◌, List, [], ◌∷◌, ℕ, suc, length, replicate}
-use Rattle.std.proofs.Math.Option.{none, some}
+use Rattle.std.specs.Prelude.{None, Some}
 use Rattle.rules.specs.Bytes.{Bytes}
 use Rattle.rules.specs.Bundle.{File, bundle}
 use Rattle.rules.specs.Starts.{log_of, start_at}
@@ -42,7 +42,7 @@ WritesNothing p = (room : Room) (s q : Bytes) (asked : Asked) → Accepts p room
 
 -- where no checkpoint is a start, version file 1 is applied, and those behind it are only moved past
 abbrev pub NoCheckpoint : Bytes → Type 0
-NoCheckpoint s = (fs : List File) → bundle s ≡ some fs → (c : ℕ) → start_at (log_of fs) c ≡ none
+NoCheckpoint s = (fs : List File) → bundle s ≡ Some fs → (c : ℕ) → start_at (log_of fs) c ≡ None
 
 abbrev pub AppliesTheFirstOnly : Reader → Type 0
 AppliesTheFirstOnly p =

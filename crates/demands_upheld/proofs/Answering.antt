@@ -38,11 +38,9 @@ use Rattle.demands.proofs.LentRooms.{reading-room-ends, due-room-ends}
 use Rattle.demands.proofs.Due.{due-exactly}
 use Rattle.reading.specs.Answers.{read_is, AnswerIs, ReadIs, DueIs}
 use Rattle.reading.specs.declared.Listing.{Listing}
-use Rattle.reading.specs.declared.Read.TheVariants.{Listed}
+use Rattle.std.specs.Prelude.{Ok}
 use Rattle.cleaning.specs.Answers.{cleaned_is, lent, CleanIs}
-use Rattle.cleaning.specs.declared.Cleaned.TheVariants.{Named}
 use Rattle.manifests.specs.Rooms.{kept_is, KeepIs}
-use Rattle.manifests.specs.declared.keeping.Kept.TheVariants.{Numbers}
 use Rattle.demands_upheld.specs.Answering.{Lists, ListsExactly, DueExactly, KeepsExactly, NamesExactly, nothing, files}
 use Rattle.demands_upheld.proofs.Ending.{counted-front}
 
@@ -56,7 +54,7 @@ record Tells (l : Listing) (m : Ruled) : Type 0 where
   writer : l.writer ≡ m.in_force.min_writer_version
   verdict : l.writable ≡ m.can_write
 
-tells : (l : Listing) (m : Ruled) → read_is (Listed l) ≡ told (accepted m) → Tells l m
+tells : (l : Listing) (m : Ruled) → read_is (Ok l) ≡ told (accepted m) → Tells l m
 unfolding read_is told
 tells l m e =
     let same = accepted-same e in
@@ -68,7 +66,7 @@ tells l m e =
       verdict = ap (λ (t : Told). t.can_write) same;
     }
 
-listed-ruled : (o : Answer Ruled) (room after : Room) (l : Listing) → AnswerIs o room after (Listed l) → (m : Ruled) × (o ≡ accepted m) × Tells l m
+listed-ruled : (o : Answer Ruled) (room after : Room) (l : Listing) → AnswerIs o room after (Ok l) → (m : Ruled) × (o ≡ accepted m) × Tells l m
 unfolding read_is
 listed-ruled o room after l c =
     let m = told-accepted o _ (sym c.answer) in
@@ -100,7 +98,7 @@ lists-by Chosen s q asked room after l d m t version in_force can_write chosen p
       table = table;
     }
 
-pub lists-upheld : (s q : Bytes) (asked : Asked) (room after : Room) (l : Listing) → ReadIs s q asked room after (Listed l) → ListsExactly s q asked after l
+pub lists-upheld : (s q : Bytes) (asked : Asked) (room after : Room) (l : Listing) → ReadIs s q asked room after (Ok l) → ListsExactly s q asked after l
 lists-upheld s q asked room after l c =
     let m = listed-ruled (reading (length room) s q asked) room after l c in
     let a = ((reading-exactly (length room) s q asked).no-0 m.0).0 m.1 in
@@ -116,7 +114,7 @@ lists-upheld s q asked room after l c =
 
 -- ---- the files due for a second merge
 
-pub due-listed : (s : Bytes) (time : ℕ) (room after : Room) (l : Listing) → DueIs s time room after (Listed l) → DueExactly s time after l
+pub due-listed : (s : Bytes) (time : ℕ) (room after : Room) (l : Listing) → DueIs s time room after (Ok l) → DueExactly s time after l
 due-listed s time room after l c =
     let m = listed-ruled (due (length room) s the_latest time) room after l c in
     let d = (due-exactly (length room) s the_latest time m.0).0 m.1 in
@@ -126,7 +124,7 @@ due-listed s time room after l c =
 
 -- ---- keeping
 
-pub keeps-upheld : (state q : Bytes) (room after : Room) (n : ℕ) → KeepIs state q room after (Numbers n) → KeepsExactly state q after n
+pub keeps-upheld : (state q : Bytes) (room after : Room) (n : ℕ) → KeepIs state q room after (Ok n) → KeepsExactly state q after n
 unfolding kept_is room_after_keeping
 keeps-upheld state q room after n c = go (counted-front kept_room (keeping (length room) state q) (accepted n) c.answer room after c.holds n refl)
   where
@@ -145,7 +143,7 @@ keeps-upheld state q room after n c = go (counted-front kept_room (keeping (leng
 -- ---- cleaning
 
 pub names-upheld : (s : Bytes) (now retention : ℕ) (room room' one one' two two' : Room) (n : ℕ)
-    → CleanIs s now retention room room' one one' two two' (Named n) → NamesExactly (lent room one two) s now retention room' n
+    → CleanIs s now retention room room' one one' two two' (Ok n) → NamesExactly (lent room one two) s now retention room' n
 unfolding cleaned_is names_after_cleaning
 names-upheld s now retention room room' one one' two two' n c =
     go (counted-front names_room (cleaning (lent room one two) s now retention) (accepted n) c.answer room room' c.names n refl)

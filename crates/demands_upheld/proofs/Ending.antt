@@ -17,12 +17,12 @@ use Rattle.demands.proofs.Ending.{reading-ends, keeping-ends, cleaning-ends, end
 use Rattle.demands.proofs.LentRooms.{room-told, length-rows_numbers, reading-room-ends, due-room-ends, keeping-room-ends, cleaning-rooms-end}
 use Rattle.demands.proofs.Due.{due-ends}
 use Rattle.reading.specs.Answers.{read_is, AnswerIs, ReadIs, DueIs}
-use Rattle.reading.specs.declared.Read.{Read}
+use Rattle.std.specs.Prelude.{Result}
 use Rattle.cleaning.specs.Answers.{cleaned_is, lent, CleanIs}
-use Rattle.cleaning.specs.declared.Cleaned.{Cleaned}
 use Rattle.manifests.specs.Rooms.{kept_is, KeepIs}
-use Rattle.manifests.specs.declared.keeping.Kept.{Kept}
 use Rattle.demands_upheld.specs.Upheld.{rows_told, ReadingEnds, DueEnds, CleaningEnds, KeepingEnds, Demand1}
+use Rattle.reading.specs.declared.Listing.{Listing as CodeListing}
+use Rattle.refusals.specs.declared.Refusal.{Refusal as CodeRefusal}
 
 -- ---- reading, and the files due for a second merge
 
@@ -30,7 +30,7 @@ abbrev numbers : Listing → List ℕ
 numbers l = rows_numbers l.rows
 
 -- `ruled` is what the rules answer
-module _ (ruled : Answer Listing) (room after : Room) (r : Read) (c : AnswerIs ruled room after r) where
+module _ (ruled : Answer Listing) (room after : Room) (r : Result CodeListing CodeRefusal) (c : AnswerIs ruled room after r) where
   listed-front : (t : Told) → read_is r ≡ accepted t → (l : Listing) × (ruled ≡ accepted l) × (numbers l ≡ rows_told after t)
   unfolding room_after_reading row_width
   listed-front t h =
@@ -46,13 +46,14 @@ module _ (ruled : Answer Listing) (room after : Room) (r : Read) (c : AnswerIs r
       (λ x e. told-refused ruled x (sym c.answer ∙ e)) listed-front
       (subst (RoomEnds rows_room numbers ruled room) (sym c.holds) h)
 
-reading-upheld : (s q : Bytes) (asked : Asked) (room after : Room) (r : Read) → ReadIs s q asked room after r → ReadingEnds room after r
+reading-upheld : (s q : Bytes) (asked : Asked) (room after : Room) (r : Result CodeListing CodeRefusal) → ReadIs s q asked room after r
+    → ReadingEnds room after r
 reading-upheld s q asked room after r c = record {
   ends = subst (Ends _) (sym c.answer) (ends-told (reading-ends (length room) s q asked));
   table = listed-room (reading (length room) s q asked) room after r c (reading-room-ends room s q asked);
 }
 
-due-upheld : (s : Bytes) (time : ℕ) (room after : Room) (r : Read) → DueIs s time room after r → DueEnds room after r
+due-upheld : (s : Bytes) (time : ℕ) (room after : Room) (r : Result CodeListing CodeRefusal) → DueIs s time room after r → DueEnds room after r
 due-upheld s time room after r c = record {
   ends = subst (Ends _) (sym c.answer) (ends-told (due-ends (length room) s time));
   table = listed-room (due (length room) s the_latest time) room after r c (due-room-ends room s the_latest time);
@@ -86,7 +87,7 @@ module _ (size : ℕ) (ruled : Answer (List ℕ)) (said : Answer ℕ) (answer : 
       room-told size (λ (ns : List ℕ). []) (λ (n : ℕ). []) ruled said before after refused-too
       (λ n h. let k = counted-accepted ruled n (sym answer ∙ h) in (k.0, k.1, refl)) (subst (RoomEnds size (λ (ns : List ℕ). []) ruled before) (sym e) h)
 
-cleaning-upheld : (s : Bytes) (now retention : ℕ) (room room' one one' two two' : Room) (r : Cleaned)
+cleaning-upheld : (s : Bytes) (now retention : ℕ) (room room' one one' two two' : Room) (r : Result ℕ CodeRefusal)
     → CleanIs s now retention room room' one one' two two' r → CleaningEnds room room' one one' two two' r
 unfolding names_after_cleaning
 cleaning-upheld s now retention room room' one one' two two' r c =
@@ -99,7 +100,7 @@ cleaning-upheld s now retention room room' one one' two two' r c =
       second = counted-table rows_room ruled (cleaned_is r) c.answer two two' c.second ends.second-table;
     }
 
-keeping-upheld : (state q : Bytes) (room after : Room) (r : Kept) → KeepIs state q room after r → KeepingEnds room after r
+keeping-upheld : (state q : Bytes) (room after : Room) (r : Result ℕ CodeRefusal) → KeepIs state q room after r → KeepingEnds room after r
 unfolding room_after_keeping
 keeping-upheld state q room after r c =
     let ruled = keeping (length room) state q in

@@ -28,18 +28,14 @@ use Rattle.refusals.specs.declared.Refusal.TheVariants.{ReaderTooHigh, UnknownFe
 use Rattle.refusals.specs.declared.Refusal.TheVariants.{StateMalformed, TooManyManifests, ListRefused, OutputTooShort, ValueOutOfRange}
 use Rattle.refusals.specs.declared.Refusal.TheVariants.{ContainerMalformed, OtherSchema, ForeignKeys}
 use Rattle.reading.specs.Answers.{read_is, AnswerIs, ReadIs, DueIs}
-use Rattle.reading.specs.declared.Read.{Read}
-use Rattle.reading.specs.declared.Read.TheVariants.{Refused}
+use Rattle.std.specs.Prelude.{Result, Err}
 use Rattle.reading.proofs.Alone.{read_is-alone}
 use Rattle.cleaning.specs.Answers.{cleaned_is, lent, CleanIs}
-use Rattle.cleaning.specs.declared.Cleaned.{Cleaned}
-use Rattle.cleaning.specs.declared.Cleaned.TheVariants.{Refused as NothingCleaned}
 use Rattle.cleaning.proofs.Alone.{clean-alone}
 use Rattle.manifests.specs.Rooms.{kept_is, KeepIs}
-use Rattle.manifests.specs.declared.keeping.Kept.{Kept}
-use Rattle.manifests.specs.declared.keeping.Kept.TheVariants.{Refused as NothingKept}
 use Rattle.manifests.proofs.Alone.{keep-alone}
 use Rattle.demands_upheld.specs.Refusing.{ReadingRule, DueRule, CleaningRule, KeepingRule}
+use Rattle.reading.specs.declared.Listing.{Listing as CodeListing}
 
 -- a number that an entry never gives
 never : {A B : Type 0} {ks : List ℕ} {o : Answer A} (x : Refusal) → is_in (numbered x).number ks ≡ false → Ends ks o
@@ -49,18 +45,19 @@ never x h e (f, g) = ((λ b. never-refused (numbered x) h e (f b)), (λ z. absur
 -- ---- reading
 
 -- of what is read, and of what is due
-answer-refused : (o : Answer Listing) (room after : Room) (r : Read) → AnswerIs o room after r → (x : Refusal) → (r ≡ Refused x) ↔ (o ≡ refused (numbered x))
+answer-refused : (o : Answer Listing) (room after : Room) (r : Result CodeListing Refusal) → AnswerIs o room after r → (x : Refusal)
+    → (r ≡ Err x) ↔ (o ≡ refused (numbered x))
 unfolding read_is told
 answer-refused o room after r c x = (
   (λ e. told-refused o (numbered x) (sym c.answer ∙ ap read_is e)),
-  (λ e. read_is-alone r (Refused x) (c.answer ∙ ap told e)),
+  (λ e. read_is-alone r (Err x) (c.answer ∙ ap told e)),
 )
 
-module _ (s q : Bytes) (asked : Asked) (room after : Room) (r : Read) (c : ReadIs s q asked room after r) where
-  pub read-refused : (x : Refusal) → (r ≡ Refused x) ↔ (reading (length room) s q asked ≡ refused (numbered x))
+module _ (s q : Bytes) (asked : Asked) (room after : Room) (r : Result CodeListing Refusal) (c : ReadIs s q asked room after r) where
+  pub read-refused : (x : Refusal) → (r ≡ Err x) ↔ (reading (length room) s q asked ≡ refused (numbered x))
   read-refused = answer-refused (reading (length room) s q asked) room after r c
 
-  pub reading-refuses : (x : Refusal) → (r ≡ Refused x) ↔ ReadingRule (length room) s q asked x
+  pub reading-refuses : (x : Refusal) → (r ≡ Err x) ↔ ReadingRule (length room) s q asked x
   unfolding numbered is_in
   reading-refuses RoomTooShort = Iff.trans (read-refused RoomTooShort) (reading-exactly (length room) s q asked).no-1
   reading-refuses BundleMalformed = Iff.trans (read-refused BundleMalformed) (reading-exactly (length room) s q asked).no-2
@@ -86,17 +83,17 @@ module _ (s q : Bytes) (asked : Asked) (room after : Room) (r : Read) (c : ReadI
 
 -- ---- the files due for a second merge
 
-module _ (s : Bytes) (time : ℕ) (room after : Room) (r : Read) (c : DueIs s time room after r) where
-  due-refused : (x : Refusal) → (r ≡ Refused x) ↔ (due (length room) s the_latest time ≡ refused (numbered x))
+module _ (s : Bytes) (time : ℕ) (room after : Room) (r : Result CodeListing Refusal) (c : DueIs s time room after r) where
+  due-refused : (x : Refusal) → (r ≡ Err x) ↔ (due (length room) s the_latest time ≡ refused (numbered x))
   due-refused = answer-refused (due (length room) s the_latest time) room after r c
 
-  due-read : (x : Refusal) → (r ≡ Refused x) ↔ (reading (length room) s (ascii "[]") the_latest ≡ refused (numbered x))
+  due-read : (x : Refusal) → (r ≡ Err x) ↔ (reading (length room) s (ascii "[]") the_latest ≡ refused (numbered x))
   due-read x = Iff.trans (due-refused x) (due-refuses-exactly (length room) s the_latest time (numbered x))
 
   asked-so : ReadingExactly (length room) s (ascii "[]") the_latest
   asked-so = reading-exactly (length room) s (ascii "[]") the_latest
 
-  pub due-refuses : (x : Refusal) → (r ≡ Refused x) ↔ DueRule (length room) s x
+  pub due-refuses : (x : Refusal) → (r ≡ Err x) ↔ DueRule (length room) s x
   unfolding numbered is_in
   due-refuses RoomTooShort = Iff.trans (due-read RoomTooShort) asked-so.no-1
   due-refuses BundleMalformed = Iff.trans (due-read BundleMalformed) asked-so.no-2
@@ -122,50 +119,56 @@ module _ (s : Bytes) (time : ℕ) (room after : Room) (r : Read) (c : DueIs s ti
 
 -- ---- cleaning
 
-module _ (s : Bytes) (now retention : ℕ) (room room' one one' two two' : Room) (r : Cleaned) (c : CleanIs s now retention room room' one one' two two' r) where
-  clean-refused : (x : Refusal) → (r ≡ NothingCleaned x) ↔ (cleaning (lent room one two) s now retention ≡ refused (numbered x))
-  unfolding cleaned_is counted
-  clean-refused x = (
-    (λ e. counted-refused (cleaning (lent room one two) s now retention) (numbered x) (sym c.answer ∙ ap cleaned_is e)),
-    (λ e. (clean-alone s now retention room room' room' one one' one' two two' two' r (NothingCleaned x) c
-        (record { answer = sym (ap counted e); names = c.names; first = c.first; second = c.second })).0),
-  )
+module _
+    (s : Bytes)
+    (now retention : ℕ)
+    (room room' one one' two two' : Room)
+    (r : Result ℕ Refusal)
+    (c : CleanIs s now retention room room' one one' two two' r)
+  where
+    clean-refused : (x : Refusal) → (r ≡ Err x) ↔ (cleaning (lent room one two) s now retention ≡ refused (numbered x))
+    unfolding cleaned_is counted
+    clean-refused x = (
+      (λ e. counted-refused (cleaning (lent room one two) s now retention) (numbered x) (sym c.answer ∙ ap cleaned_is e)),
+      (λ e. (clean-alone s now retention room room' room' one one' one' two two' two' r (Err x) c
+          (record { answer = sym (ap counted e); names = c.names; first = c.first; second = c.second })).0),
+    )
 
-  pub cleaning-refuses : (x : Refusal) → (r ≡ NothingCleaned x) ↔ CleaningRule (lent room one two) s x
-  unfolding numbered is_in
-  cleaning-refuses RoomTooShort = Iff.trans (clean-refused RoomTooShort) (cleaning-exactly (lent room one two) s now retention).no-1
-  cleaning-refuses BundleMalformed = Iff.trans (clean-refused BundleMalformed) (cleaning-exactly (lent room one two) s now retention).no-2
-  cleaning-refuses VersionTooLarge = Iff.trans (clean-refused VersionTooLarge) (cleaning-exactly (lent room one two) s now retention).no-3
-  cleaning-refuses NoVersionZero = Iff.trans (clean-refused NoVersionZero) (cleaning-exactly (lent room one two) s now retention).no-4
-  cleaning-refuses NotKept = never NotKept refl (cleaning-ends (lent room one two) s now retention) (clean-refused NotKept)
-  cleaning-refuses (Malformed e l) = Iff.trans (clean-refused (Malformed e l)) ((cleaning-exactly (lent room one two) s now retention).no-6 e l)
-  cleaning-refuses (TooManyLive e l) = Iff.trans (clean-refused (TooManyLive e l)) ((cleaning-exactly (lent room one two) s now retention).no-7 e l)
-  cleaning-refuses ReaderTooHigh = Iff.trans (clean-refused ReaderTooHigh) (cleaning-exactly (lent room one two) s now retention).no-8
-  cleaning-refuses UnknownFeature = Iff.trans (clean-refused UnknownFeature) (cleaning-exactly (lent room one two) s now retention).no_9
-  cleaning-refuses QueryMalformed = never QueryMalformed refl (cleaning-ends (lent room one two) s now retention) (clean-refused QueryMalformed)
-  cleaning-refuses NoSuchColumn = never NoSuchColumn refl (cleaning-ends (lent room one two) s now retention) (clean-refused NoSuchColumn)
-  cleaning-refuses NotWritable = Iff.trans (clean-refused NotWritable) (cleaning-exactly (lent room one two) s now retention).no-12
-  cleaning-refuses CheckpointDisagrees = Iff.trans (clean-refused CheckpointDisagrees) (cleaning-exactly (lent room one two) s now retention).no-13
-  cleaning-refuses StateMalformed = never StateMalformed refl (cleaning-ends (lent room one two) s now retention) (clean-refused StateMalformed)
-  cleaning-refuses TooManyManifests = never TooManyManifests refl (cleaning-ends (lent room one two) s now retention) (clean-refused TooManyManifests)
-  cleaning-refuses ListRefused = never ListRefused refl (cleaning-ends (lent room one two) s now retention) (clean-refused ListRefused)
-  cleaning-refuses OutputTooShort = never OutputTooShort refl (cleaning-ends (lent room one two) s now retention) (clean-refused OutputTooShort)
-  cleaning-refuses ValueOutOfRange = never ValueOutOfRange refl (cleaning-ends (lent room one two) s now retention) (clean-refused ValueOutOfRange)
-  cleaning-refuses ContainerMalformed = never ContainerMalformed refl (cleaning-ends (lent room one two) s now retention) (clean-refused ContainerMalformed)
-  cleaning-refuses OtherSchema = never OtherSchema refl (cleaning-ends (lent room one two) s now retention) (clean-refused OtherSchema)
-  cleaning-refuses (ForeignKeys e l) = Iff.trans (clean-refused (ForeignKeys e l)) ((cleaning-exactly (lent room one two) s now retention).no-21 e l)
+    pub cleaning-refuses : (x : Refusal) → (r ≡ Err x) ↔ CleaningRule (lent room one two) s x
+    unfolding numbered is_in
+    cleaning-refuses RoomTooShort = Iff.trans (clean-refused RoomTooShort) (cleaning-exactly (lent room one two) s now retention).no-1
+    cleaning-refuses BundleMalformed = Iff.trans (clean-refused BundleMalformed) (cleaning-exactly (lent room one two) s now retention).no-2
+    cleaning-refuses VersionTooLarge = Iff.trans (clean-refused VersionTooLarge) (cleaning-exactly (lent room one two) s now retention).no-3
+    cleaning-refuses NoVersionZero = Iff.trans (clean-refused NoVersionZero) (cleaning-exactly (lent room one two) s now retention).no-4
+    cleaning-refuses NotKept = never NotKept refl (cleaning-ends (lent room one two) s now retention) (clean-refused NotKept)
+    cleaning-refuses (Malformed e l) = Iff.trans (clean-refused (Malformed e l)) ((cleaning-exactly (lent room one two) s now retention).no-6 e l)
+    cleaning-refuses (TooManyLive e l) = Iff.trans (clean-refused (TooManyLive e l)) ((cleaning-exactly (lent room one two) s now retention).no-7 e l)
+    cleaning-refuses ReaderTooHigh = Iff.trans (clean-refused ReaderTooHigh) (cleaning-exactly (lent room one two) s now retention).no-8
+    cleaning-refuses UnknownFeature = Iff.trans (clean-refused UnknownFeature) (cleaning-exactly (lent room one two) s now retention).no_9
+    cleaning-refuses QueryMalformed = never QueryMalformed refl (cleaning-ends (lent room one two) s now retention) (clean-refused QueryMalformed)
+    cleaning-refuses NoSuchColumn = never NoSuchColumn refl (cleaning-ends (lent room one two) s now retention) (clean-refused NoSuchColumn)
+    cleaning-refuses NotWritable = Iff.trans (clean-refused NotWritable) (cleaning-exactly (lent room one two) s now retention).no-12
+    cleaning-refuses CheckpointDisagrees = Iff.trans (clean-refused CheckpointDisagrees) (cleaning-exactly (lent room one two) s now retention).no-13
+    cleaning-refuses StateMalformed = never StateMalformed refl (cleaning-ends (lent room one two) s now retention) (clean-refused StateMalformed)
+    cleaning-refuses TooManyManifests = never TooManyManifests refl (cleaning-ends (lent room one two) s now retention) (clean-refused TooManyManifests)
+    cleaning-refuses ListRefused = never ListRefused refl (cleaning-ends (lent room one two) s now retention) (clean-refused ListRefused)
+    cleaning-refuses OutputTooShort = never OutputTooShort refl (cleaning-ends (lent room one two) s now retention) (clean-refused OutputTooShort)
+    cleaning-refuses ValueOutOfRange = never ValueOutOfRange refl (cleaning-ends (lent room one two) s now retention) (clean-refused ValueOutOfRange)
+    cleaning-refuses ContainerMalformed = never ContainerMalformed refl (cleaning-ends (lent room one two) s now retention) (clean-refused ContainerMalformed)
+    cleaning-refuses OtherSchema = never OtherSchema refl (cleaning-ends (lent room one two) s now retention) (clean-refused OtherSchema)
+    cleaning-refuses (ForeignKeys e l) = Iff.trans (clean-refused (ForeignKeys e l)) ((cleaning-exactly (lent room one two) s now retention).no-21 e l)
 
 -- ---- keeping
 
-module _ (state q : Bytes) (room after : Room) (r : Kept) (c : KeepIs state q room after r) where
-  keep-refused : (x : Refusal) → (r ≡ NothingKept x) ↔ (keeping (length room) state q ≡ refused (numbered x))
+module _ (state q : Bytes) (room after : Room) (r : Result ℕ Refusal) (c : KeepIs state q room after r) where
+  keep-refused : (x : Refusal) → (r ≡ Err x) ↔ (keeping (length room) state q ≡ refused (numbered x))
   unfolding kept_is counted
   keep-refused x = (
     (λ e. counted-refused (keeping (length room) state q) (numbered x) (sym c.answer ∙ ap kept_is e)),
-    (λ e. (keep-alone state q room after after r (NothingKept x) c (record { answer = sym (ap counted e); holds = c.holds })).0),
+    (λ e. (keep-alone state q room after after r (Err x) c (record { answer = sym (ap counted e); holds = c.holds })).0),
   )
 
-  pub keeping-refuses : (x : Refusal) → (r ≡ NothingKept x) ↔ KeepingRule (length room) state q x
+  pub keeping-refuses : (x : Refusal) → (r ≡ Err x) ↔ KeepingRule (length room) state q x
   unfolding numbered is_in
   keeping-refuses RoomTooShort = Iff.trans (keep-refused RoomTooShort) (keeping-exactly (length room) state q).no-1
   keeping-refuses BundleMalformed = never BundleMalformed refl (keeping-ends (length room) state q) (keep-refused BundleMalformed)

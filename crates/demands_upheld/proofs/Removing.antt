@@ -24,8 +24,8 @@ use Rattle.demands.proofs.LastSentence.{last-sentence, stopped-halfway}
 use Rattle.refusals.specs.Numbered.{numbered}
 use Rattle.refusals.specs.declared.Refusal.TheVariants.{NotKept}
 use Rattle.reading.specs.Answers.{ReadIs}
-use Rattle.reading.specs.declared.Read.{Read}
-use Rattle.reading.specs.declared.Read.TheVariants.{Refused}
+use Rattle.std.specs.Prelude.{Result, Err}
+use Rattle.refusals.specs.declared.Refusal.{Refusal}
 use Rattle.cleaning.specs.Answers.{cleaned_is, lent}
 use Rattle.demands_upheld.specs.Seen.{SameRead, ReadsSame, DueSame}
 use Rattle.demands_upheld.specs.Removing.{KeptOrNot, KeepsAnswers, Run, Runs, not-run, once_more}
@@ -33,22 +33,23 @@ use Rattle.demands_upheld.specs.Upheld.{Demand3}
 use Rattle.demands_upheld.proofs.Ending.{counted-front}
 use Rattle.demands_upheld.proofs.Refusing.{read-refused}
 use Rattle.demands_upheld.proofs.Seen.{same_read, same-due}
+use Rattle.reading.specs.declared.Listing.{Listing as CodeListing}
 
 -- ---- any files but version 0
 
 -- `full` is what the history answers
-kept_or_not : (left : Log) (v : ℕ) (s t q : Bytes) (room after room' after' : Room) (r r' : Read) (full : Answer Listing)
+kept_or_not : (left : Log) (v : ℕ) (s t q : Bytes) (room after room' after' : Room) (r r' : Result CodeListing Refusal) (full : Answer Listing)
     → SameAnswer SameListing full (reading (length room) s q (the_version v)) → FirstSentence.KeptOrNot left v full (reading (length room') t q (the_version v))
     → ReadIs s q (the_version v) room after r → ReadIs t q (the_version v) room' after' r' → KeptOrNot left v s t after after' r r'
 unfolding numbered
 kept_or_not left v s t q room after room' after' r r' full whole k c c' =
     record { either = sides k.either; exactly-when = Iff.trans not-kept k.exactly-when }
   where
-    not-kept : (r' ≡ Refused NotKept) ↔ (reading (length room') t q (the_version v) ≡ refused not_kept)
+    not-kept : (r' ≡ Err NotKept) ↔ (reading (length room') t q (the_version v) ≡ refused not_kept)
     not-kept = read-refused t q (the_version v) room' after' r' c' NotKept
 
     sides : SameAnswer SameListing full (reading (length room') t q (the_version v)) ⊎ (reading (length room') t q (the_version v) ≡ refused not_kept)
-        → SameRead s t after after' r r' ⊎ (r' ≡ Refused NotKept)
+        → SameRead s t after after' r r' ⊎ (r' ≡ Err NotKept)
     sides (inr e) = inr (not-kept.1 e)
     sides (inl h) =
         let same = same-answer-trans (λ a b d. same-listing-trans) (same-answer-sym (λ a b. same-listing-sym) whole) h in

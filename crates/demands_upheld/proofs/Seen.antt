@@ -22,10 +22,11 @@ use Rattle.demands.specs.Showing.{IsAdd}
 use Rattle.demands.specs.Places.{StandsIn}
 use Rattle.demands.proofs.Places.{rows-stand-in-the-bundle, due-rows-stand-in-the-bundle}
 use Rattle.reading.specs.Answers.{read_is, AnswerIs, ReadIs, DueIs}
-use Rattle.reading.specs.declared.Read.{Read}
-use Rattle.reading.specs.declared.Read.TheVariants.{Listed, Refused}
+use Rattle.std.specs.Prelude.{Result, Ok, Err}
+use Rattle.reading.specs.declared.Listing.{Listing}
 use Rattle.reading.proofs.Alone.{read_is-alone}
 use Rattle.demands_upheld.specs.Seen.{row_in, RowSays, SameRow, SameRead, both-listed, both-refused as refused-both}
+use Rattle.refusals.specs.declared.Refusal.{Refusal as CodeRefusal}
 
 -- ---- rows
 
@@ -83,40 +84,42 @@ module _ (s t : Bytes) (room after room' after' : Room) where
   rooms : {z z' : Room} → z ≡ after → z' ≡ after' → (k : ℕ) → SameRow s t (row_in z k) (row_in z' k) → SameRow s t (row_in after k) (row_in after' k)
   rooms {z' = z'} e f k h = subst (λ (x : Room). SameRow s t (row_in after k) (row_in x k)) f (subst (λ (x : Room). SameRow s t (row_in x k) (row_in z' k)) e h)
 
-  same-listed : (l m : Ruled) → SameListing l m → All (StandsIn s) l.rows → All (StandsIn t) m.rows → (r r' : Read)
+  same-listed : (l m : Ruled) → SameListing l m → All (StandsIn s) l.rows → All (StandsIn t) m.rows → (r r' : Result Listing CodeRefusal)
       → AnswerIs (accepted l) room after r → AnswerIs (accepted m) room' after' r' → SameRead s t after after' r r'
   unfolding read_is told
-  same-listed l m h a b (Refused x) r' c c' = let e = c.answer in apart (cc)
-  same-listed l m h a b (Listed x) r' c c' =
-      let e : Listed x ≡ r' = read_is-alone (Listed x) r' (c.answer ∙ told_same h ∙ sym c'.answer) in
+  same-listed l m h a b (Err x) r' c c' = let e = c.answer in apart (cc)
+  same-listed l m h a b (Ok x) r' c c' =
+      let e : Ok x ≡ r' = read_is-alone (Ok x) r' (c.answer ∙ told_same h ∙ sym c'.answer) in
       let count : length l.rows ≡ x.rows = told-count l _ (sym c.answer) in
       let (rest, f) = room-rows l room after c.holds in
       let (rest', g) = room-rows m room' after' c'.holds in
-      subst (SameRead s t after after' (Listed x)) e
+      subst (SameRead s t after after' (Ok x)) e
       (both-listed x (λ k n. rooms (sym f) (sym g) k (rows_seen s t rest rest' h.rows a b k (omega arith))))
 
-  same-refused : (x y : Refusal) → x.number ≡ y.number → (r r' : Read) → read_is r ≡ refused x → read_is r' ≡ refused y
+  same-refused : (x y : Refusal) → x.number ≡ y.number → (r r' : Result Listing CodeRefusal) → read_is r ≡ refused x → read_is r' ≡ refused y
       → SameRead s t after after' r r'
   unfolding read_is
-  same-refused x y h (Listed l) r' e f = apart (cc)
-  same-refused x y h (Refused a) (Listed m) e f = apart (cc)
-  same-refused x y h (Refused a) (Refused b) e f = refused-both a b (refused-number e ∙ h ∙ sym (refused-number f))
+  same-refused x y h (Ok l) r' e f = apart (cc)
+  same-refused x y h (Err a) (Ok m) e f = apart (cc)
+  same-refused x y h (Err a) (Err b) e f = refused-both a b (refused-number e ∙ h ∙ sym (refused-number f))
 
   same-answered : {o o' : Answer Ruled} → SameAnswer SameListing o o' → ((l : Ruled) → o ≡ accepted l → All (StandsIn s) l.rows)
-      → ((l : Ruled) → o' ≡ accepted l → All (StandsIn t) l.rows) → (r r' : Read)
+      → ((l : Ruled) → o' ≡ accepted l → All (StandsIn t) l.rows) → (r r' : Result Listing CodeRefusal)
       → AnswerIs o room after r → AnswerIs o' room' after' r' → SameRead s t after after' r r'
   unfolding told
   same-answered (both-accepted {a = l} {b = m} h) p p' r r' c c' = same-listed l m h (p l refl) (p' m refl) r r' c c'
   same-answered (both-refused {r = x} {s = y} h) p p' r r' c c' = same-refused x y h r r' c.answer c'.answer
 
   -- what the rules answer the same is read the same
-  pub same_read : (q : Bytes) (asked : Asked) (r r' : Read) → SameAnswer SameListing (reading (length room) s q asked) (reading (length room') t q asked)
+  pub same_read : (q : Bytes) (asked : Asked) (r r' : Result Listing CodeRefusal)
+      → SameAnswer SameListing (reading (length room) s q asked) (reading (length room') t q asked)
       → ReadIs s q asked room after r → ReadIs t q asked room' after' r' → SameRead s t after after' r r'
   same_read q asked r r' h c c' =
       same-answered h (rows-stand-in-the-bundle (length room) s q asked) (rows-stand-in-the-bundle (length room') t q asked) r r' c c'
 
   -- and so of what is due
-  pub same-due : (time : ℕ) (r r' : Read) → SameAnswer SameListing (due (length room) s the_latest time) (due (length room') t the_latest time)
+  pub same-due : (time : ℕ) (r r' : Result Listing CodeRefusal)
+      → SameAnswer SameListing (due (length room) s the_latest time) (due (length room') t the_latest time)
       → DueIs s time room after r → DueIs t time room' after' r' → SameRead s t after after' r r'
   same-due time r r' h c c' =
       same-answered h (due-rows-stand-in-the-bundle (length room) s the_latest time) (due-rows-stand-in-the-bundle (length room') t the_latest time) r r' c c'

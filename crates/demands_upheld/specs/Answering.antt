@@ -1,7 +1,7 @@
 -- What an answer of an entry says, and its room holds: the live files, the verdict, the files picked, the files due, the manifests kept, the
 -- files named.
 use Rattle.std.specs.Prelude.{◌≡◌, ◌↔◌, true, List, ◌++◌, ℕ, ◌-◌, length, take, replicate}
-use Rattle.std.proofs.Math.Option.{some}
+use Rattle.std.specs.Prelude.{Some}
 use Rattle.facts.specs.Lists.{All}
 use Rattle.rules.specs.Bytes.{Bytes}
 use Rattle.rules.specs.Bundle.{File, bundle}
@@ -28,7 +28,7 @@ pub record Lists (Chosen : (live chosen : List Row) → Type 0) (s : Bytes) (ask
   pub fs : List File
   pub st : State
   pub rows : List Row
-  pub bundle-read : bundle s ≡ some fs
+  pub bundle-read : bundle s ≡ Some fs
   pub version : l.version.0 ≡ version_asked asked (log_of fs)
   pub live : StateSays (log_of fs) (way_to (log_of fs) l.version.0) st
   pub chosen : Chosen st.live rows
@@ -42,7 +42,7 @@ pub record Lists (Chosen : (live chosen : List Row) → Type 0) (s : Bytes) (ask
 -- the files that the query picks
 pub record ListsExactly (s q : Bytes) (asked : Asked) (after : Room) (l : Listing) : Type 0 where
   pub cs : List Condition
-  pub query-read : query q ≡ some cs
+  pub query-read : query q ≡ Some cs
   pub lists : Lists (Picks cs) s asked after l
 
 -- the files of the latest version that are due at a time
@@ -53,8 +53,8 @@ DueExactly s time after l = Lists (DueOf time) s the_latest after l
 pub record KeepsExactly (state q : Bytes) (after : Room) (n : ℕ) : Type 0 where
   pub cs : List Condition
   pub ms : List Manifest
-  pub query-read : query q ≡ some cs
-  pub state-read : manifests state ≡ some ms
+  pub query-read : query q ≡ Some cs
+  pub state-read : manifests state ≡ Some ms
   pub keeps : Keeps cs 0 ms (take n after)
   pub count : length (take n after) ≡ n
 

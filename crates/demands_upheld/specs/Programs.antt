@@ -6,13 +6,15 @@ use Rattle.rules.specs.Reading.{Asked}
 use Rattle.demands.specs.WrongPrograms.{Reader}
 use Rattle.demands.specs.WrongListings.{Lister}
 use Rattle.reading.specs.Answers.{read_is, ReadIs, DueIs}
-use Rattle.reading.specs.declared.Read.{Read}
+use Rattle.std.specs.Prelude.{Result}
+use Rattle.reading.specs.declared.Listing.{Listing}
+use Rattle.refusals.specs.declared.Refusal.{Refusal}
 
 -- ---- reading
 
 -- what a program answers, and what it leaves in the room
 pub record Program : Type 0 where
-  pub answers : Room → (s q : Bytes) → Asked → Read
+  pub answers : Room → (s q : Bytes) → Asked → Result Listing Refusal
   pub leaves : Room → (s q : Bytes) → Asked → Room
 
 -- each of its results is one that the entries' promise allows
@@ -26,7 +28,7 @@ reader_of p = record { answer = λ room s q asked. read_is (p.answers room s q a
 -- ---- the files due for a second merge
 
 pub record DueProgram : Type 0 where
-  pub answers : Room → (s : Bytes) → (time : ℕ) → Read
+  pub answers : Room → (s : Bytes) → (time : ℕ) → Result Listing Refusal
   pub leaves : Room → (s : Bytes) → (time : ℕ) → Room
 
 abbrev pub KeepsDueIs : DueProgram → Type 0

@@ -1,6 +1,6 @@
 -- The paper's table of refusals, by the code's cases: for each entry when it gives which. What it never gives is ⊥.
 use Rattle.std.specs.Prelude.{◌≡◌, List, ℕ, ◌≤◌, ◌<◌, length}
-use Rattle.std.proofs.Math.Option.{none, some}
+use Rattle.std.specs.Prelude.{None, Some}
 use Rattle.rules.specs.Bytes.{Bytes, ascii}
 use Rattle.rules.specs.Bundle.{File, bundle}
 use Rattle.rules.specs.Starts.{log_of}
@@ -25,16 +25,16 @@ use Rattle.refusals.specs.declared.Refusal.TheVariants.{ContainerMalformed, Othe
 -- reading: 1, 10, 2, 3, 4, 5, then 6, 21 or 7 by first line met, 8, 9, 11, 18
 abbrev pub ReadingRule : (room : ℕ) → (s q : Bytes) → Asked → Refusal → Type 0
 ReadingRule room s q asked RoomTooShort = room < rows_room
-ReadingRule room s q asked BundleMalformed = (rows_room ≤ room) × There (query q) × (bundle s ≡ none)
-ReadingRule room s q asked VersionTooLarge = (rows_room ≤ room) × There (query q) × ((fs : List File) × (bundle s ≡ some fs) × SomeTooLarge fs)
-ReadingRule room s q asked NoVersionZero = (o : Opened room s q) × ((log_in asked o).version_file 0 ≡ none)
+ReadingRule room s q asked BundleMalformed = (rows_room ≤ room) × There (query q) × (bundle s ≡ None)
+ReadingRule room s q asked VersionTooLarge = (rows_room ≤ room) × There (query q) × ((fs : List File) × (bundle s ≡ Some fs) × SomeTooLarge fs)
+ReadingRule room s q asked NoVersionZero = (o : Opened room s q) × ((log_in asked o).version_file 0 ≡ None)
 ReadingRule room s q asked NotKept = (o : Opened room s q) × There ((log_in asked o).version_file 0) × NoStart (log_in asked o) (version_in asked o)
 ReadingRule room s q asked (Malformed e l) = (r : Reached room s q asked) × Met r.zero r.way (malformed e l)
 ReadingRule room s q asked (TooManyLive e l) = (r : Reached room s q asked) × Met r.zero r.way (too_many_live e l)
 ReadingRule room s q asked ReaderTooHigh = (r : Read room s q asked) × (known_reader < r.state.in_force.min_reader_version)
 ReadingRule room s q asked UnknownFeature =
     (r : Read room s q asked) × (r.state.in_force.min_reader_version ≤ known_reader) × Unknown reader_names r.state.in_force.reader_features
-ReadingRule room s q asked QueryMalformed = (rows_room ≤ room) × (query q ≡ none)
+ReadingRule room s q asked QueryMalformed = (rows_room ≤ room) × (query q ≡ None)
 ReadingRule room s q asked NoSuchColumn =
     (r : Read room s q asked) × Readable r.state.in_force × Unknown r.state.table.partition_columns (columns_asked r)
 ReadingRule room s q asked NotWritable = ⊥
@@ -78,10 +78,10 @@ DueRule room s (ForeignKeys e l) = ReadingRule room s (ascii "[]") the_latest (F
 -- cleaning: 1 to 4; then 6, 21 or 7 by first line met; the checkpoint's gate 8, 9, 12; then 13
 abbrev pub CleaningRule : Lent → Bytes → Refusal → Type 0
 CleaningRule lent s RoomTooShort = Enough lent → ⊥
-CleaningRule lent s BundleMalformed = Enough lent × (bundle s ≡ none)
-CleaningRule lent s VersionTooLarge = Enough lent × ((fs : List File) × (bundle s ≡ some fs) × SomeTooLarge fs)
+CleaningRule lent s BundleMalformed = Enough lent × (bundle s ≡ None)
+CleaningRule lent s VersionTooLarge = Enough lent × ((fs : List File) × (bundle s ≡ Some fs) × SomeTooLarge fs)
 CleaningRule lent s NoVersionZero =
-    Enough lent × ((fs : List File) × (bundle s ≡ some fs) × (SomeTooLarge fs → ⊥) × ((log_of fs).version_file 0 ≡ none))
+    Enough lent × ((fs : List File) × (bundle s ≡ Some fs) × (SomeTooLarge fs → ⊥) × ((log_of fs).version_file 0 ≡ None))
 CleaningRule lent s NotKept = ⊥
 CleaningRule lent s (Malformed e l) = (c : Comparing lent s) × MetComparing c.begun.zero c.checkpoint c.way (malformed e l)
 CleaningRule lent s (TooManyLive e l) = (c : Comparing lent s) × MetComparing c.begun.zero c.checkpoint c.way (too_many_live e l)
@@ -113,13 +113,13 @@ KeepingRule room state q (Malformed e l) = ⊥
 KeepingRule room state q (TooManyLive e l) = ⊥
 KeepingRule room state q ReaderTooHigh = ⊥
 KeepingRule room state q UnknownFeature = ⊥
-KeepingRule room state q QueryMalformed = (kept_room ≤ room) × (query q ≡ none)
+KeepingRule room state q QueryMalformed = (kept_room ≤ room) × (query q ≡ None)
 KeepingRule room state q NoSuchColumn = ⊥
 KeepingRule room state q NotWritable = ⊥
 KeepingRule room state q CheckpointDisagrees = ⊥
-KeepingRule room state q StateMalformed = (kept_room ≤ room) × There (query q) × (manifests state ≡ none)
+KeepingRule room state q StateMalformed = (kept_room ≤ room) × There (query q) × (manifests state ≡ None)
 KeepingRule room state q TooManyManifests =
-    (kept_room ≤ room) × There (query q) × ((ms : List Manifest) × (manifests state ≡ some ms) × (most_manifests < length ms))
+    (kept_room ≤ room) × There (query q) × ((ms : List Manifest) × (manifests state ≡ Some ms) × (most_manifests < length ms))
 KeepingRule room state q ListRefused = ⊥
 KeepingRule room state q OutputTooShort = ⊥
 KeepingRule room state q ValueOutOfRange = ⊥

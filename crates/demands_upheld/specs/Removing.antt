@@ -1,6 +1,6 @@
 -- Readings before and after files are removed, and runs of the cleaner.
 use Rattle.std.specs.Prelude.{◌≡◌, ◌⊎◌, ◌↔◌, List, ℕ, ◌≤◌, take}
-use Rattle.std.proofs.Math.Option.{some}
+use Rattle.std.specs.Prelude.{Some}
 use Rattle.rules.specs.Bytes.{Bytes}
 use Rattle.rules.specs.Bundle.{File, bundle}
 use Rattle.rules.specs.Starts.{Log}
@@ -9,16 +9,16 @@ use Rattle.rules.specs.Reading.{the_latest, the_version}
 use Rattle.demands.specs.Reaching.{NoStart}
 use Rattle.demands.specs.Removed.{Without, Named as InNames}
 use Rattle.refusals.specs.declared.Refusal.TheVariants.{NotKept}
-use Rattle.reading.specs.declared.Read.{Read}
-use Rattle.reading.specs.declared.Read.TheVariants.{Refused}
+use Rattle.std.specs.Prelude.{Result, Err, Ok}
+use Rattle.reading.specs.declared.Listing.{Listing}
+use Rattle.refusals.specs.declared.Refusal.{Refusal}
 use Rattle.cleaning.specs.Answers.{CleanIs}
-use Rattle.cleaning.specs.declared.Cleaned.TheVariants.{Named}
 use Rattle.demands_upheld.specs.Seen.{SameRead, ReadsSame, DueSame}
 
 -- r', read where only `left` is left, is as r; or "not kept", and that exactly when no start is left that reaches v
-pub record KeptOrNot (left : Log) (v : ℕ) (s t : Bytes) (after after' : Room) (r r' : Read) : Type 0 where
-  pub either : SameRead s t after after' r r' ⊎ (r' ≡ Refused NotKept)
-  pub exactly-when : (r' ≡ Refused NotKept) ↔ NoStart left v
+pub record KeptOrNot (left : Log) (v : ℕ) (s t : Bytes) (after after' : Room) (r r' : Result Listing Refusal) : Type 0 where
+  pub either : SameRead s t after after' r r' ⊎ (r' ≡ Err NotKept)
+  pub exactly-when : (r' ≡ Err NotKept) ↔ NoStart left v
 
 -- every query is answered from t as from s, at the versions from c upward and at the latest; so are the due files of the latest, at any time
 pub record KeepsAnswers (c : ℕ) (s t : Bytes) : Type 0 where
@@ -37,9 +37,9 @@ pub record Run (s t : Bytes) (fs gs : List File) : Type 0 where
   pub two : Room
   pub two' : Room
   pub n : ℕ
-  pub before : bundle s ≡ some fs
-  pub cleaned : CleanIs s now retention room names one one' two two' (Named n)
-  pub after : bundle t ≡ some gs
+  pub before : bundle s ≡ Some fs
+  pub cleaned : CleanIs s now retention room names one one' two two' (Ok n)
+  pub after : bundle t ≡ Some gs
   pub removed : Without (InNames (take n names)) fs gs
 
 -- any number of runs, each stopped after any number of deletions

@@ -10,8 +10,7 @@ use Rattle.refusals.specs.Numbered.{numbered}
 use Rattle.refusals.specs.declared.Refusal.{Refusal}
 use Rattle.reading.specs.Answers.{ReadIs, DueIs}
 use Rattle.reading.specs.declared.Listing.{Listing}
-use Rattle.reading.specs.declared.Read.{Read}
-use Rattle.reading.specs.declared.Read.TheVariants.{Listed, Refused}
+use Rattle.std.specs.Prelude.{Result, Ok, Err}
 
 -- the six numbers of row k
 abbrev pub row_in : Room → ℕ → List ℕ
@@ -37,18 +36,18 @@ pub record SameRow (s t : Bytes) (row row' : List ℕ) : Type 0 where
   pub numbers : drop 2 row ≡ drop 2 row'
 
 -- the same version, row count, protocol numbers and writable, and the same rows; or both refused by the same number
-pub data SameRead (s t : Bytes) (after after' : Room) : Read → Read → Type 0 where
-  both-listed : (l : Listing) → ((k : ℕ) → k < l.rows → SameRow s t (row_in after k) (row_in after' k)) → SameRead s t after after' (Listed l) (Listed l)
-  both-refused : (x y : Refusal) → (numbered x).number ≡ (numbered y).number → SameRead s t after after' (Refused x) (Refused y)
+pub data SameRead (s t : Bytes) (after after' : Room) : Result Listing Refusal → Result Listing Refusal → Type 0 where
+  both-listed : (l : Listing) → ((k : ℕ) → k < l.rows → SameRow s t (row_in after k) (row_in after' k)) → SameRead s t after after' (Ok l) (Ok l)
+  both-refused : (x y : Refusal) → (numbered x).number ≡ (numbered y).number → SameRead s t after after' (Err x) (Err y)
 
 -- whatever the promise allows on s and on t, in rooms that are long enough
 abbrev pub ReadsSame : (s t q : Bytes) → Asked → Type 0
 ReadsSame s t q asked =
-    (room after room' after' : Room) (r r' : Read) → rows_room ≤ length room → rows_room ≤ length room'
+    (room after room' after' : Room) (r r' : Result Listing Refusal) → rows_room ≤ length room → rows_room ≤ length room'
     → ReadIs s q asked room after r → ReadIs t q asked room' after' r' → SameRead s t after after' r r'
 
 -- the same of the files that are due at a time
 abbrev pub DueSame : (s t : Bytes) → (time : ℕ) → Type 0
 DueSame s t time =
-    (room after room' after' : Room) (r r' : Read) → rows_room ≤ length room → rows_room ≤ length room'
+    (room after room' after' : Room) (r r' : Result Listing Refusal) → rows_room ≤ length room → rows_room ≤ length room'
     → DueIs s time room after r → DueIs t time room' after' r' → SameRead s t after after' r r'

@@ -4,8 +4,7 @@ use Prim.Native.Nat.{ℕ, ◌-◌}
 use Rattle.rules.specs.Json.Text.{Text}
 use Rattle.rules.specs.Actions.{Records, records, missing, no_add, path_place, records_shown}
 use Rattle.shown.specs.Shown.{shown_is}
-use Rattle.shown.specs.declared.Shown.{Shown}
-use Rattle.shown.specs.declared.Shown.TheVariants.{Number, Missing, NoAdd}
+use Rattle.std.specs.Prelude.{Option, Some, None}
 use Rattle.shown.proofs.Lines.{Standing}
 use Rattle.entries_c.specs.Shows.{place_by, records_by}
 use Rattle.entries_c.specs.declared.shows.Place.{Place}
@@ -19,12 +18,12 @@ standing-place {s} {from} {to} w =
     ∙ ap (λ (n : ℕ). record { start = (path_place s).0; length = n }) w.size
 
 -- records as the code answers them
-abbrev pub records_from : Shown → RecordsShown
-records_from NoAdd = record { stated = 0; number = 0 }
-records_from Missing = record { stated = 1; number = 0 }
-records_from (Number n) = record { stated = 2; number = n }
+abbrev pub records_from : Option (Option ℕ) → RecordsShown
+records_from None = record { stated = 0; number = 0 }
+records_from (Some None) = record { stated = 1; number = 0 }
+records_from (Some (Some n)) = record { stated = 2; number = n }
 
-pub records-by : (s : Text) {r x : Shown} → r ≡ shown_is (records_shown s) → r ≡ x → records_from x ≡ records_by (records_shown s)
+pub records-by : (s : Text) {r x : Option (Option ℕ)} → r ≡ shown_is (records_shown s) → r ≡ x → records_from x ≡ records_by (records_shown s)
 unfolding shown_is records_by
 records-by s e f = ap records_from (sym f ∙ e) ∙ each (records_shown s)
   where

@@ -2,7 +2,6 @@
 ghost use Rattle.entries_c.specs.Cleans.{NamedIs};
 
 use crate::codes::{Counted, accepted, refused_as};
-use cleaning::Cleaned;
 use file_names::Millis;
 
 // The numbers of the version files that may go, as `cleaning::clean`.
@@ -27,11 +26,11 @@ pub extern "C" fn kerumpase_clean(
         result }
 {
     match cleaning::clean(bundle, Millis(today), Millis(retention), names, one, two) {
-        Cleaned::Named(n) => Counted {
+        Ok(n) => Counted {
             refused: accepted(),
             count: n,
         },
-        Cleaned::Refused(x) => Counted {
+        Err(x) => Counted {
             refused: refused_as(x),
             count: 0,
         },

@@ -7,7 +7,8 @@ ghost use Rattle.entries_c.specs.Reads.{listed_by};
 
 use crate::codes::{Refused, accepted, refused_as};
 use file_names::{Millis, Version};
-use reading::Read;
+use reading::Listing;
+use refusals::Refusal;
 
 // The version, how many rows are in the room, the numbers of the protocol, and whether the table is writable; all 0 where refused.
 #[repr(C)]
@@ -21,11 +22,11 @@ pub struct FilesListed {
     pub writable: bool,
 }
 
-fn listed(r: Read) -> FilesListed
+fn listed(r: Result<Listing, Refusal>) -> FilesListed
     ensures { result ≡ listed_by (read_is r) }
 {
     match r {
-        Read::Listed(l) => {
+        Ok(l) => {
             let version = l.version;
             FilesListed {
                 refused: accepted(),
@@ -36,7 +37,7 @@ fn listed(r: Read) -> FilesListed
                 writable: l.writable,
             }
         }
-        Read::Refused(x) => FilesListed {
+        Err(x) => FilesListed {
             refused: refused_as(x),
             version: 0,
             rows: 0,

@@ -3,8 +3,6 @@ ghost use Rattle.std.specs.Prelude.{◌≡◌};
 ghost use Rattle.rules.specs.Actions.{path_place, records_shown};
 ghost use Rattle.entries_c.specs.Shows.{place_by, records_by};
 
-use shown::{Adding, Shown};
-
 // Where the path stands in the line.
 #[repr(C)]
 #[derive(Clone, Copy)]
@@ -20,11 +18,11 @@ pub extern "C" fn kerumpase_path_of(line: &[u8]) -> Place
     ensures { result ≡ place_by (path_place line.now) }
 {
     match shown::judge(line) {
-        Adding::Writes(from, to, _) => Place {
+        Some((from, to, _)) => Place {
             start: from,
             length: to - from,
         },
-        Adding::Nothing => Place {
+        None => Place {
             start: 0,
             length: 0,
         },
@@ -50,17 +48,19 @@ pub struct RecordsShown {
 pub extern "C" fn kerumpase_records_of(line: &[u8]) -> RecordsShown
     ensures { result ≡ records_by (records_shown line.now) }
 {
-    match shown::records_of(line) {
-        Shown::Number(n) => RecordsShown {
+    let Some(records) = shown::records_of(line) else {
+        return RecordsShown {
+            stated: NO_ADD,
+            number: 0,
+        };
+    };
+    match records {
+        Some(n) => RecordsShown {
             stated: STATED,
             number: n,
         },
-        Shown::Missing => RecordsShown {
+        None => RecordsShown {
             stated: MISSING,
-            number: 0,
-        },
-        Shown::NoAdd => RecordsShown {
-            stated: NO_ADD,
             number: 0,
         },
     }

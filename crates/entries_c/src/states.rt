@@ -6,7 +6,6 @@ ghost use Rattle.entries_c.specs.Codes.{counted_by};
 ghost use Rattle.entries_c.specs.States.{DirectoryIs};
 
 use crate::codes::{Counted, accepted, refused_as};
-use manifests::Kept;
 
 // The numbers of the manifests of a state manifest that a query keeps, as `manifests::keep`.
 #[unsafe(no_mangle)]
@@ -15,11 +14,11 @@ pub extern "C" fn kerumpase_keep(state: &[u8], q: &[u8], kept: &mut [u32]) -> Co
     ensures kept_after { kept.new ≡ room_after_keeping (keeping (length kept.old) state.now q.now) kept.old }
 {
     match manifests::keep(state, q, kept) {
-        Kept::Numbers(n) => Counted {
+        Ok(n) => Counted {
             refused: accepted(),
             count: n,
         },
-        Kept::Refused(x) => Counted {
+        Err(x) => Counted {
             refused: refused_as(x),
             count: 0,
         },

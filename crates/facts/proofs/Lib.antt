@@ -7,4 +7,3 @@ pub mod Tables
 pub mod Examples
 pub mod Kept
 pub mod Shifts
-pub mod Zeroing

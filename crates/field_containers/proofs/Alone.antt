@@ -1,7 +1,7 @@
 -- A count of strings has one answer: the rules fix the strings and what is left, and that the place. So has what is asked of the strings.
 use mathlib.Core.Path.{◌≡◌, refl, sym, ap, ◌∙◌}
 use mathlib.Core.Bool.{Bool}
-use mathlib.Core.Option.{Option, some}
+use Rattle.std.specs.Prelude.{Option, Some}
 use mathlib.Core.List.{List}
 use Prim.Native.Nat.{ℕ}
 use lib.ListN.{length}
@@ -14,21 +14,20 @@ use Rattle.json_tokens.proofs.Alone.{left_alone}
 use Rattle.field_objects.proofs.Alone.{asked-alone}
 use Rattle.field_containers.specs.Nested.{Pairing, Paired}
 use Rattle.field_containers.specs.Strung.{Strung, StringsIs, Listed, IsList}
-use Rattle.field_containers.specs.declared.lists.Strings.{Strings}
-use Rattle.field_containers.specs.declared.lists.Strings.TheVariants.{Good, NotStrings}
+use Rattle.std.specs.Prelude.{None}
 
 module _ (o : Option (List Text × Text)) (s : Text) (at : ℕ) where
-  strung-some : {n e : ℕ} (f : Strung o s at n e) → (o >>= (λ p. strings p.0)) ≡ some f.ss
+  strung-some : {n e : ℕ} (f : Strung o s at n e) → (o >>= (λ p. strings p.0)) ≡ Some f.ss
   strung-some f = ap (λ (p : Option (List Text × Text)). p >>= (λ q. strings q.0)) f.all ∙ f.each
 
-  pub strings-alone : (r q : Strings) → StringsIs o s at r → StringsIs o s at q → r ≡ q
-  strings-alone (Good n a) (Good m b) f k =
+  pub strings-alone : (r q : Option (ℕ × ℕ)) → StringsIs o s at r → StringsIs o s at q → r ≡ q
+  strings-alone (Some (n, a)) (Some (m, b)) f k =
       let ends : a ≡ b = left_alone s a b f.within k.within (left-same (sym f.all ∙ k.all)) in
       let counts : n ≡ m = sym f.count ∙ ap length (some_same (sym (strung-some f) ∙ strung-some k)) ∙ k.count in
-      ap (λ (e : ℕ). Good n e) ends ∙ ap (λ (c : ℕ). Good c b) counts
-  strings-alone (Good n a) NotStrings f k = answered-none (strung-some f) k
-  strings-alone NotStrings (Good m b) f k = answered-none (strung-some k) f
-  strings-alone NotStrings NotStrings f k = refl
+      ap (λ (e : ℕ). (Some (n, e))) ends ∙ ap (λ (c : ℕ). (Some (c, b))) counts
+  strings-alone (Some (n, a)) None f k = answered-none (strung-some f) k
+  strings-alone None (Some (m, b)) f k = answered-none (strung-some k) f
+  strings-alone None None f k = refl
 
 pub listed-alone : (f : List Bytes → Bool) (s : Text) (at : ℕ) → IsList s at → (r q : Bool)
     → ((ss : List Bytes) → Listed s at ss → r ≡ f ss) → ((ss : List Bytes) → Listed s at ss → q ≡ f ss) → r ≡ q

@@ -1,6 +1,6 @@
 -- The loop over an array of strings: what went by are strings, and each way out of the loop answers for the whole array.
 use mathlib.Core.Path.{◌≡◌, refl, sym, ap, ◌∙◌}
-use mathlib.Core.Option.{none, some}
+use Rattle.std.specs.Prelude.{None, Some}
 use mathlib.Core.List.{List, [], ◌∷◌, ◌++◌}
 use Prim.Native.Nat.{ℕ, ◌+◌, ◌-◌, ◌≤◌}
 use native.Mathlib.Omega.{arith}
@@ -26,13 +26,13 @@ pub record Collected (d : ℕ) (s : Text) (at n i : ℕ) : Type 0 where
   pub gone : List Text
   pub found : List Bytes
   pub passed : Passed (spelled (value d)) 0x5D s at i gone
-  pub read : strings gone ≡ some found
+  pub read : strings gone ≡ Some found
   pub count : length found ≡ n
 
 module _ (d : ℕ) (s : Text) (at : ℕ) where
   -- ---- behind the opening bracket
 
-  pub opened-neither : Follows (opening 0x5D (drop at s)) s at Neither → read-strings (elements (value d) (drop at s)) ≡ none
+  pub opened-neither : Follows (opening 0x5D (drop at s)) s at Neither → read-strings (elements (value d) (drop at s)) ≡ None
   opened-neither f = ap read-strings (elements-list (value d) (drop at s) ∙ list-neither (spelled (value d)) 0x5D (drop at s) f)
 
   pub opened-closed : at ≤ length s → (end : ℕ) → Follows (opening 0x5D (drop at s)) s at (Closed end) → Strung (elements (value d) (drop at s)) s at 0 end
@@ -54,7 +54,7 @@ module _ (d : ℕ) (s : Text) (at : ℕ) where
   -- ---- a turn
 
   module _ (n i : ℕ) (g : Collected d s at n i) where
-    pub collected-none : (byte 0x22 (drop i s) >>= string) ≡ none → read-strings (elements (value d) (drop at s)) ≡ none
+    pub collected-none : (byte 0x22 (drop i s) >>= string) ≡ None → read-strings (elements (value d) (drop at s)) ≡ None
     collected-none e = ap read-strings (elements-list (value d) (drop at s) ∙ sym g.passed.left) ∙ no-strings d g.gone (drop i s) e
 
     module _ (x : Spell) (q : Quoted s i x) where
@@ -64,7 +64,7 @@ module _ (d : ℕ) (s : Text) (at : ℕ) where
       one_more : length (g.found ++ (name_in s x ∷ [])) ≡ n + 1
       one_more = omega (arith, length-append g.found (name_in s x ∷ []), g.count)
 
-      pub collected-neither : Follows (closing 0x5D (drop x.end s)) s (x.end + 1) Neither → read-strings (elements (value d) (drop at s)) ≡ none
+      pub collected-neither : Follows (closing 0x5D (drop x.end s)) s (x.end + 1) Neither → read-strings (elements (value d) (drop at s)) ≡ None
       collected-neither f = ap read-strings (elements-list (value d) (drop at s) ∙ passed-neither g.passed x.end (element-string d s i x q) f)
 
       pub collected-closed : at ≤ length s → (k : ℕ) → Follows (closing 0x5D (drop x.end s)) s (x.end + 1) (Closed k)

@@ -1,7 +1,7 @@
 -- Partition values told by their first two members: what stands from one of them on, and what so few of them are.
 use mathlib.Core.Path.{◌≡◌, refl, sym, ap, subst, ◌∙◌}
 use mathlib.Core.Bool.{Bool, true, false}
-use mathlib.Core.Option.{Option, none, some}
+use Rattle.std.specs.Prelude.{Option, None, Some}
 use mathlib.Core.List.{List, [], ◌∷◌}
 use Prim.Native.Nat.{ℕ, ◌+◌, ◌-◌, ◌≤◌, ◌<◌}
 use native.Mathlib.Omega.{arith}
@@ -43,33 +43,33 @@ values-none : Told (values_from []) true
 unfolding distinct firsts pairs
 values-none = ([], refl)
 
-values_one : (a : Bytes) (t : Text) {x : Option Bytes} → string_or_null t ≡ some x → Told (values_from ((a, t) ∷ [])) true
+values_one : (a : Bytes) (t : Text) {x : Option Bytes} → string_or_null t ≡ Some x → Told (values_from ((a, t) ∷ [])) true
 unfolding distinct holds firsts pairs
 values_one a t {x} e = ((a, x) ∷ [], rw e)
 
 -- the first is none
-values-refused : (m : Member) (ms : List Member) → string_or_null m.1 ≡ none → values_from (m ∷ ms) ≡ none
+values-refused : (m : Member) (ms : List Member) → string_or_null m.1 ≡ None → values_from (m ∷ ms) ≡ None
 values-refused m ms e = guarded (distinct (firsts (m ∷ ms))) (pairs (m ∷ ms)) (pairs-none [] m ms e)
 
-values-two : (a : Bytes) (t : Text) (b : Bytes) (u : Text) {x y : Option Bytes} → string_or_null t ≡ some x → string_or_null u ≡ some y → same a b ≡ false
+values-two : (a : Bytes) (t : Text) (b : Bytes) (u : Text) {x y : Option Bytes} → string_or_null t ≡ Some x → string_or_null u ≡ Some y → same a b ≡ false
     → Told (values_from ((a, t) ∷ (b, u) ∷ [])) true
 unfolding distinct holds firsts pairs
 values-two a t b u {x} {y} e f n =
     ((a, x) ∷ (b, y) ∷ [], ap (λ (d : Bool). guard d >>= (λ _. pairs ((a, t) ∷ (b, u) ∷ []))) (distinct_cons a (b ∷ []) (rw (n, holds))) ∙ rw (e, f))
 
 -- the second is none
-values-refused-second : (m n : Member) (ms : List Member) → string_or_null n.1 ≡ none → values_from (m ∷ n ∷ ms) ≡ none
+values-refused-second : (m n : Member) (ms : List Member) → string_or_null n.1 ≡ None → values_from (m ∷ n ∷ ms) ≡ None
 values-refused-second m n ms e = guarded (distinct (firsts (m ∷ n ∷ ms))) (pairs (m ∷ n ∷ ms)) (pairs-none (m ∷ []) n ms e)
 
 -- or has the name of the first
-values_same : (m n : Member) (ms : List Member) → same m.0 n.0 ≡ true → values_from (m ∷ n ∷ ms) ≡ none
+values_same : (m n : Member) (ms : List Member) → same m.0 n.0 ≡ true → values_from (m ∷ n ∷ ms) ≡ None
 unfolding holds firsts
 values_same m n ms e = ap (λ (d : Bool). guard d >>= (λ _. pairs (m ∷ n ∷ ms))) (distinct-held m.0 (n.0 ∷ firsts ms) (rw (e, holds)))
 
 -- ---- the members from i on
 
-module _ (s : Text) (i : ℕ) {ms : List Member} {left : Text} (all : rest (member (value in_field)) 0x7D (drop i s) ≡ some (ms, left)) where
-  left-none : {P : Type 0} → member (value in_field) (drop i s) ≡ none → P
+module _ (s : Text) (i : ℕ) {ms : List Member} {left : Text} (all : rest (member (value in_field)) 0x7D (drop i s) ≡ Some (ms, left)) where
+  left-none : {P : Type 0} → member (value in_field) (drop i s) ≡ None → P
   left-none e = answered-none all (rest-none (member (value in_field)) 0x7D (drop i s) e)
 
   module _ (n : Spell) (v e : ℕ) (m : Stands (member (value in_field) (drop i s)) s i n v e) where
@@ -86,7 +86,7 @@ module _ (s : Text) (i : ℕ) {ms : List Member} {left : Text} (all : rest (memb
     left-closed f = value_same (sym all ∙ rest-closed (member (value in_field)) 0x7D (drop i s) m.read f.0)
 
     left-more : {k : ℕ} → Follows (closing 0x7D (drop e s)) s (e + 1) (More k)
-        → (ns : List Member) × (ms ≡ pair ∷ ns) × (rest (member (value in_field)) 0x7D (drop k s) ≡ some (ns, left))
+        → (ns : List Member) × (ms ≡ pair ∷ ns) × (rest (member (value in_field)) 0x7D (drop k s) ≡ Some (ns, left))
     left-more {k} f = and_then-some pair (rest (member (value in_field)) 0x7D (drop k s))
         (sym (rest-onward (member (value in_field)) 0x7D (drop i s) m.read (member-reads (value-reads in_field)) f.0) ∙ all)
 
@@ -100,14 +100,14 @@ module _ (s : Text) (at : ℕ) (w : Opened s at) where
   few-none f = rw (value_same (sym (opened-list s at w) ∙ list-closed (member (value in_field)) 0x7D (drop at s) f.0)) values-none
 
   module _ (i : ℕ) (o : Follows (opening 0x7D (drop at s)) s at (More i)) where
-    all_left : rest (member (value in_field)) 0x7D (drop i s) ≡ some (w.ms, w.left)
+    all_left : rest (member (value in_field)) 0x7D (drop i s) ≡ Some (w.ms, w.left)
     all_left = sym (list-onward (member (value in_field)) 0x7D (drop at s) o.0) ∙ opened-list s at w
 
-    pub first-none : {P : Type 0} → member (value in_field) (drop i s) ≡ none → P
+    pub first-none : {P : Type 0} → member (value in_field) (drop i s) ≡ None → P
     first-none = left-none s i all_left
 
     module _ (n : Spell) (v e : ℕ) (m : Stands (member (value in_field) (drop i s)) s i n v e) where
-      pub first-refused : string_or_null (take (e - v) (drop v s)) ≡ none → values_from w.ms ≡ none
+      pub first-refused : string_or_null (take (e - v) (drop v s)) ≡ None → values_from w.ms ≡ None
       first-refused f =
           let (ns, p) = left-first s i all_left n v e m in
           ap values_from p ∙ values-refused (name_in s n, take (e - v) (drop v s)) ns f
@@ -147,7 +147,7 @@ module _ (s : Text) (at : ℕ) (w : Opened s at) where
               left = w.left;
               from = let low : e + 1 ≤ k = f.1 in omega arith;
               within = f.2;
-              all = w.all ∙ ap (λ (l : List Member). some (l, w.left)) p;
+              all = w.all ∙ ap (λ (l : List Member). Some (l, w.left)) p;
               more = q;
             }
 
@@ -157,7 +157,7 @@ module _ (s : Text) (at : ℕ) (n : Spell) (i : ℕ) (g : Second s at n i) (w : 
   both : w.ms ≡ (name_in s n, g.first) ∷ g.ms
   both = value_same (sym w.all ∙ g.all)
 
-  pub second_none : {P : Type 0} → member (value in_field) (drop i s) ≡ none → P
+  pub second_none : {P : Type 0} → member (value in_field) (drop i s) ≡ None → P
   second_none = left-none s i g.more
 
   module _ (k : Spell) (v e : ℕ) (m : Stands (member (value in_field) (drop i s)) s i k v e) where
@@ -166,12 +166,12 @@ module _ (s : Text) (at : ℕ) (n : Spell) (i : ℕ) (g : Second s at n i) (w : 
         let (ns, p) = left-first s i g.more k v e m in
         (ns, both ∙ ap (λ (l : List Member). (name_in s n, g.first) ∷ l) p)
 
-    pub second-refused : string_or_null (take (e - v) (drop v s)) ≡ none → values_from w.ms ≡ none
+    pub second-refused : string_or_null (take (e - v) (drop v s)) ≡ None → values_from w.ms ≡ None
     second-refused f =
         let (ns, p) = begins in
         ap values_from p ∙ values-refused-second (name_in s n, g.first) (name_in s k, take (e - v) (drop v s)) ns f
 
-    pub second-same : same (name_in s n) (name_in s k) ≡ true → values_from w.ms ≡ none
+    pub second-same : same (name_in s n) (name_in s k) ≡ true → values_from w.ms ≡ None
     second-same f =
         let (ns, p) = begins in
         ap values_from p ∙ values_same (name_in s n, g.first) (name_in s k, take (e - v) (drop v s)) ns f
@@ -212,6 +212,3 @@ module _ (s : Text) (at : ℕ) (n : Spell) (i : ℕ) (g : Second s at n i) (w : 
 pub many-told : (ms : List Member) (r : Bool) → Told (pairs ms) true → r ≡ distinct (firsts ms) → Told (values_from ms) r
 many-told ms true t e = (t.0, ap (λ (d : Bool). guard d >>= (λ _. pairs ms)) (sym e) ∙ t.1)
 many-told ms false t e = ap (λ (d : Bool). guard d >>= (λ _. pairs ms)) (sym e)
-
-pub many-refused : (ms : List Member) → pairs ms ≡ none → values_from ms ≡ none
-many-refused ms e = guarded (distinct (firsts ms)) (pairs ms) e

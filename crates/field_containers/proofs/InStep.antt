@@ -2,7 +2,7 @@
 -- where those that are left are.
 use mathlib.Core.Path.{◌≡◌, refl, sym, ap, ap₂, ◌∙◌}
 use mathlib.Core.Bool.{true}
-use mathlib.Core.Option.{Option, some}
+use Rattle.std.specs.Prelude.{Option, Some}
 use mathlib.Core.List.{List, [], ◌∷◌, ◌++◌}
 use Prim.Native.Nat.{ℕ, suc, ◌+◌, ◌-◌, ◌≤◌, ◌<◌}
 use native.Mathlib.Omega.{arith}
@@ -90,7 +90,7 @@ module _
         let mid : n.at + 1 ≤ n.end = q.named.from in
         omega (arith, l, length-append inner (drop (j + size) t), inner-long, long, length-drop j t)
 
-    again-read : string (drop (j + 1) t) ≡ some (name_in s n, drop (j + size) t)
+    again-read : string (drop (j + 1) t) ≡ Some (name_in s n, drop (j + size) t)
     again-read =
         let mid : n.at + 1 ≤ n.end = q.named.from in
         let e : inner ≡ before (drop n.at s) (drop n.end s) = sym (between s n.at n.end (omega arith) q.named.within) in
@@ -115,7 +115,7 @@ module _
         let mid : n.at + 1 ≤ n.end = q.named.from in
         let k : j + (n.end - i) - 1 - (j + 1) ≡ n.end - 1 - n.at = omega (arith, next) in
         record {
-          quote = ap (byte 0x22) there ∙ byte-same 0x22 0x22 (inner ++ drop (j + size) t) refl ∙ ap some (sym behind-quote);
+          quote = ap (byte 0x22) there ∙ byte-same 0x22 0x22 (inner ++ drop (j + size) t) refl ∙ ap Some (sym behind-quote);
           from = omega arith;
           named = record {
             closed = ap behind again-read;

@@ -13,3 +13,4 @@ pub mod Arrays
 pub mod Stated
 pub mod Pairs
 pub mod Telling
+pub mod Named

@@ -1,7 +1,7 @@
 -- Two arrays of strings met again, in step: they are the same, one after the other, if what is left of them is.
 use mathlib.Core.Path.{◌≡◌, refl, sym, ap, ap₂, ◌∙◌}
 use mathlib.Core.Bool.{true, false}
-use mathlib.Core.Option.{Option, none, some}
+use Rattle.std.specs.Prelude.{Option, None, Some}
 use mathlib.Core.List.{List, [], ◌∷◌}
 use Prim.Native.Nat.{ℕ, ◌+◌}
 use lib.ListN.{drop}
@@ -42,7 +42,7 @@ each_long (x ∷ xs) n = refl
 
 -- ---- an element is left
 
-strings-some : (v : Text) (vs : List Text) {ss : List Bytes} → strings (v ∷ vs) ≡ some ss → ss ≡ [] → ⊥
+strings-some : (v : Text) (vs : List Text) {ss : List Bytes} → strings (v ∷ vs) ≡ Some ss → ss ≡ [] → ⊥
 unfolding strings
 strings-some v vs e n = bound (string_of v) _ e (λ x g h. bound (strings vs) _ h (λ more k l. apart (cc)))
 
@@ -50,8 +50,8 @@ onward-some : (s : Text) (i : ℕ) (ss : List Bytes) → Onward s i ss → ss �
 onward-some s i ss o = go (spelled (value o.depth) (drop i s)) refl
   where
     go : (r : Option (Text × Text)) → spelled (value o.depth) (drop i s) ≡ r → ss ≡ [] → ⊥
-    go none p = answered-none o.all (rest-none (spelled (value o.depth)) 0x5D (drop i s) p)
-    go (some y) p =
+    go None p = answered-none o.all (rest-none (spelled (value o.depth)) 0x5D (drop i s) p)
+    go (Some y) p =
         let (ws, e) = items-first (spelled (value o.depth)) 0x5D (drop i s) p o.all in
         strings-some y.0 ws (sym (ap strings e) ∙ o.each)
 

@@ -1,7 +1,7 @@
 -- Partition values as members of an object: the value of a column, by the member that has the column's name; and their names.
 use mathlib.Core.Path.{◌≡◌, refl, sym, ap, ◌∙◌}
 use mathlib.Core.Bool.{Bool, true, false}
-use mathlib.Core.Option.{Option, some}
+use Rattle.std.specs.Prelude.{Option, Some}
 use mathlib.Core.List.{List, [], ◌∷◌}
 use Prim.Native.Nat.{ℕ}
 use lib.ListN.{drop}
@@ -20,21 +20,21 @@ use Rattle.field_containers.specs.Nested.{Pairing}
 
 -- ---- the column
 
-pub value_at-lookup : (column : Bytes) (ms : List Member) {ps : Pairs} → pairs ms ≡ some ps → value_at column ps ≡ (lookup column ms >>= string_or_null)
+pub value_at-lookup : (column : Bytes) (ms : List Member) {ps : Pairs} → pairs ms ≡ Some ps → value_at column ps ≡ (lookup column ms >>= string_or_null)
 unfolding pairs value_at lookup
 value_at-lookup column [] e = ap (value_at column) (sym (some_same e))
 value_at-lookup column (m ∷ ms) {ps} e =
     let (x, qs, f, g, h) = pairs-cons m ms e in
     ap (value_at column) h ∙ go x qs f (value_at-lookup column ms g) (same column m.0) refl
   where
-    go : (x : Option Bytes) (qs : Pairs) → string_or_null m.1 ≡ some x → value_at column qs ≡ (lookup column ms >>= string_or_null)
+    go : (x : Option Bytes) (qs : Pairs) → string_or_null m.1 ≡ Some x → value_at column qs ≡ (lookup column ms >>= string_or_null)
         → (b : Bool) → same column m.0 ≡ b → value_at column ((m.0, x) ∷ qs) ≡ (lookup column (m ∷ ms) >>= string_or_null)
     go x qs f ih true k = rw (value_at, lookup, k, f)
     go x qs f ih false k = rw (value_at, lookup, k, ih)
 
 -- ---- the object
 
-pub read-object : {s : Text} {at : ℕ} {ps : Pairs} (w : Pairing s at ps) → contents (value 29) (drop at s) ≡ some (w.ms, w.left)
+pub read-object : {s : Text} {at : ℕ} {ps : Pairs} (w : Pairing s at ps) → contents (value 29) (drop at s) ≡ Some (w.ms, w.left)
 unfolding in_field
 read-object w = w.all
 
@@ -53,7 +53,7 @@ holds-lookup name [] = refl
 holds-lookup name (m ∷ ms) = go (holds-lookup name ms) (same name m.0)
   where
     go : holds name (firsts ms) ≡ is_some (lookup name ms) → (b : Bool)
-        → elim b [ true ↦ true | false ↦ holds name (firsts ms) ] ≡ is_some {A = Text} (elim b [ true ↦ some m.1 | false ↦ lookup name ms ])
+        → elim b [ true ↦ true | false ↦ holds name (firsts ms) ] ≡ is_some {A = Text} (elim b [ true ↦ Some m.1 | false ↦ lookup name ms ])
     go ih true = refl
     go ih false = ih
 

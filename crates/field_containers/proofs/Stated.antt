@@ -1,6 +1,6 @@
 -- What the rules say of fields that hold others, by the slots of a scan.
 use mathlib.Core.Path.{◌≡◌, ap}
-use mathlib.Core.Option.{Option}
+use Rattle.std.specs.Prelude.{Option}
 use mathlib.Core.List.{List}
 use Prim.Native.String.{String}
 use Rattle.rules.specs.Bytes.{ascii, ◌>>=◌}

@@ -52,36 +52,6 @@ alike-again s t i end j n h k l w a =
     ap (begins (take (end - i) (drop i s))) g
     ∙ take_begins (take (end - i) (drop i s)) (drop j t) (ap (λ (x : ℕ). take x (drop j t)) e ∙ sym f)
 
--- ---- where the names are told to stand
-
-sole-within : {s : Text} {at end : ℕ} → Sole s at end → (at ≤ end) × (end ≤ length s)
-sole-within {s} {at} {end} w =
-    let low : at + 1 ≤ w.n.at = w.quoted.from in
-    let mid : w.n.at + 1 ≤ w.n.end = w.quoted.named.from in
-    let high : w.n.end ≤ length s = w.quoted.named.within in
-    (omega (arith, w.ends), omega (arith, w.ends))
-
-couple-within : {s : Text} {at end second close : ℕ} → Couple s at end second close → (at ≤ end) × (end ≤ length s)
-couple-within {s} {at} {end} w =
-    let low : at + 1 ≤ w.n.at = w.quoted.from in
-    let mid : w.n.at + 1 ≤ w.n.end = w.quoted.named.from in
-    let high : w.n.end ≤ length s = w.quoted.named.within in
-    (omega (arith, w.ends), omega (arith, w.ends))
-
-pub first-within : {s : Text} {at : ℕ} {u : Usual} → UsualIs s at u → 0 < u.end → (at ≤ u.end) × (u.end ≤ length s)
-first-within {s} {at} {u} w h = go u.second refl
-  where
-    go : (k : ℕ) → u.second ≡ k → (at ≤ u.end) × (u.end ≤ length s)
-    go zero e = sole-within (w.one h e)
-    go (suc k) e = couple-within (w.two h (omega (arith, e)))
-
-pub second-within : {s : Text} {at end second close : ℕ} → Couple s at end second close → (second ≤ close) × (close ≤ length s)
-second-within {s} {second = second} w =
-    let low : second + 1 ≤ w.m.at = w.quoted-too.from in
-    let mid : w.m.at + 1 ≤ w.m.end = w.quoted-too.named.from in
-    let high : w.m.end ≤ length s = w.quoted-too.named.within in
-    (omega (arith, w.closes), omega (arith, w.closes))
-
 -- ---- an object has one list of names, and an array that begins with a string has it at once
 
 names-alone : {s : Text} {at : ℕ} {xs ys : List Bytes} → Object in_field s at xs → Object in_field s at ys → xs ≡ ys

@@ -1,7 +1,7 @@
 -- The texts of the members of an object that was read are values, and so are those in the slots of a scan.
 use mathlib.Core.Path.{◌≡◌, refl, sym, ◌∙◌, subst}
 use mathlib.Core.Bool.{Bool, true, false}
-use mathlib.Core.Option.{some}
+use Rattle.std.specs.Prelude.{Some}
 use mathlib.Core.List.{List, [], ◌∷◌}
 use Prim.Native.Nat.{ℕ, zero, suc, ◌<◌}
 use lib.ListN.{length, get_or}
@@ -23,22 +23,22 @@ use Rattle.field_objects.proofs.Passing.{and_then-some}
 use Rattle.field_scalars.specs.Inside.{ProperBy, Proper}
 use Rattle.field_containers.specs.Valued.{Valued}
 
-pub member-valued : (d : ℕ) (t : Text) (m : Member) (r : Text) → member (value d) t ≡ some (m, r) → value d m.1 ≡ some []
+pub member-valued : (d : ℕ) (t : Text) (m : Member) (r : Text) → member (value d) t ≡ Some (m, r) → value d m.1 ≡ Some []
 unfolding member
 member-valued d t m r e =
     bound (byte 0x22 t) _ e (λ n f g.
     bound (string n) _ g (λ p h k.
     bound (colon p.1) _ k (λ v i j.
     bound (spelled (value d) v) _ j (λ q l a.
-    subst (λ (y : Member). value d y.1 ≡ some []) (value_same a) (value-alone d q.0 v q.1 l)))))
+    subst (λ (y : Member). value d y.1 ≡ Some []) (value_same a) (value-alone d q.0 v q.1 l)))))
 
-items-valued : (d n : ℕ) (t : Text) (ms : List Member) (r : Text) → items (member (value d)) 0x7D n t ≡ some (ms, r) → Valued d ms
+items-valued : (d n : ℕ) (t : Text) (ms : List Member) (r : Text) → items (member (value d)) 0x7D n t ≡ Some (ms, r) → Valued d ms
 unfolding items after_item
 items-valued d zero t ms r e = apart (cc)
 items-valued d (suc n) t ms r e = bound (member (value d) t) _ e (λ p f g. go (λ u ys. items-valued d n u ys r) p f (closing 0x7D p.1) g)
   where
-    go : ((u : Text) (ys : List Member) → items (member (value d)) 0x7D n u ≡ some (ys, r) → Valued d ys)
-        → (p : Member × Text) → member (value d) t ≡ some p → (c : Behind) → after_item p.0 c (λ u. items (member (value d)) 0x7D n u) ≡ some (ms, r)
+    go : ((u : Text) (ys : List Member) → items (member (value d)) 0x7D n u ≡ Some (ys, r) → Valued d ys)
+        → (p : Member × Text) → member (value d) t ≡ Some p → (c : Behind) → after_item p.0 c (λ u. items (member (value d)) 0x7D n u) ≡ Some (ms, r)
         → Valued d ms
     go ih p f (closed u) g = subst (Valued d) (value_same g) (member-valued d t p.0 p.1 f, tt)
     go ih p f (onward u) g =
@@ -46,11 +46,11 @@ items-valued d (suc n) t ms r e = bound (member (value d) t) _ e (λ p f g. go (
         subst (Valued d) (sym h) (member-valued d t p.0 p.1 f, ih u ys k)
     go ih p f neither g = apart (cc)
 
-pub contents-valued : (d : ℕ) (t : Text) (ms : List Member) (r : Text) → contents (value d) t ≡ some (ms, r) → Valued d ms
+pub contents-valued : (d : ℕ) (t : Text) (ms : List Member) (r : Text) → contents (value d) t ≡ Some (ms, r) → Valued d ms
 unfolding list items_behind
 contents-valued d t ms r e = go (opening 0x7D t) (sym (contents-list (value d) t) ∙ e)
   where
-    go : (c : Behind) → items_behind (member (value d)) 0x7D c ≡ some (ms, r) → Valued d ms
+    go : (c : Behind) → items_behind (member (value d)) 0x7D c ≡ Some (ms, r) → Valued d ms
     go (closed u) g = subst (Valued d) (value_same g) tt
     go (onward u) g = items-valued d (suc (length u)) u ms r g
     go neither g = apart (cc)
@@ -59,7 +59,7 @@ contents-valued d t ms r e = go (opening 0x7D t) (sym (contents-list (value d) t
 
 abbrev Values : (d : ℕ) → List Text → Type 0
 Values d [] = Unit {0}
-Values d (v ∷ vs) = (value d v ≡ some []) × Values d vs
+Values d (v ∷ vs) = (value d v ≡ Some []) × Values d vs
 
 under-values : (d : ℕ) (name : Bytes) (ms : List Member) → Valued d ms → Values d (under name ms)
 unfolding under

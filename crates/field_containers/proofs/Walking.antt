@@ -1,6 +1,6 @@
 -- An array of strings met again: what is asked of all its strings is what is asked of those that are left.
 use mathlib.Core.Path.{◌≡◌, refl, sym, ap, ◌∙◌}
-use mathlib.Core.Option.{none, some}
+use Rattle.std.specs.Prelude.{None, Some}
 use mathlib.Core.List.{List, [], ◌∷◌}
 use Prim.Native.Nat.{ℕ, ◌+◌}
 use lib.ListN.{drop}
@@ -22,7 +22,7 @@ use Rattle.field_containers.specs.Strung.{Strung, Listed, IsList, Onward}
 use Rattle.field_names.specs.declared.keys.Spell.{Spell}
 use Rattle.field_containers.proofs.Elements.{read-strings, element-string, element-bytes, no-strings, strings-first}
 
-strings-nil : {ss : List Bytes} (vs : List Text) → vs ≡ [] → strings vs ≡ some ss → ss ≡ []
+strings-nil : {ss : List Bytes} (vs : List Text) → vs ≡ [] → strings vs ≡ Some ss → ss ≡ []
 unfolding strings
 strings-nil vs e f = some_same (sym f ∙ ap strings e)
 
@@ -33,7 +33,7 @@ pub strung-list : (d : ℕ) (s : Text) (at : ℕ) {n end : ℕ} → Strung (elem
 strung-list d s at {end = end} f = record { ss = f.ss; listed = record { depth = d; vs = f.vs; left = drop end s; all = f.all; each = f.each } }
 
 module _ (s : Text) (at : ℕ) (ss : List Bytes) (l : Listed s at ss) where
-  listed-list : list (spelled (value l.depth)) 0x5D (drop at s) ≡ some (l.vs, l.left)
+  listed-list : list (spelled (value l.depth)) 0x5D (drop at s) ≡ Some (l.vs, l.left)
   listed-list = sym (elements-list (value l.depth) (drop at s)) ∙ l.all
 
   pub listed-neither : {P : Type 0} → Follows (opening 0x5D (drop at s)) s at Neither → P
@@ -54,7 +54,7 @@ module _ (s : Text) (at : ℕ) (ss : List Bytes) (l : Listed s at ss) where
 -- ---- from an element on
 
 module _ (s : Text) (i : ℕ) (ss : List Bytes) (o : Onward s i ss) where
-  pub onward-none : {P : Type 0} → (byte 0x22 (drop i s) >>= string) ≡ none → P
+  pub onward-none : {P : Type 0} → (byte 0x22 (drop i s) >>= string) ≡ None → P
   onward-none e =
       answered-none
       (ap read-strings (joined-nil (rest (spelled (value o.depth)) 0x5D (drop i s)) ∙ o.all) ∙ o.each)

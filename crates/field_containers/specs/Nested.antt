@@ -1,6 +1,6 @@
 -- What the fields of an action that hold others say: partition values, and arrays of strings, by positions.
 use Rattle.std.specs.Prelude.{◌≡◌, true, List, [], ◌∷◌, ℕ, suc, ◌+◌, ◌-◌, ◌≤◌, ◌<◌, leb, length, take, drop}
-use Rattle.std.proofs.Math.Option.{Option, none, some}
+use Rattle.std.specs.Prelude.{Option, None, Some}
 use Rattle.rules.specs.Actions.{in_field, Pairs, pairs, most_columns}
 use Rattle.rules.specs.Bytes.{Bytes, ◌>>=◌, guard, begins, distinct, firsts}
 use Rattle.rules.specs.Json.Text.{Text}
@@ -16,14 +16,6 @@ use Rattle.field_scalars.specs.Texts.{Told}
 use Rattle.field_containers.specs.Strung.{Listed as Lists}
 use Rattle.field_objects.specs.declared.notes.Slot.{Slot}
 use Rattle.field_containers.specs.declared.nested.Usual.{Usual}
-use Rattle.field_containers.specs.declared.nested.Judged.{Judged}
-use Rattle.field_containers.specs.declared.nested.Judged.TheVariants.{Good, NotGood}
-use Rattle.field_containers.specs.declared.nested.Values.{Values}
-use Rattle.field_containers.specs.declared.nested.Values.TheVariants.{Behind, NoValues}
-use Rattle.field_containers.specs.declared.nested.Array.{Array}
-use Rattle.field_containers.specs.declared.nested.Array.TheVariants.{Of, NoArray}
-use Rattle.field_containers.specs.declared.nested.Columns.{Columns}
-use Rattle.field_containers.specs.declared.nested.Columns.TheVariants.{Within, NoColumns}
 
 -- ---- partition values
 
@@ -31,20 +23,20 @@ use Rattle.field_containers.specs.declared.nested.Columns.TheVariants.{Within, N
 pub record Opened (s : Text) (at : ℕ) : Type 0 where
   pub ms : List Member
   pub left : Text
-  pub all : contents (value in_field) (drop at s) ≡ some (ms, left)
+  pub all : contents (value in_field) (drop at s) ≡ Some (ms, left)
 
 -- and its first member has the name n and says a string or null; the others stand from i on
 pub record Second (s : Text) (at : ℕ) (n : Spell) (i : ℕ) : Type 0 where
   pub named : Named s n
   pub first : Text
   pub says : Option Bytes
-  pub read : string_or_null first ≡ some says
+  pub read : string_or_null first ≡ Some says
   pub ms : List Member
   pub left : Text
   pub from : 1 ≤ i
   pub within : i ≤ length s
-  pub all : contents (value in_field) (drop at s) ≡ some ((name_in s n, first) ∷ ms, left)
-  pub more : items (member (value in_field)) 0x7D (suc (length (drop i s))) (drop i s) ≡ some (ms, left)
+  pub all : contents (value in_field) (drop at s) ≡ Some ((name_in s n, first) ∷ ms, left)
+  pub more : items (member (value in_field)) 0x7D (suc (length (drop i s))) (drop i s) ≡ Some (ms, left)
 
 -- the name n stands at `at` and ends at `end`, unless that is 0
 abbrev pub Opens : (s : Text) (at : ℕ) (n : Spell) (end : ℕ) → Type 0
@@ -85,8 +77,8 @@ pub record Pairing (s : Text) (at : ℕ) (ps : Pairs) : Type 0 where
   pub ms : List Member
   pub left : Text
   pub within : at ≤ length s
-  pub all : contents (value in_field) (drop at s) ≡ some (ms, left)
-  pub each : pairs ms ≡ some ps
+  pub all : contents (value in_field) (drop at s) ≡ Some (ms, left)
+  pub each : pairs ms ≡ Some ps
   pub distinct : distinct (firsts ms) ≡ true
 
 -- some partition values
@@ -105,36 +97,36 @@ abbrev pub values_in : Text → Slot → Option Pairs
 values_in s x = text_in s x.seen x.start x.end >>= values_of
 
 -- o is what the members behind the brace before `at` say
-abbrev pub JudgedIs : Option Pairs → Text → (at : ℕ) → Judged → Type 0
-JudgedIs o s at (Good u) = Told o true × UsualIs s at u
-JudgedIs o s at NotGood = o ≡ none
+abbrev pub JudgedIs : Option Pairs → Text → (at : ℕ) → Option Usual → Type 0
+JudgedIs o s at (Some u) = Told o true × UsualIs s at u
+JudgedIs o s at None = o ≡ None
 
-abbrev pub ValuesIs : Option Pairs → Text → Values → Type 0
-ValuesIs o s (Behind at u) = (ps : Pairs) × (o ≡ some ps) × Pairing s at ps × UsualIs s at u
-ValuesIs o s NoValues = o ≡ none
+abbrev pub ValuesIs : Option Pairs → Text → Option (ℕ × Usual) → Type 0
+ValuesIs o s (Some (at, u)) = (ps : Pairs) × (o ≡ Some ps) × Pairing s at ps × UsualIs s at u
+ValuesIs o s None = o ≡ None
 
 -- ---- arrays of strings
 
 -- o is the list of the strings behind the bracket before `at`
 pub record Strung (o : Option (List Bytes)) (s : Text) (at n : ℕ) : Type 0 where
   pub xs : List Bytes
-  pub says : o ≡ some xs
+  pub says : o ≡ Some xs
   pub listed : Lists s at xs
   pub count : length xs ≡ n
   pub from : 1 ≤ at
   pub within : at ≤ length s
 
-abbrev pub ArrayIs : Option (List Bytes) → Text → Array → Type 0
-ArrayIs o s (Of at n) = Strung o s at n
-ArrayIs o s NoArray = o ≡ none
+abbrev pub ArrayIs : Option (List Bytes) → Text → Option (ℕ × ℕ) → Type 0
+ArrayIs o s (Some (at, n)) = Strung o s at n
+ArrayIs o s None = o ≡ None
 
 -- at most 16 distinct strings
 abbrev pub columns_of : Text → Option (List Bytes)
-columns_of v = strings_of in_field v >>= (λ cs. guard (leb (length cs) most_columns) >>= (λ _. guard (distinct cs) >>= (λ _. some cs)))
+columns_of v = strings_of in_field v >>= (λ cs. guard (leb (length cs) most_columns) >>= (λ _. guard (distinct cs) >>= (λ _. Some cs)))
 
 abbrev pub columns_in : Text → Slot → Option (List Bytes)
 columns_in s x = text_in s x.seen x.start x.end >>= columns_of
 
-abbrev pub ColumnsIs : Option (List Bytes) → Text → Columns → Type 0
-ColumnsIs o s (Within at) = (cs : List Bytes) × (o ≡ some cs) × (at ≤ length s) × Lists s at cs
-ColumnsIs o s NoColumns = o ≡ none
+abbrev pub ColumnsIs : Option (List Bytes) → Text → Option ℕ → Type 0
+ColumnsIs o s (Some at) = (cs : List Bytes) × (o ≡ Some cs) × (at ≤ length s) × Lists s at cs
+ColumnsIs o s None = o ≡ None

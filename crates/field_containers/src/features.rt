@@ -7,10 +7,9 @@ ghost use Rattle.field_scalars.specs.Inside.{Proper};
 ghost use Rattle.field_containers.specs.Strung.{Listed, IsList};
 ghost use Rattle.field_containers.specs.Featured.{known_names, features_in, FeaturesIs};
 
-use crate::nested::{Array, array_at};
-use field_names::{Name, Spell};
+use crate::nested::array_at;
+use field_names::Spell;
 use field_objects::Slot;
-use field_scalars::Optional;
 use json_tokens::CLOSE_BRACKET;
 use json_values::Tail;
 
@@ -19,20 +18,10 @@ fn reader_knows(s: &[u8], n: Spell) -> bool
     requires { Named s.now n }
     ensures { result ≡ holds (name_in s.now n) reader_names }
 {
-    if field_names::name_is(s, n, b"skippedFiles") {
-        return true;
-    }
-    if field_names::name_is(s, n, b"extendedMetadata") {
-        return true;
-    }
-    if field_names::name_is(s, n, b"footerOffsets") {
-        return true;
-    }
-    if field_names::name_is(s, n, b"schemaDeduplication") {
-        true
-    } else {
-        false
-    }
+    field_names::name_is(s, n, b"skippedFiles")
+        || field_names::name_is(s, n, b"extendedMetadata")
+        || field_names::name_is(s, n, b"footerOffsets")
+        || field_names::name_is(s, n, b"schemaDeduplication")
 }
 
 // Whether the name is a feature that writers know.
@@ -40,13 +29,9 @@ fn writer_knows(s: &[u8], n: Spell) -> bool
     requires { Named s.now n }
     ensures { result ≡ holds (name_in s.now n) writer_names }
 {
-    if field_names::name_is(s, n, b"checkpoint") {
-        return true;
-    }
-    if field_names::name_is(s, n, b"optimizeWrite") {
-        return true;
-    }
-    reader_knows(s, n)
+    field_names::name_is(s, n, b"checkpoint")
+        || field_names::name_is(s, n, b"optimizeWrite")
+        || reader_knows(s, n)
 }
 
 // Whether the name is a feature that is known: to writers, or to readers.
@@ -55,9 +40,10 @@ fn is_known(s: &[u8], n: Spell, writer: bool) -> bool
     ensures { result ≡ holds (name_in s.now n) (known_names writer) }
 {
     if writer {
-        return writer_knows(s, n);
+        writer_knows(s, n)
+    } else {
+        reader_knows(s, n)
     }
-    reader_knows(s, n)
 }
 
 // `at` is just after the bracket of an array of strings. Whether each of them names a known feature: of writers, or of readers.
@@ -71,7 +57,7 @@ pub fn all_known(s: &[u8], at: usize, writer: bool) -> bool
         Tail::More(first) => {
             let mut i = first;
             loop {
-                let Name::Of(n) = field_names::read_name(s, i) else {
+                let Some(n) = field_names::read_name(s, i) else {
                     return true;
                 };
                 if is_known(s, n, writer) {
@@ -89,27 +75,14 @@ pub fn all_known(s: &[u8], at: usize, writer: bool) -> bool
     }
 }
 
-// Features, by where their strings begin (0 where none are stated) and whether all are known; or none.
-#[derive(Clone, Copy)]
-pub enum Features {
-    Listed(usize, bool),
-    NoFeatures,
-}
-
 // The features of a field that may be missing or null, which are alike; known to writers, or to readers.
-pub fn features_in(s: &[u8], slot: Slot, writer: bool) -> Features
+pub fn features_in(s: &[u8], slot: Slot, writer: bool) -> Option<(usize, bool)>
     requires { Proper s.now slot }
     ensures { FeaturesIs (features_in s.now slot) s.now writer result }
 {
-    match field_scalars::optional_in(s, slot) {
-        Optional::Twice => Features::NoFeatures,
-        Optional::Missing => Features::Listed(0, true),
-        Optional::At(v, e) => {
-            let Array::Of(at, _) = array_at(s, v, e) else {
-                return Features::NoFeatures;
-            };
-            let known = all_known(s, at, writer);
-            Features::Listed(at, known)
-        }
-    }
+    let Some((v, e)) = field_scalars::optional_in(s, slot)? else {
+        return Some((0, true));
+    };
+    let (at, _) = array_at(s, v, e)?;
+    Some((at, all_known(s, at, writer)))
 }

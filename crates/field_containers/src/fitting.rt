@@ -10,8 +10,6 @@ ghost use Rattle.field_containers.specs.Strung.{Listed, IsList, Onward};
 
 use crate::lists;
 use crate::nested::{IN_FIELD, Usual};
-use field_names::Name;
-use field_objects::{Found, Met};
 use json_tokens::{CLOSE_BRACE, CLOSE_BRACKET};
 use json_values::Tail;
 
@@ -26,17 +24,7 @@ fn stands(s: &[u8], i: usize, end: usize, t: &[u8], j: usize) -> bool
     if 8 < size {
         return bytes_values::begins_with(&s[i..end], &t[j..]);
     }
-    if s.len() - i < 8 {
-        return false;
-    }
-    if t.len() - j < 8 {
-        return false;
-    }
-    let alike = bytes_eights::common(s, i, t, j, 8);
-    if alike < size {
-        return false;
-    }
-    true
+    8 <= s.len() - i && 8 <= t.len() - j && size <= bytes_eights::common(s, i, t, j, 8)
 }
 
 // `at` is behind an element of an array. Whether the array ends there.
@@ -44,11 +32,7 @@ fn closed_at(t: &[u8], at: usize) -> bool
     requires { at ≤ length t.now }
     ensures { result ≡ true → Ended t.now at }
 {
-    match json_values::closing(t, at, CLOSE_BRACKET) {
-        Tail::Neither => false,
-        Tail::Closed(_) => true,
-        Tail::More(_) => false,
-    }
+    matches!(json_values::closing(t, at, CLOSE_BRACKET), Tail::Closed(_))
 }
 
 // `values` is just after the brace of partition values in s, of whose names `usual` tells; `columns` is just after the bracket of an array of strings
@@ -62,23 +46,17 @@ pub fn usual_fit(s: &[u8], values: usize, usual: Usual, t: &[u8], columns: usize
     let end = usual.end;
     let second = usual.second;
     let last = usual.close;
-    if end == 0 {
+    if end == 0 || !stands(s, values, end, t, columns) {
         return false;
     }
-    if stands(s, values, end, t, columns) {
-        let close = columns + (end - values);
-        if second == 0 {
-            return closed_at(t, close);
-        }
-        let Tail::More(k) = json_values::closing(t, close, CLOSE_BRACKET) else {
-            return false;
-        };
-        if stands(s, second, last, t, k) {
-            return closed_at(t, k + (last - second));
-        }
-        return false;
+    let close = columns + (end - values);
+    if second == 0 {
+        return closed_at(t, close);
     }
-    false
+    let Tail::More(k) = json_values::closing(t, close, CLOSE_BRACKET) else {
+        return false;
+    };
+    stands(s, second, last, t, k) && closed_at(t, k + (last - second))
 }
 
 // ---- in step, as most writers put them
@@ -92,7 +70,7 @@ fn spelled_from(s: &[u8], at: usize, t: &[u8], from: usize) -> bool
     let mut i = at;
     let mut j = from;
     loop {
-        let Met::Member(n, _, e) = field_objects::read_member(s, i, IN_FIELD) else {
+        let Some((n, _, e)) = field_objects::read_member(s, i, IN_FIELD) else {
             return false;
         };
         let end = n.end;
@@ -153,7 +131,7 @@ fn names_among(s: &[u8], values: usize, t: &[u8], columns: usize) -> bool
         Tail::More(first) => {
             let mut i = first;
             loop {
-                let Met::Member(n, _, e) = field_objects::read_member(s, i, IN_FIELD) else {
+                let Some((n, _, e)) = field_objects::read_member(s, i, IN_FIELD) else {
                     return false;
                 };
                 let begin = n.at;
@@ -176,10 +154,7 @@ fn name_held(s: &[u8], values: usize, t: &[u8], j: usize) -> bool
     requires { (values ≤ length s.now) × Standing 29 s.now values × WellSpelled t.now j }
     ensures { (xs : List Bytes) → Object 29 s.now values xs → result ≡ holds (decoded (drop j t.now)) xs }
 {
-    match field_objects::find_name(s, values, IN_FIELD, t, j) {
-        Found::At(_, _) => true,
-        Found::Missing => false,
-    }
+    field_objects::find_name(s, values, IN_FIELD, t, j).is_some()
 }
 
 // Whether each of the strings is a name of the object.
@@ -193,7 +168,7 @@ fn columns_among(t: &[u8], columns: usize, s: &[u8], values: usize) -> bool
         Tail::More(first) => {
             let mut i = first;
             loop {
-                let Name::Of(n) = field_names::read_name(t, i) else {
+                let Some(n) = field_names::read_name(t, i) else {
                     return false;
                 };
                 let begin = n.at;
@@ -219,11 +194,6 @@ pub fn keys_fit(s: &[u8], values: usize, t: &[u8], columns: usize) -> bool
     ensures { (ps : Pairs) (cs : List Bytes) → Pairing s.now values ps → Listed t.now columns cs
         → result ≡ same_set (firsts ps) cs }
 {
-    if spelled_alike(s, values, t, columns) {
-        return true;
-    }
-    if names_among(s, values, t, columns) {
-        return columns_among(t, columns, s, values);
-    }
-    false
+    spelled_alike(s, values, t, columns)
+        || names_among(s, values, t, columns) && columns_among(t, columns, s, values)
 }

@@ -5,37 +5,27 @@ ghost use Rattle.rules.specs.Json.Values.{elements, value as rule_value};
 ghost use Rattle.json_strings.specs.Decoded.{decoded, WellSpelled};
 ghost use Rattle.field_containers.specs.Strung.{StringsIs, Listed, IsList, Onward};
 
-use field_names::Name;
 use json_tokens::CLOSE_BRACKET;
 use json_values::Tail;
 
-// How many strings an array holds, and the position behind it; or that it is no array of strings.
-#[derive(Clone, Copy)]
-pub enum Strings {
-    Good(usize, usize),
-    NotStrings,
-}
-
 // `at` is just after an array's opening bracket. Checks the whole array in one pass.
-pub fn strings_in(s: &[u8], at: usize) -> Strings
+pub fn strings_in(s: &[u8], at: usize) -> Option<(usize, usize)>
     requires { at ≤ length s.now }
     ensures { (d : ℕ) → StringsIs (elements (rule_value d) (drop at s.now)) s.now at result }
 {
     match json_values::opening(s, at, CLOSE_BRACKET) {
-        Tail::Neither => Strings::NotStrings,
-        Tail::Closed(end) => Strings::Good(0, end),
+        Tail::Neither => None,
+        Tail::Closed(end) => Some((0, end)),
         Tail::More(first) => {
             let mut i = first;
             let mut n = 0;
             loop {
-                let Name::Of(x) = field_names::read_name(s, i) else {
-                    return Strings::NotStrings;
-                };
+                let x = field_names::read_name(s, i)?;
                 n += 1;
                 let end = x.end;
                 match json_values::closing(s, end, CLOSE_BRACKET) {
-                    Tail::Neither => return Strings::NotStrings,
-                    Tail::Closed(e) => return Strings::Good(n, e),
+                    Tail::Neither => return None,
+                    Tail::Closed(e) => return Some((n, e)),
                     Tail::More(j) => i = j,
                 }
             }
@@ -50,7 +40,7 @@ fn held_from(s: &[u8], at: usize, t: &[u8], j: usize) -> bool
 {
     let mut i = at;
     loop {
-        let Name::Of(n) = field_names::read_name(s, i) else {
+        let Some(n) = field_names::read_name(s, i) else {
             return false;
         };
         let begin = n.at;
@@ -89,7 +79,7 @@ pub fn distinct_strings(s: &[u8], at: usize) -> bool
         Tail::More(first) => {
             let mut i = first;
             loop {
-                let Name::Of(n) = field_names::read_name(s, i) else {
+                let Some(n) = field_names::read_name(s, i) else {
                     return true;
                 };
                 let end = n.end;
@@ -117,10 +107,10 @@ fn same_from(s: &[u8], at: usize, t: &[u8], from: usize) -> bool
     let mut i = at;
     let mut j = from;
     loop {
-        let Name::Of(n) = field_names::read_name(s, i) else {
+        let Some(n) = field_names::read_name(s, i) else {
             return false;
         };
-        let Name::Of(m) = field_names::read_name(t, j) else {
+        let Some(m) = field_names::read_name(t, j) else {
             return false;
         };
         if json_strings::same_strings(s, n.at, t, m.at) {

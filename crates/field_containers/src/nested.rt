@@ -1,6 +1,5 @@
 // Fields of an action that hold others: the partition values of an add, and arrays of strings.
-ghost use Rattle.std.specs.Prelude.{◌≡◌, [], ◌≤◌, ◌<◌, ◌-◌, length, take, drop};
-ghost use Rattle.std.proofs.Math.Option.{some};
+ghost use Rattle.std.specs.Prelude.{◌≡◌, [], ◌≤◌, ◌<◌, ◌-◌, length, take, drop, Some};
 ghost use Rattle.rules.specs.Actions.{in_action, in_field, pairs};
 ghost use Rattle.rules.specs.Json.Values.{value as rule_value};
 ghost use Rattle.rules.specs.Json.Fields.{string_or_null, strings_of};
@@ -9,10 +8,9 @@ ghost use Rattle.field_scalars.specs.Texts.{Told};
 ghost use Rattle.field_containers.specs.Nested.{Opened, Opens, Second, values_from, JudgedIs, values_in, ValuesIs, ArrayIs, columns_in, ColumnsIs};
 
 use crate::lists;
-use crate::lists::Strings;
 use field_names::Spell;
-use field_objects::{Met, Slot};
-use json_tokens::{CLOSE_BRACE, Next, OPEN_BRACE, OPEN_BRACKET, QUOTE};
+use field_objects::Slot;
+use json_tokens::{CLOSE_BRACE, OPEN_BRACE, OPEN_BRACKET, QUOTE};
 use json_values::Tail;
 
 // How deep values may nest inside of a field of an action.
@@ -25,13 +23,10 @@ const MOST_COLUMNS: usize = 16;
 
 // Whether the value that stands from v to e is a string or null.
 fn string_or_null(s: &[u8], v: usize, e: usize) -> bool
-    requires { (v ≤ e) × (e ≤ length s.now) × (rule_value in_field (take (e - v) (drop v s.now)) ≡ some []) }
+    requires { (v ≤ e) × (e ≤ length s.now) × (rule_value in_field (take (e - v) (drop v s.now)) ≡ Some []) }
     ensures { Told (string_or_null (take (e - v) (drop v s.now))) result }
 {
-    match json_tokens::skip_byte(s, v, QUOTE) {
-        Next::At(_) => true,
-        Next::Bad => bytes_values::is_null(&s[v..e]),
-    }
+    json_tokens::skip_byte(s, v, QUOTE).is_some() || bytes_values::is_null(&s[v..e])
 }
 
 // `at` is just after an object's opening brace. Whether each value of that object is a string or null.
@@ -45,7 +40,7 @@ fn strings_or_nulls(s: &[u8], at: usize) -> bool
         Tail::More(first) => {
             let mut i = first;
             loop {
-                let Met::Member(_, v, e) = field_objects::read_member(s, i, IN_FIELD) else {
+                let Some((_, v, e)) = field_objects::read_member(s, i, IN_FIELD) else {
                     return true;
                 };
                 if string_or_null(s, v, e) {
@@ -67,10 +62,7 @@ fn many_values(s: &[u8], at: usize) -> bool
     requires { (at ≤ length s.now) × Opened s.now at }
     ensures { (w : Opened s.now at) → Told (values_from w.ms) result }
 {
-    if strings_or_nulls(s, at) {
-        return field_objects::distinct_names(s, at, IN_FIELD);
-    }
-    false
+    strings_or_nulls(s, at) && field_objects::distinct_names(s, at, IN_FIELD)
 }
 
 // Where the names of partition values stand, where they are one or two, as usual: the first from just after the brace up to `end`, the second from
@@ -82,40 +74,28 @@ pub struct Usual {
     pub close: usize,
 }
 
-// Members that are partition values, and where their names stand; or that they are none.
-#[derive(Clone, Copy)]
-enum Judged {
-    Good(Usual),
-    NotGood,
-}
-
 // Where the first name n ends, which begins at `first`; 0 where that is not `at`.
 fn told_end(at: usize, first: usize, n: Spell) -> usize
     ensures { 0 < result → (first ≡ at) × (n.end ≡ result) }
 {
-    if first == at {
-        return n.end;
-    }
-    0
+    if first == at { n.end } else { 0 }
 }
 
 // The same where the first of them has the name n, which is told to end at `end`, and the second begins at i: two are told at once.
-fn values_from(s: &[u8], at: usize, n: Spell, end: usize, i: usize) -> Judged
+fn values_from(s: &[u8], at: usize, n: Spell, end: usize, i: usize) -> Option<Usual>
     requires { (at ≤ length s.now) × Second s.now at n i × Opens s.now at n end }
     ensures { (w : Opened s.now at) → JudgedIs (values_from w.ms) s.now at result }
 {
-    let Met::Member(m, v, e) = field_objects::read_member(s, i, IN_FIELD) else {
-        return Judged::NotGood;
-    };
+    let (m, v, e) = field_objects::read_member(s, i, IN_FIELD)?;
     if string_or_null(s, v, e) {
         if field_objects::same_names(s, n, m) {
-            return Judged::NotGood;
+            return None;
         }
         match json_values::closing(s, e, CLOSE_BRACE) {
-            Tail::Neither => Judged::NotGood,
+            Tail::Neither => None,
             Tail::Closed(_) => {
                 let close = m.end;
-                Judged::Good(Usual {
+                Some(Usual {
                     end,
                     second: i,
                     close,
@@ -123,41 +103,39 @@ fn values_from(s: &[u8], at: usize, n: Spell, end: usize, i: usize) -> Judged
             }
             Tail::More(_) => {
                 if many_values(s, at) {
-                    return Judged::Good(Usual {
+                    return Some(Usual {
                         end: 0,
                         second: 0,
                         close: 0,
                     });
                 }
-                Judged::NotGood
+                None
             }
         }
     } else {
-        Judged::NotGood
+        None
     }
 }
 
 // `at` is just after an object's opening brace. Whether its members are partition values: strings or nulls under distinct names.
-fn are_values(s: &[u8], at: usize) -> Judged
+fn are_values(s: &[u8], at: usize) -> Option<Usual>
     requires { (at ≤ length s.now) × Opened s.now at }
     ensures { (w : Opened s.now at) → JudgedIs (values_from w.ms) s.now at result }
 {
     match json_values::opening(s, at, CLOSE_BRACE) {
-        Tail::Neither => Judged::NotGood,
-        Tail::Closed(_) => Judged::Good(Usual {
+        Tail::Neither => None,
+        Tail::Closed(_) => Some(Usual {
             end: 0,
             second: 0,
             close: 0,
         }),
         Tail::More(first) => {
-            let Met::Member(n, v, e) = field_objects::read_member(s, first, IN_FIELD) else {
-                return Judged::NotGood;
-            };
+            let (n, v, e) = field_objects::read_member(s, first, IN_FIELD)?;
             if string_or_null(s, v, e) {
                 let end = told_end(at, first, n);
                 match json_values::closing(s, e, CLOSE_BRACE) {
-                    Tail::Neither => Judged::NotGood,
-                    Tail::Closed(_) => Judged::Good(Usual {
+                    Tail::Neither => None,
+                    Tail::Closed(_) => Some(Usual {
                         end,
                         second: 0,
                         close: 0,
@@ -165,85 +143,51 @@ fn are_values(s: &[u8], at: usize) -> Judged
                     Tail::More(i) => values_from(s, at, n, end, i),
                 }
             } else {
-                Judged::NotGood
+                None
             }
         }
     }
 }
 
-// Partition values, by the position behind their brace and where their names stand; or none.
-#[derive(Clone, Copy)]
-pub enum Values {
-    Behind(usize, Usual),
-    NoValues,
-}
-
 // The partition values of a field that stands once.
-pub fn values_in(s: &[u8], slot: Slot) -> Values
+pub fn values_in(s: &[u8], slot: Slot) -> Option<(usize, Usual)>
     requires { Proper s.now slot }
     ensures { ValuesIs (values_in s.now slot) s.now result }
 {
     let start = slot.start;
     if slot.seen != 1 {
-        return Values::NoValues;
+        return None;
     }
-    let Next::At(at) = json_tokens::skip_byte(s, start, OPEN_BRACE) else {
-        return Values::NoValues;
-    };
-    let Judged::Good(usual) = are_values(s, at) else {
-        return Values::NoValues;
-    };
-    Values::Behind(at, usual)
+    let at = json_tokens::skip_byte(s, start, OPEN_BRACE)?;
+    let usual = are_values(s, at)?;
+    Some((at, usual))
 }
 
 // ---- arrays of strings
 
-// An array of strings, by the position behind its bracket, and how many; or none.
-#[derive(Clone, Copy)]
-pub enum Array {
-    Of(usize, usize),
-    NoArray,
-}
-
 // The array of strings that stands from v to e.
-pub fn array_at(s: &[u8], v: usize, e: usize) -> Array
-    requires { (v ≤ e) × (e ≤ length s.now) × (rule_value in_action (take (e - v) (drop v s.now)) ≡ some []) }
+pub fn array_at(s: &[u8], v: usize, e: usize) -> Option<(usize, usize)>
+    requires { (v ≤ e) × (e ≤ length s.now) × (rule_value in_action (take (e - v) (drop v s.now)) ≡ Some []) }
     ensures { ArrayIs (strings_of in_field (take (e - v) (drop v s.now))) s.now result }
 {
-    let Next::At(at) = json_tokens::skip_byte(s, v, OPEN_BRACKET) else {
-        return Array::NoArray;
-    };
-    let Strings::Good(n, _) = lists::strings_in(s, at) else {
-        return Array::NoArray;
-    };
-    Array::Of(at, n)
-}
-
-// Partition columns, by the position behind their bracket; or none.
-#[derive(Clone, Copy)]
-pub enum Columns {
-    Within(usize),
-    NoColumns,
+    let at = json_tokens::skip_byte(s, v, OPEN_BRACKET)?;
+    let (n, _) = lists::strings_in(s, at)?;
+    Some((at, n))
 }
 
 // The partition columns of a field that stands once.
-pub fn columns_in(s: &[u8], slot: Slot) -> Columns
+pub fn columns_in(s: &[u8], slot: Slot) -> Option<usize>
     requires { Proper s.now slot }
     ensures { ColumnsIs (columns_in s.now slot) s.now result }
 {
     let start = slot.start;
     let end = slot.end;
     if slot.seen != 1 {
-        return Columns::NoColumns;
+        return None;
     }
-    let Array::Of(at, n) = array_at(s, start, end) else {
-        return Columns::NoColumns;
-    };
+    let (at, n) = array_at(s, start, end)?;
     if MOST_COLUMNS < n {
-        return Columns::NoColumns;
+        return None;
     }
-    if lists::distinct_strings(s, at) {
-        return Columns::Within(at);
-    }
-    Columns::NoColumns
+    lists::distinct_strings(s, at).then_some(at)
 }

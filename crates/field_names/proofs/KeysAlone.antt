@@ -1,7 +1,7 @@
 -- A name at a place has one answer: the rules fix the string and what is left, and these the places.
 use mathlib.Core.Path.{◌≡◌, refl, sym, ap, ◌∙◌, subst}
 use mathlib.Core.Bool.{Bool, true, false}
-use mathlib.Core.Option.{Option, none}
+use Rattle.std.specs.Prelude.{Option, None}
 use Prim.Native.Nat.{ℕ, ◌+◌, ◌-◌, ◌≤◌, ◌<◌}
 use native.Mathlib.Omega.{arith}
 use lib.ListN.{length, drop, length-drop}
@@ -14,8 +14,7 @@ use Rattle.json_tokens.proofs.Alone.{left_alone}
 use Rattle.json_strings.specs.Decoded.{decoded}
 use Rattle.field_names.specs.Spelled.{Quoted, NameIs}
 use Rattle.field_names.specs.declared.keys.Spell.{Spell}
-use Rattle.field_names.specs.declared.keys.Name.{Name}
-use Rattle.field_names.specs.declared.keys.Name.TheVariants.{Of, NoName}
+use Rattle.std.specs.Prelude.{Some}
 
 module _ (s : Text) (at : ℕ) where
   abbrev spell : ℕ → ℕ → Bool → Spell
@@ -47,11 +46,11 @@ module _ (s : Text) (at : ℕ) where
       ap (λ (p : Bool). spell n.at n.end p) (plain-alone n.at n.end n.plain m.plain f moved)
       ∙ ap (λ (i : ℕ). spell i n.end m.plain) begins ∙ ap (λ (e : ℕ). spell m.at e m.plain) ends
 
-  no_name : {P : Type 0} (n : Spell) → Quoted s at n → (byte 0x22 (drop at s) >>= string) ≡ none → P
+  no_name : {P : Type 0} (n : Spell) → Quoted s at n → (byte 0x22 (drop at s) >>= string) ≡ None → P
   no_name n f e = answered-none f.named.closed (ap behind (sym (ap (λ (o : Option Text). o >>= string) f.quote) ∙ e))
 
-  pub name-alone : (r q : Name) → NameIs s at r → NameIs s at q → r ≡ q
-  name-alone (Of n) (Of m) f k = ap Of (quoted-alone n m f k)
-  name-alone (Of n) NoName f k = no_name n f k
-  name-alone NoName (Of m) f k = no_name m k f
-  name-alone NoName NoName f k = refl
+  pub name-alone : (r q : Option Spell) → NameIs s at r → NameIs s at q → r ≡ q
+  name-alone (Some n) (Some m) f k = ap Some (quoted-alone n m f k)
+  name-alone (Some n) None f k = no_name n f k
+  name-alone None (Some m) f k = no_name m k f
+  name-alone None None f k = refl

@@ -7,24 +7,21 @@ use Rattle.rules.specs.Json.Text.{Text}
 use Rattle.rules.proofs.Tests.{apart}
 use Rattle.field_names.specs.Spelled.{name_in}
 use Rattle.field_names.specs.declared.keys.Spell.{Spell}
-use Rattle.field_names.specs.declared.keys.Name.{Name as Read}
-use Rattle.field_names.specs.declared.keys.Name.TheVariants.{Of, NoName as NoRead}
+use Rattle.std.specs.Prelude.{Option, Some, None}
 use Rattle.field_names.proofs.KeysAlone.{name-alone}
 use Rattle.field_names.specs.Kinds.{seek}
 use Rattle.field_names.specs.Known.{KnownIs}
-use Rattle.field_names.specs.declared.places.Known.{Known}
-use Rattle.field_names.specs.declared.places.Known.TheVariants.{Name, NoName}
 
-spell_of : Spell → Read → Spell
-spell_of d (Of n) = n
-spell_of d NoRead = d
+spell_of : Spell → Option Spell → Spell
+spell_of d (Some n) = n
+spell_of d None = d
 
-pub known_alone : (s : Text) (at : ℕ) (names : List Bytes) (r q : Known) → KnownIs s at names r → KnownIs s at names q → r ≡ q
+pub known_alone : (s : Text) (at : ℕ) (names : List Bytes) (r q : Option (Spell × ℕ)) → KnownIs s at names r → KnownIs s at names q → r ≡ q
 unfolding spell_of
-known_alone s at names (Name n k) (Name m j) f g =
-    let same : n ≡ m = ap (spell_of n) (name-alone s at (Of n) (Of m) f.0 g.0) in
+known_alone s at names (Some (n, k)) (Some (m, j)) f g =
+    let same : n ≡ m = ap (spell_of n) (name-alone s at (Some n) (Some m) f.0 g.0) in
     let place : k ≡ j = f.1 ∙ ap (λ (x : Spell). seek (name_in s x) names) same ∙ sym g.1 in
-    ap (λ (x : Spell). Name x k) same ∙ ap (Name m) place
-known_alone s at names (Name n k) NoName f g = let e : Of n ≡ NoRead = name-alone s at (Of n) NoRead f.0 g in apart (cc)
-known_alone s at names NoName (Name m j) f g = let e : Of m ≡ NoRead = name-alone s at (Of m) NoRead g.0 f in apart (cc)
-known_alone s at names NoName NoName f g = refl
+    ap (λ (x : Spell). (Some (x, k))) same ∙ ap (λ (j : ℕ). Some (m, j)) place
+known_alone s at names (Some (n, k)) None f g = let e : Some n ≡ None = name-alone s at (Some n) None f.0 g in apart (cc)
+known_alone s at names None (Some (m, j)) f g = let e : Some m ≡ None = name-alone s at (Some m) None g.0 f in apart (cc)
+known_alone s at names None None f g = refl

@@ -4,7 +4,7 @@ ghost use Rattle.rules.specs.Bytes.{same};
 ghost use Rattle.field_names.specs.Spelled.{name_in, Named, NameIs};
 
 use json_strings::Spelling;
-use json_tokens::{Next, QUOTE};
+use json_tokens::QUOTE;
 
 // A name as it stands: behind its opening quote, behind its closing quote, and whether it is spelled as the bytes that it stands for.
 #[derive(Clone, Copy)]
@@ -14,33 +14,24 @@ pub struct Spell {
     pub plain: bool,
 }
 
-// A name in its quotes, or none.
-#[derive(Clone, Copy)]
-pub enum Name {
-    Of(Spell),
-    NoName,
-}
-
 // The name whose opening quote is at `at`.
-pub fn read_name(s: &[u8], at: usize) -> Name
+pub fn read_name(s: &[u8], at: usize) -> Option<Spell>
     requires { at ≤ length s.now }
     ensures { NameIs s.now at result }
 {
-    let Next::At(i) = json_tokens::skip_byte(s, at, QUOTE) else {
-        return Name::NoName;
-    };
+    let i = json_tokens::skip_byte(s, at, QUOTE)?;
     match json_strings::scan_string(s, i) {
-        Spelling::Plain(end) => Name::Of(Spell {
+        Spelling::Plain(end) => Some(Spell {
             at: i,
             end,
             plain: true,
         }),
-        Spelling::Escaped(end) => Name::Of(Spell {
+        Spelling::Escaped(end) => Some(Spell {
             at: i,
             end,
             plain: false,
         }),
-        Spelling::Bad => Name::NoName,
+        Spelling::Bad => None,
     }
 }
 

@@ -5,6 +5,6 @@ mod keys;
 mod kinds;
 mod places;
 
-pub use keys::{Name, Spell, name_is, read_name};
+pub use keys::{Spell, name_is, read_name};
 pub use kinds::{Kind, names_in};
-pub use places::{Known, read_known, which};
+pub use places::{read_known, which};

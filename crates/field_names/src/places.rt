@@ -6,10 +6,10 @@ ghost use Rattle.field_names.specs.Kinds.{names_of, seek};
 ghost use Rattle.field_names.specs.Known.{KnownIs};
 
 use crate::keys;
-use crate::keys::{Name, Spell};
+use crate::keys::Spell;
 use crate::kinds::{Kind, names_in, place_of};
-use json_strings::{Cursor, Step};
-use json_tokens::{Next, QUOTE};
+use json_strings::Cursor;
+use json_tokens::QUOTE;
 
 // The length of the longest name, in bytes.
 const LONGEST: usize = 16;
@@ -24,15 +24,13 @@ fn place_spelled(s: &[u8], at: usize, kind: Kind) -> usize
         code: 0,
         left: 0,
     };
-    let mut name = [0u8; 24];
-    let mut n = 0;
-    while n <= LONGEST {
-        let Step::Byte(b, d) = json_strings::next(s, c) else {
+    let mut name = [0u8; LONGEST + 1];
+    for n in 0..=LONGEST {
+        let Some((b, d)) = json_strings::next(s, c) else {
             return place_of(&name[..n], kind);
         };
         name[n] = b;
         c = d;
-        n += 1;
     }
     names_in(kind)
 }
@@ -52,13 +50,6 @@ pub fn which(s: &[u8], n: Spell, kind: Kind) -> usize
 }
 
 // ---- names that are read
-
-// A name in its quotes, with its place; or none.
-#[derive(Clone, Copy)]
-pub enum Known {
-    Name(Spell, usize),
-    NoName,
-}
 
 // How many bytes stand before a quote, where it stands behind as many as a name of an add has; else 0.
 fn size_at(s: &[u8], at: usize) -> usize
@@ -81,31 +72,27 @@ fn size_at(s: &[u8], at: usize) -> usize
 }
 
 // The name whose opening quote is at `at`. One of the kind is told by the quote behind it, with no look for where a string ends.
-pub fn read_known(s: &[u8], at: usize, kind: Kind) -> Known
+pub fn read_known(s: &[u8], at: usize, kind: Kind) -> Option<(Spell, usize)>
     requires { at ≤ length s.now }
     ensures { KnownIs s.now at (names_of kind) result }
 {
-    let Next::At(i) = json_tokens::skip_byte(s, at, QUOTE) else {
-        return Known::NoName;
-    };
+    let i = json_tokens::skip_byte(s, at, QUOTE)?;
     let size = size_at(s, i);
     if 0 < size {
         let last = i + size;
         let k = place_of(&s[i..last], kind);
         if k < names_in(kind) {
-            return Known::Name(
+            return Some((
                 Spell {
                     at: i,
                     end: last + 1,
                     plain: true,
                 },
                 k,
-            );
+            ));
         }
     }
-    let Name::Of(n) = keys::read_name(s, at) else {
-        return Known::NoName;
-    };
+    let n = keys::read_name(s, at)?;
     let k = which(s, n, kind);
-    Known::Name(n, k)
+    Some((n, k))
 }

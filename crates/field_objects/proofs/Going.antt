@@ -1,7 +1,7 @@
 -- The search for a name, member by member: what it has passed does not have the name, and what is left is asked.
 use mathlib.Core.Path.{◌≡◌, refl, sym, ap, ◌∙◌}
 use mathlib.Core.Bool.{true, false}
-use mathlib.Core.Option.{none, some}
+use Rattle.std.specs.Prelude.{None, Some}
 use mathlib.Core.List.{List, [], ◌∷◌}
 use Prim.Native.Nat.{ℕ, ◌+◌}
 use lib.ListN.{drop}
@@ -18,11 +18,10 @@ use Rattle.field_objects.specs.Standing.{Stands}
 use Rattle.field_names.specs.declared.keys.Spell.{Spell}
 use Rattle.field_objects.proofs.Passing.{and_then-some, items-first}
 use Rattle.field_objects.specs.Lookup.{Standing, Onward, lookup, FoundIs}
-use Rattle.field_objects.specs.declared.lookup.Found.TheVariants.{At}
 
 -- ---- the rule
 
-lookup-here : (name : Bytes) (m : Member) (ms : List Member) → same name m.0 ≡ true → lookup name (m ∷ ms) ≡ some m.1
+lookup-here : (name : Bytes) (m : Member) (ms : List Member) → same name m.0 ≡ true → lookup name (m ∷ ms) ≡ Some m.1
 unfolding lookup
 lookup-here name m ms e = rw (lookup, e)
 
@@ -30,20 +29,20 @@ lookup-past : (name : Bytes) (m : Member) (ms : List Member) → same name m.0 �
 unfolding lookup
 lookup-past name m ms e = rw (lookup, e)
 
-lookup-none : (name : Bytes) → lookup name [] ≡ none
+lookup-none : (name : Bytes) → lookup name [] ≡ None
 unfolding lookup
 lookup-none name = refl
 
 -- ---- behind the opening brace
 
 module _ (d : ℕ) (s : Text) (at : ℕ) (name : Bytes) (w : Standing d s at) where
-  pub standing-list : list (member (value d)) 0x7D (drop at s) ≡ some (w.ms, w.left)
+  pub standing-list : list (member (value d)) 0x7D (drop at s) ≡ Some (w.ms, w.left)
   standing-list = sym (contents-list (value d) (drop at s)) ∙ w.all
 
   pub standing-neither : {P : Type 0} → Follows (opening 0x7D (drop at s)) s at Neither → P
   standing-neither f = answered-none standing-list (list-neither (member (value d)) 0x7D (drop at s) f)
 
-  pub standing-closed : {k : ℕ} → Follows (opening 0x7D (drop at s)) s at (Closed k) → lookup name w.ms ≡ none
+  pub standing-closed : {k : ℕ} → Follows (opening 0x7D (drop at s)) s at (Closed k) → lookup name w.ms ≡ None
   standing-closed f = ap (lookup name) (value_same (sym standing-list ∙ list-closed (member (value d)) 0x7D (drop at s) f.0)) ∙ lookup-none name
 
   abbrev pub standing-more : (i : ℕ) → Follows (opening 0x7D (drop at s)) s at (More i) → Onward d s i
@@ -56,11 +55,11 @@ abbrev pub Going : (d : ℕ) (s : Text) (at : ℕ) (name : Bytes) (i : ℕ) → 
 Going d s at name i = (w : Onward d s at) → (o : Onward d s i) × (lookup name w.ms ≡ lookup name o.ms)
 
 module _ (d : ℕ) (s : Text) (at : ℕ) (name : Bytes) (i : ℕ) (g : Going d s at name i) where
-  pub going-none : {P : Type 0} → member (value d) (drop i s) ≡ none → Onward d s at → P
+  pub going-none : {P : Type 0} → member (value d) (drop i s) ≡ None → Onward d s at → P
   going-none e w = let (o, q) = g w in answered-none o.all (rest-none (member (value d)) 0x7D (drop i s) e)
 
   module _ (n : Spell) (v e : ℕ) (m : Stands (member (value d) (drop i s)) s i n v e) where
-    pub going-here : same name (name_in s n) ≡ true → (w : Onward d s at) → FoundIs (lookup name w.ms) s (At v e)
+    pub going-here : same name (name_in s n) ≡ true → (w : Onward d s at) → FoundIs (lookup name w.ms) s (Some (v, e))
     going-here h w =
         let (o, q) = g w in
         let (ns, f) = items-first (member (value d)) 0x7D (drop i s) m.read o.all in
@@ -70,7 +69,7 @@ module _ (d : ℕ) (s : Text) (at : ℕ) (name : Bytes) (i : ℕ) (g : Going d s
     going-neither f w = let (o, q) = g w in answered-none o.all (rest-neither (member (value d)) 0x7D (drop i s) m.read f)
 
     module _ (h : same name (name_in s n) ≡ false) where
-      pub going-closed : {k : ℕ} → Follows (closing 0x7D (drop e s)) s (e + 1) (Closed k) → (w : Onward d s at) → lookup name w.ms ≡ none
+      pub going-closed : {k : ℕ} → Follows (closing 0x7D (drop e s)) s (e + 1) (Closed k) → (w : Onward d s at) → lookup name w.ms ≡ None
       going-closed f w =
           let (o, q) = g w in
           q ∙ ap (lookup name) (value_same (sym o.all ∙ rest-closed (member (value d)) 0x7D (drop i s) m.read f.0)) ∙ lookup-past name _ [] h

@@ -1,7 +1,7 @@
 -- The places in the slots are those of the rules: a field that stands once begins where its slot says.
 use mathlib.Core.Path.{◌≡◌, refl, sym, ap, ◌∙◌, subst}
 use mathlib.Core.Bool.{Bool, true, false}
-use mathlib.Core.Option.{Option, some}
+use Rattle.std.specs.Prelude.{Option, Some}
 use mathlib.Core.List.{List, [], ◌∷◌, ◌++◌}
 use Prim.Native.Nat.{ℕ, zero, suc, ◌≤◌}
 use native.Mathlib.Omega.{arith}
@@ -37,14 +37,14 @@ module _ (d : ℕ) (s : Text) where
       let reads = value-reads d v r (spelled-left (value d) v b.text) in
       let passed : m.1 ≡ reads.passed = spelled-text (value d) v b.text ∙ reads-passed reads in
       let rest : drop (length m.1) v ≡ r = ap (λ (x : Text). drop (length x) v) passed ∙ sym (reads-left reads) in
-      let found : value_in t ≡ some v = rw (value_in, b.quote, b.name) b.parted in
+      let found : value_in t ≡ Some v = rw (value_in, b.quote, b.name) b.parted in
       subst (λ (o : Option Text). Placing s (placed s m o ∷ places_from s (following m o) ms) ((m.0, v) ∷ fs)) (sym found)
-      (subst (λ (u : Text). Placing s (placed s m (some v) ∷ places_from s (following m (some v)) ms) ((m.0, u) ∷ fs))
+      (subst (λ (u : Text). Placing s (placed s m (Some v) ∷ places_from s (following m (Some v)) ms) ((m.0, u) ∷ fs))
       (suffix-drop v s whole)
       (placing (subst (λ (u : Text). Placing s (places_from s (next_in (closing 0x7D u)) ms) fs) (sym rest) h)))
 
-  places-left : (at : ℕ) (ms : List Member) (r : Text) → contents (value d) (drop at s) ≡ some (ms, r)
-      → (fs : List Member) × (list (member_left (value d)) 0x7D (drop at s) ≡ some (fs, r)) × Placing s (places_in s at ms) fs
+  places-left : (at : ℕ) (ms : List Member) (r : Text) → contents (value d) (drop at s) ≡ Some (ms, r)
+      → (fs : List Member) × (list (member_left (value d)) 0x7D (drop at s) ≡ Some (fs, r)) × Placing s (places_in s at ms) fs
   unfolding places_in places_from next_in
   places-left at ms r e =
       list_left (value d) (λ t xs fs. Suffix t s → Placing s (places_from s t xs) fs)
@@ -95,7 +95,7 @@ module _ (s : Text) (name : Bytes) where
       go ih false i = ih o i
 
   abbrev Found : List Placed → List Member → Slot → Type 0
-  Found ps fs x = x.seen ≡ 0 → (slot_of name ps x).seen ≡ 1 → sole (under name fs) ≡ some (drop (slot_of name ps x).start s)
+  Found ps fs x = x.seen ≡ 0 → (slot_of name ps x).seen ≡ 1 → sole (under name fs) ≡ Some (drop (slot_of name ps x).start s)
 
   slot-left : {ps : List Placed} {fs : List Member} → Placing s ps fs → (x : Slot) → Found ps fs x
   unfolding slot_of under sole
@@ -107,15 +107,15 @@ module _ (s : Text) (name : Bytes) where
 
       go : Found ps fs x → (b : Bool) → (slot_of name ps (slot_by b (one_more x.seen v e) x)).seen ≡ 1
           → sole (elim b [ true ↦ drop v s ∷ under name fs | false ↦ under name fs ])
-          ≡ some (drop (slot_of name ps (slot_by b (one_more x.seen v e) x)).start s)
+          ≡ Some (drop (slot_of name ps (slot_by b (one_more x.seen v e) x)).start s)
       go ih true i =
           let (None-more, same-slot) = slot_kept h (one_more x.seen v e) (ap (λ (y : Slot). y.seen) first) i in
-          ap (λ (vs : List Text). sole (drop v s ∷ vs)) None-more ∙ ap (λ (y : Slot). some (drop y.start s)) (sym (same-slot ∙ first))
+          ap (λ (vs : List Text). sole (drop v s ∷ vs)) None-more ∙ ap (λ (y : Slot). Some (drop y.start s)) (sym (same-slot ∙ first))
       go ih false i = ih o i
 
 pub filled-left : (d : ℕ) (s : Text) (at : ℕ) (names : List Bytes) (end : ℕ) (slots : List Slot)
     → Filled (contents (value d) (drop at s)) s at names end slots → length names ≤ 8
-    → (fs : List Member) × (list (member_left (value d)) 0x7D (drop at s) ≡ some (fs, drop end s)) × EachLeft s names fs slots
+    → (fs : List Member) × (list (member_left (value d)) 0x7D (drop at s) ≡ Some (fs, drop end s)) × EachLeft s names fs slots
 filled-left d s at names end slots r few =
     let (fs, l, p) = places-left d s at r.ms (drop end s) r.all in (
       fs,
@@ -123,5 +123,5 @@ filled-left d s at names end slots r few =
       λ k h o.
           let here : get_or slots k missing ≡ slot_of (get_or names k []) (places_in s at r.ms) missing
           = ap (λ (xs : List Slot). get_or xs k missing) r.exact ∙ slots-named 8 names (places_in s at r.ms) k h (omega arith) in
-          slot-left s (get_or names k []) p missing refl (ap (λ (x : Slot). x.seen) (sym here) ∙ o) ∙ ap (λ (x : Slot). some (drop x.start s)) (sym here),
+          slot-left s (get_or names k []) p missing refl (ap (λ (x : Slot). x.seen) (sym here) ∙ o) ∙ ap (λ (x : Slot). Some (drop x.start s)) (sym here),
     )

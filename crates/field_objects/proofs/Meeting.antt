@@ -1,6 +1,6 @@
 -- An object met again, member by member, by the names.
 use mathlib.Core.Path.{◌≡◌, refl, sym, ap, ◌∙◌}
-use mathlib.Core.Option.{none, some}
+use Rattle.std.specs.Prelude.{None, Some}
 use mathlib.Core.List.{List, [], ◌∷◌}
 use Prim.Native.Nat.{ℕ, ◌+◌}
 use lib.ListN.{drop}
@@ -21,11 +21,11 @@ use Rattle.field_objects.proofs.Passing.{and_then-some, items-first}
 -- ---- behind the opening brace
 
 -- an object that was read
-pub contents-object : (d : ℕ) (s : Text) (at : ℕ) {ms : List Member} {left : Text} → contents (value d) (drop at s) ≡ some (ms, left) → IsObject d s at
+pub contents-object : (d : ℕ) (s : Text) (at : ℕ) {ms : List Member} {left : Text} → contents (value d) (drop at s) ≡ Some (ms, left) → IsObject d s at
 contents-object d s at {ms} {left} e = record { names = firsts ms; object = record { ms = ms; left = left; all = e; each = refl } }
 
 module _ (d : ℕ) (s : Text) (at : ℕ) (names : List Bytes) (w : Object d s at names) where
-  object-list : list (member (value d)) 0x7D (drop at s) ≡ some (w.ms, w.left)
+  object-list : list (member (value d)) 0x7D (drop at s) ≡ Some (w.ms, w.left)
   object-list = sym (contents-list (value d) (drop at s)) ∙ w.all
 
   pub object-neither : {P : Type 0} → Follows (opening 0x7D (drop at s)) s at Neither → P
@@ -46,7 +46,7 @@ module _ (d : ℕ) (s : Text) (at : ℕ) (names : List Bytes) (w : Object d s at
 -- ---- from a member on
 
 module _ (d : ℕ) (s : Text) (i : ℕ) (names : List Bytes) (w : Members d s i names) where
-  pub members-none : {P : Type 0} → member (value d) (drop i s) ≡ none → P
+  pub members-none : {P : Type 0} → member (value d) (drop i s) ≡ None → P
   members-none e = answered-none w.all (rest-none (member (value d)) 0x7D (drop i s) e)
 
   module _ (n : Spell) (v e : ℕ) (m : Stands (member (value d) (drop i s)) s i n v e) where

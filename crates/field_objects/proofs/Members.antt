@@ -1,7 +1,7 @@
 -- A member at positions of a text, by its parts.
 use mathlib.Core.Path.{◌≡◌, refl, ap, ◌∙◌}
 use mathlib.Core.Bool.{true}
-use mathlib.Core.Option.{Option, none, some}
+use Rattle.std.specs.Prelude.{Option, None, Some}
 use Prim.Native.Nat.{ℕ, ◌+◌, ◌≤◌}
 use native.Mathlib.Omega.{arith}
 use lib.ListN.{length, drop, get_or}
@@ -20,25 +20,25 @@ use Rattle.field_objects.specs.Standing.{Stands}
 use Rattle.field_names.specs.declared.keys.Spell.{Spell}
 
 module _ (read : Reader) (t : Text) where
-  pub member-nameless : (byte 0x22 t >>= string) ≡ none → member read t ≡ none
+  pub member-nameless : (byte 0x22 t >>= string) ≡ None → member read t ≡ None
   unfolding member
   member-nameless e = go (byte 0x22 t) refl e
     where
-      go : (o : Option Text) → byte 0x22 t ≡ o → (o >>= string) ≡ none → member read t ≡ none
-      go none p e = rw (member, p)
-      go (some n) p e = rw (member, p, e)
+      go : (o : Option Text) → byte 0x22 t ≡ o → (o >>= string) ≡ None → member read t ≡ None
+      go None p e = rw (member, p)
+      go (Some n) p e = rw (member, p, e)
 
-  module _ {n r : Text} {name : Bytes} (a : byte 0x22 t ≡ some n) (b : string n ≡ some (name, r)) where
-    pub member-no-colon : colon r ≡ none → member read t ≡ none
+  module _ {n r : Text} {name : Bytes} (a : byte 0x22 t ≡ Some n) (b : string n ≡ Some (name, r)) where
+    pub member-no-colon : colon r ≡ None → member read t ≡ None
     unfolding member
     member-no-colon c = rw (member, a, b, c)
 
-    pub member-no-value : {v : Text} → colon r ≡ some v → read v ≡ none → member read t ≡ none
+    pub member-no-value : {v : Text} → colon r ≡ Some v → read v ≡ None → member read t ≡ None
     unfolding member spelled
     member-no-value c d = rw (member, a, b, c, spelled, d)
 
 pub member-stands : (read : Reader) (s : Text) (i : ℕ) (n : Spell) (v e : ℕ) → Quoted s i n → n.end + 1 ≤ v → v + 1 ≤ e → e ≤ length s
-    → colon (drop n.end s) ≡ some (drop v s) → read (drop v s) ≡ some (drop e s)
+    → colon (drop n.end s) ≡ Some (drop v s) → read (drop v s) ≡ Some (drop e s)
     → Stands (member read (drop i s)) s i n v e
 unfolding value_in
 member-stands read s i n v e q h k w c d =
@@ -57,7 +57,7 @@ member-stands read s i n v e q h k w c d =
 
 -- ---- two plain strings, and a colon with nothing around it
 
-pub plain-stands : (d : ℕ) (s : Text) (at i n e : ℕ) → byte 0x22 (drop at s) ≡ some (drop i s) → at + 1 ≤ i → Scanned s i (Plain n) → n + 2 ≤ length s
+pub plain-stands : (d : ℕ) (s : Text) (at i n e : ℕ) → byte 0x22 (drop at s) ≡ Some (drop i s) → at + 1 ≤ i → Scanned s i (Plain n) → n + 2 ≤ length s
     → get_or s n 0 ≡ 0x3A → get_or s (n + 1) 0 ≡ 0x22 → Scanned s (n + 2) (Plain e)
     → Stands (member (value d) (drop at s)) s at (record { at = i; end = n; plain = true }) (n + 1) e
 plain-stands d s at i n e q low x fits c o y =

@@ -1,7 +1,7 @@
 -- The places of an object's members as a loop meets them, and the slots that hold them.
 use mathlib.Core.Path.{◌≡◌, refl, sym, ap, ◌∙◌}
 use mathlib.Core.Bool.{Bool, true}
-use mathlib.Core.Option.{some}
+use Rattle.std.specs.Prelude.{Some}
 use mathlib.Core.List.{List, [], ◌∷◌, ◌++◌}
 use Prim.Native.Nat.{ℕ, zero, suc, ◌+◌, ◌-◌, ◌≤◌, ◌<◌}
 use native.Mathlib.Omega.{arith}
@@ -47,7 +47,7 @@ module _
     (h : v ≤ e)
     (w : e ≤ length s)
     (here : followed t gone ≡ drop i s)
-    (c : value_in (drop i s) ≡ some (drop v s))
+    (c : value_in (drop i s) ≡ Some (drop v s))
   where
     m : Member
     m = (name, take (e - v) (drop v s))

@@ -1,12 +1,11 @@
 -- The scan of an object: the members that went by are in the slots, and each way out of the loop answers for the whole object.
-use mathlib.Core.Path.{◌≡◌, refl, sym, ap, ◌∙◌, subst}
-use mathlib.Core.Option.{Option, none}
+use mathlib.Core.Path.{◌≡◌, sym, ap, ◌∙◌, subst}
+use Rattle.std.specs.Prelude.{None}
 use mathlib.Core.List.{List, [], ◌∷◌, ◌++◌}
 use Prim.Native.Nat.{ℕ, ◌+◌, ◌-◌, ◌≤◌}
 use native.Mathlib.Omega.{arith}
 use lib.Dec.{ltb}
 use lib.ListN.{length, take, drop, get_or, set, replicate}
-use Rattle.rules.specs.Bytes.{Bytes}
 use Rattle.rules.specs.Json.Text.{Text, Reader}
 use Rattle.rules.specs.Json.Values.{Member, opening, closing, member, contents}
 use Rattle.rules.proofs.Json.Suffix.{EachReads}
@@ -16,12 +15,11 @@ use Rattle.json_values.specs.Follows.{Follows}
 use Rattle.json_values.specs.declared.Tail.TheVariants.{Closed, More, Neither}
 use Rattle.field_names.specs.Kinds.{names_of, seek}
 use Rattle.field_objects.specs.Places.{next_in, places_from, places_in}
-use Rattle.field_objects.specs.Slots.{missing, no_fields, one_more, slot_by, Noted, Each, slots_of, Filled, Scanned}
+use Rattle.field_objects.specs.Slots.{missing, one_more, slot_by, Noted, Each, slots_of, Filled}
 use Rattle.field_names.specs.Spelled.{name_in}
 use Rattle.field_objects.specs.Standing.{Stands}
 use Rattle.field_names.specs.declared.kinds.Kind.{Kind}
 use Rattle.field_objects.specs.declared.notes.Slot.{Slot}
-use Rattle.field_objects.specs.declared.notes.Fields.{Fields}
 use Rattle.field_names.specs.declared.keys.Spell.{Spell}
 use Rattle.field_names.proofs.Naming.{names-few, names-distinct, place-few}
 use Rattle.field_objects.proofs.Slots.{noted-at, each_start, each_more}
@@ -35,14 +33,10 @@ pub record Going (read : Reader) (s : Text) (at : ℕ) (kind : Kind) (slots : Li
   pub here : followed (next_in (opening 0x7D (drop at s))) gone ≡ drop i s
   pub exact : slots ≡ slots_of 8 (names_of kind) (places_in s at gone)
 
--- what is no object, by the answer that says so
-pub scanned-none : {o : Option (List Member × Text)} (s : Text) (at : ℕ) (names : List Bytes) {r : Fields} → r ≡ no_fields → o ≡ none → Scanned o s at names r
-scanned-none {o} s at names e f = subst (Scanned o s at names) (sym e) (f, refl, refl)
-
 module _ (read : Reader) (s : Text) (at : ℕ) (kind : Kind) where
   -- ---- behind the opening brace
 
-  pub opened-neither : Follows (opening 0x7D (drop at s)) s at Neither → contents read (drop at s) ≡ none
+  pub opened-neither : Follows (opening 0x7D (drop at s)) s at Neither → contents read (drop at s) ≡ None
   opened-neither f = contents-list read (drop at s) ∙ list-neither (member read) 0x7D (drop at s) f
 
   pub opened-closed : EachReads 1 read → at ≤ length s → (end : ℕ) → Follows (opening 0x7D (drop at s)) s at (Closed end)
@@ -70,11 +64,11 @@ module _ (read : Reader) (s : Text) (at : ℕ) (kind : Kind) where
   -- ---- a turn
 
   module _ (slots : List Slot) (i : ℕ) (g : Going read s at kind slots i) where
-    pub going-none : member read (drop i s) ≡ none → contents read (drop at s) ≡ none
+    pub going-none : member read (drop i s) ≡ None → contents read (drop at s) ≡ None
     going-none e = contents-list read (drop at s) ∙ passed_none g.passed e
 
     module _ (n : Spell) (v e : ℕ) (m : Stands (member read (drop i s)) s i n v e) where
-      pub going-neither : Follows (closing 0x7D (drop e s)) s (e + 1) Neither → contents read (drop at s) ≡ none
+      pub going-neither : Follows (closing 0x7D (drop e s)) s (e + 1) Neither → contents read (drop at s) ≡ None
       going-neither f = contents-list read (drop at s) ∙ passed-neither g.passed e m.read f
 
       module _ (x : Slot) (r names : ℕ) (place : r ≡ seek (name_in s n) (names_of kind)) (many : names ≡ length (names_of kind))

@@ -1,5 +1,5 @@
 -- Where the values of an object's members stand in a text: behind their names and colons, each behind the comma of the one before.
-use Rattle.std.proofs.Math.Option.{Option, none, some}
+use Rattle.std.specs.Prelude.{Option, None, Some}
 use Rattle.std.specs.Prelude.{List, [], ◌∷◌, ℕ, ◌+◌, ◌-◌, length, drop}
 use Rattle.rules.specs.Bytes.{Bytes, ◌>>=◌}
 use Rattle.rules.specs.Json.Text.{Text, byte}
@@ -24,12 +24,12 @@ value_in t = do
   colon r
 
 unfoldable pub placed : (s : Text) → Member → Option Text → Placed
-placed s m none = (m.0, 0, 0)
-placed s m (some v) = (m.0, length s - length v, length s - length v + length m.1)
+placed s m None = (m.0, 0, 0)
+placed s m (Some v) = (m.0, length s - length v, length s - length v + length m.1)
 
 unfoldable pub following : Member → Option Text → Text
-following m none = []
-following m (some v) = next_in (closing 0x7D (drop (length m.1) v))
+following m None = []
+following m (Some v) = next_in (closing 0x7D (drop (length m.1) v))
 
 -- the members with which t, a part of s up to its end, begins
 unfoldable pub places_from : (s t : Text) → List Member → List Placed

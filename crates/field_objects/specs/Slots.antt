@@ -1,6 +1,6 @@
 -- What a slot says of a field: how often it stands in an object, and where its value is.
 use Rattle.std.specs.Prelude.{◌≡◌, Bool, true, false, List, [], ◌∷◌, ℕ, zero, suc, ◌+◌, ◌-◌, ◌≤◌, ◌<◌, eqb, length, take, drop, get_or, replicate}
-use Rattle.std.proofs.Math.Option.{Option, none, some}
+use Rattle.std.specs.Prelude.{Option, None, Some}
 use Rattle.rules.specs.Bytes.{Bytes, same}
 use Rattle.rules.specs.Json.Text.{Text}
 use Rattle.rules.specs.Json.Values.{Member}
@@ -43,7 +43,7 @@ Each s names ms slots = (k : ℕ) → k < length names → Holds s (get_or slots
 -- a name's value that stands once begins where its slot says, by the places of the members
 abbrev pub EachLeft : Text → (names : List Bytes) → (lefts : List Member) → List Slot → Type 0
 EachLeft s names lefts slots =
-    (k : ℕ) → k < length names → (get_or slots k missing).seen ≡ 1 → sole (under (get_or names k []) lefts) ≡ some (drop (get_or slots k missing).start s)
+    (k : ℕ) → k < length names → (get_or slots k missing).seen ≡ 1 → sole (under (get_or names k []) lefts) ≡ Some (drop (get_or slots k missing).start s)
 
 -- the slot of a name, with one value more for each member that has it
 unfoldable pub slot_of : (name : Bytes) → List Placed → Slot → Slot
@@ -59,32 +59,25 @@ slots_of (suc n) (k ∷ ks) ps = slot_of k ps missing ∷ slots_of n ks ps
 -- o is what the rules say of the object behind whose brace `at` is
 pub record Filled (o : Option (List Member × Text)) (s : Text) (at : ℕ) (names : List Bytes) (end : ℕ) (slots : List Slot) : Type 0 where
   pub ms : List Member
-  pub all : o ≡ some (ms, drop end s)
+  pub all : o ≡ Some (ms, drop end s)
   pub from : at + 1 ≤ end
   pub within : end ≤ length s
   pub each : Each s names ms slots
   pub exact : slots ≡ slots_of 8 names (places_in s at ms)
 
--- no object
-abbrev pub no_fields : Fields
-no_fields = record { good = false; end = 0; slots = replicate 8 missing }
-
 -- two answers of which this is said are the same (proofs/Alone.antt)
-abbrev pub ScannedBy : Option (List Member × Text) → Text → (at : ℕ) → List Bytes → (good : Bool) → (end : ℕ) → List Slot → Type 0
-ScannedBy o s at names true end slots = Filled o s at names end slots
-ScannedBy o s at names false end slots = (o ≡ none) × (end ≡ 0) × (slots ≡ replicate 8 missing)
-
-abbrev pub Scanned : Option (List Member × Text) → Text → (at : ℕ) → List Bytes → Fields → Type 0
-Scanned o s at names r = ScannedBy o s at names r.good r.end r.slots
+abbrev pub Scanned : Option (List Member × Text) → Text → (at : ℕ) → List Bytes → Option Fields → Type 0
+Scanned o s at names (Some f) = Filled o s at names f.end f.slots
+Scanned o s at names None = o ≡ None
 
 -- the text of a field that stands once
 abbrev pub text_in : Text → (seen v e : ℕ) → Option Text
-text_in s zero v e = none
-text_in s (suc zero) v e = some (take (e - v) (drop v s))
-text_in s (suc (suc n)) v e = none
+text_in s zero v e = None
+text_in s (suc zero) v e = Some (take (e - v) (drop v s))
+text_in s (suc (suc n)) v e = None
 
 -- the same of a field that may be missing or null, which are alike
 abbrev pub optional_in : Text → (seen v e : ℕ) → Option (Option Text)
-optional_in s zero v e = some none
+optional_in s zero v e = Some None
 optional_in s (suc zero) v e = sole_or_none (take (e - v) (drop v s) ∷ [])
-optional_in s (suc (suc n)) v e = none
+optional_in s (suc (suc n)) v e = None

@@ -6,7 +6,7 @@ mod notes;
 mod objects;
 mod texts;
 
-pub use lookup::{Found, find_name};
+pub use lookup::find_name;
 pub use notes::{Fields, Slot};
-pub use objects::{Met, distinct_names, read_member, same_names, scan};
+pub use objects::{distinct_names, read_member, same_names, scan};
 pub use texts::object_of;

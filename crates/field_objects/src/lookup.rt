@@ -4,47 +4,37 @@ ghost use Rattle.json_strings.specs.Decoded.{decoded, WellSpelled};
 ghost use Rattle.field_objects.specs.Lookup.{Standing, Onward, lookup, FoundIs};
 
 use crate::objects;
-use crate::objects::Met;
 use json_tokens::CLOSE_BRACE;
 use json_values::Tail;
 
-// From where to where the value stands, or that there is none.
-#[derive(Clone, Copy)]
-pub enum Found {
-    At(usize, usize),
-    Missing,
-}
-
 // The same from the member at `at` on.
-fn find_from(s: &[u8], at: usize, depth: usize, t: &[u8], j: usize) -> Found
+fn find_from(s: &[u8], at: usize, depth: usize, t: &[u8], j: usize) -> Option<(usize, usize)>
     requires { (at ≤ length s.now) × Onward depth s.now at × WellSpelled t.now j }
     ensures { (o : Onward depth s.now at) → FoundIs (lookup (decoded (drop j t.now)) o.ms) s.now result }
 {
     let mut i = at;
     loop {
-        let Met::Member(n, v, e) = objects::read_member(s, i, depth) else {
-            return Found::Missing;
-        };
+        let (n, v, e) = objects::read_member(s, i, depth)?;
         let begin = n.at;
         if json_strings::same_strings(t, j, s, begin) {
-            return Found::At(v, e);
+            return Some((v, e));
         }
         match json_values::closing(s, e, CLOSE_BRACE) {
-            Tail::Neither => return Found::Missing,
-            Tail::Closed(_) => return Found::Missing,
+            Tail::Neither => return None,
+            Tail::Closed(_) => return None,
             Tail::More(k) => i = k,
         }
     }
 }
 
 // `at` is just after an object's opening brace. The value of its first member that has the name spelled in t from j on.
-pub fn find_name(s: &[u8], at: usize, depth: usize, t: &[u8], j: usize) -> Found
+pub fn find_name(s: &[u8], at: usize, depth: usize, t: &[u8], j: usize) -> Option<(usize, usize)>
     requires { (at ≤ length s.now) × Standing depth s.now at × WellSpelled t.now j }
     ensures { (o : Standing depth s.now at) → FoundIs (lookup (decoded (drop j t.now)) o.ms) s.now result }
 {
     match json_values::opening(s, at, CLOSE_BRACE) {
-        Tail::Neither => Found::Missing,
-        Tail::Closed(_) => Found::Missing,
+        Tail::Neither => None,
+        Tail::Closed(_) => None,
         Tail::More(first) => find_from(s, first, depth, t, j),
     }
 }

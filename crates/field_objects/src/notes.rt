@@ -1,9 +1,6 @@
 // Slots: how often each field of an object was seen, and where its value stands.
 ghost use Rattle.std.specs.Prelude.{◌≡◌};
-ghost use Rattle.field_objects.specs.Slots.{no_fields, one_more, slot_by};
-
-// The end of what is no object.
-const NOWHERE: usize = 0;
+ghost use Rattle.field_objects.specs.Slots.{one_more, slot_by};
 
 // How often a field stands in an object (2 for more), and where its value is if once.
 #[derive(Clone, Copy)]
@@ -13,10 +10,9 @@ pub struct Slot {
     pub end: usize,
 }
 
-// What an object holds: whether it is one, the position behind it, and a slot for each name of its kind, at most eight.
+// What an object holds: the position behind it, and a slot for each name of its kind, at most eight.
 #[derive(Clone, Copy)]
 pub struct Fields {
-    pub good: bool,
     pub end: usize,
     pub slots: [Slot; 8],
 }
@@ -48,20 +44,5 @@ pub fn noted(old: Slot, named: bool, start: usize, end: usize) -> Slot
         one_more(old.seen, start, end)
     } else {
         old
-    }
-}
-
-// What is no object.
-pub fn no_fields() -> Fields
-    ensures { result ≡ no_fields }
-{
-    Fields {
-        good: false,
-        end: NOWHERE,
-        slots: [Slot {
-            seen: 0,
-            start: 0,
-            end: 0,
-        }; 8],
     }
 }

@@ -8,44 +8,35 @@ ghost use Rattle.field_objects.specs.Standing.{MetIs, FoundIs};
 ghost use Rattle.field_objects.specs.Slots.{Scanned};
 ghost use Rattle.field_objects.specs.Namings.{Object, IsObject, Members};
 
-use crate::notes::{Fields, Slot, no_fields, noted};
-use field_names::{Kind, Known, Name, Spell};
-use json_tokens::{CLOSE_BRACE, COLON, Next, QUOTE};
+use crate::notes::{Fields, Slot, noted};
+use field_names::{Kind, Spell};
+use json_tokens::{CLOSE_BRACE, COLON, QUOTE};
 use json_values::Tail;
 
-// A member: its name, and from where to where its value stands; or none.
-#[derive(Clone, Copy)]
-pub enum Met {
-    Member(Spell, usize, usize),
-    NoMember,
-}
-
 // The member at `at` where it is two strings of plain bytes and a colon, as most are; none is also answered where it is another.
-fn plain_member(s: &[u8], at: usize) -> Met
+fn plain_member(s: &[u8], at: usize) -> Option<(Spell, usize, usize)>
     requires { at ≤ length s.now }
     ensures { (depth : ℕ) → FoundIs (member (rule_value depth) (drop at s.now)) s.now at result }
 {
-    let Next::At(i) = json_tokens::skip_byte(s, at, QUOTE) else {
-        return Met::NoMember;
-    };
+    let i = json_tokens::skip_byte(s, at, QUOTE)?;
     let n = json_characters::plain_end(s, i);
     if n == 0 {
-        return Met::NoMember;
+        return None;
     }
     if s.len() - n < 2 {
-        return Met::NoMember;
+        return None;
     }
     if s[n] != COLON {
-        return Met::NoMember;
+        return None;
     }
     if s[n + 1] != QUOTE {
-        return Met::NoMember;
+        return None;
     }
     let e = json_characters::plain_end(s, n + 2);
     if e == 0 {
-        return Met::NoMember;
+        return None;
     }
-    Met::Member(
+    Some((
         Spell {
             at: i,
             end: n,
@@ -53,40 +44,34 @@ fn plain_member(s: &[u8], at: usize) -> Met
         },
         n + 1,
         e,
-    )
+    ))
 }
 
 // The member at `at`, whatever it is: its name, the colon, its value.
-fn any_member(s: &[u8], at: usize, depth: usize) -> Met
+fn any_member(s: &[u8], at: usize, depth: usize) -> Option<(Spell, usize, usize)>
     requires { at ≤ length s.now }
     ensures { MetIs (member (rule_value depth) (drop at s.now)) s.now at result }
 {
-    let Name::Of(n) = field_names::read_name(s, at) else {
-        return Met::NoMember;
-    };
+    let n = field_names::read_name(s, at)?;
     let end = n.end;
-    let Next::At(v) = json_values::skip_colon(s, end) else {
-        return Met::NoMember;
-    };
-    let Next::At(e) = json_values::value(s, v, depth) else {
-        return Met::NoMember;
-    };
-    Met::Member(n, v, e)
+    let v = json_values::skip_colon(s, end)?;
+    let e = json_values::value(s, v, depth)?;
+    Some((n, v, e))
 }
 
 // The member at `at`, whose value nests at most `depth` deep.
-pub fn read_member(s: &[u8], at: usize, depth: usize) -> Met
+pub fn read_member(s: &[u8], at: usize, depth: usize) -> Option<(Spell, usize, usize)>
     requires { at ≤ length s.now }
     ensures { MetIs (member (rule_value depth) (drop at s.now)) s.now at result }
 {
-    let Met::Member(name, from, to) = plain_member(s, at) else {
-        return any_member(s, at, depth);
-    };
-    Met::Member(name, from, to)
+    if let Some((name, from, to)) = plain_member(s, at) {
+        return Some((name, from, to));
+    }
+    any_member(s, at, depth)
 }
 
 // `at` is just after an object's opening brace. Checks the whole object in one pass, and notes where the members that its kind names stand.
-pub fn scan(s: &[u8], at: usize, kind: Kind, depth: usize) -> Fields
+pub fn scan(s: &[u8], at: usize, kind: Kind, depth: usize) -> Option<Fields>
     requires { at ≤ length s.now }
     ensures { Scanned (contents (rule_value depth) (drop at s.now)) s.now at (names_of kind) result }
 {
@@ -97,38 +82,20 @@ pub fn scan(s: &[u8], at: usize, kind: Kind, depth: usize) -> Fields
         end: 0,
     }; 8];
     match json_values::opening(s, at, CLOSE_BRACE) {
-        Tail::Neither => return no_fields(),
-        Tail::Closed(end) => {
-            return Fields {
-                good: true,
-                end,
-                slots,
-            };
-        }
+        Tail::Neither => None,
+        Tail::Closed(end) => Some(Fields { end, slots }),
         Tail::More(first) => {
             let mut i = first;
             loop {
-                let Known::Name(n, k) = field_names::read_known(s, i, kind) else {
-                    return no_fields();
-                };
+                let (n, k) = field_names::read_known(s, i, kind)?;
                 let behind = n.end;
-                let Next::At(v) = json_values::skip_colon(s, behind) else {
-                    return no_fields();
-                };
-                let Next::At(e) = json_values::value(s, v, depth) else {
-                    return no_fields();
-                };
+                let v = json_values::skip_colon(s, behind)?;
+                let e = json_values::value(s, v, depth)?;
                 let old = slots[k];
                 slots[k] = noted(old, k < names, v, e);
                 match json_values::closing(s, e, CLOSE_BRACE) {
-                    Tail::Neither => return no_fields(),
-                    Tail::Closed(end) => {
-                        return Fields {
-                            good: true,
-                            end,
-                            slots,
-                        };
-                    }
+                    Tail::Neither => return None,
+                    Tail::Closed(end) => return Some(Fields { end, slots }),
                     Tail::More(j) => i = j,
                 }
             }
@@ -160,7 +127,7 @@ fn named_from(s: &[u8], at: usize, depth: usize, n: Spell) -> bool
 {
     let mut i = at;
     loop {
-        let Met::Member(m, _, e) = read_member(s, i, depth) else {
+        let Some((m, _, e)) = read_member(s, i, depth) else {
             return false;
         };
         if same_names(s, n, m) {
@@ -185,7 +152,7 @@ pub fn distinct_names(s: &[u8], at: usize, depth: usize) -> bool
         Tail::More(first) => {
             let mut i = first;
             loop {
-                let Met::Member(n, _, e) = read_member(s, i, depth) else {
+                let Some((n, _, e)) = read_member(s, i, depth) else {
                     return true;
                 };
                 match json_values::closing(s, e, CLOSE_BRACE) {

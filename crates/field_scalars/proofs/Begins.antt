@@ -1,6 +1,6 @@
 -- The text of a value from v to e by its first byte: what reads it behind that byte reads it in its place.
 use mathlib.Core.Path.{◌≡◌, refl, sym, ap, ◌∙◌}
-use mathlib.Core.Option.{none, some}
+use Rattle.std.specs.Prelude.{None, Some}
 use mathlib.Core.List.{[], ◌∷◌, ◌++◌}
 use Prim.Native.Nat.{ℕ, zero, suc, ◌+◌, ◌-◌, ◌≤◌}
 use native.Mathlib.Omega.{arith}
@@ -18,12 +18,12 @@ use Rattle.rules.proofs.Json.Places.{text-cons}
 use Rattle.field_scalars.proofs.Strings.{byte-text}
 
 -- the byte at v, and what stands behind it
-pub byte_next : (s : Text) (v i c : ℕ) → v ≤ length s → i ≤ length s → byte c (drop v s) ≡ some (drop i s) → i ≡ v + 1
+pub byte_next : (s : Text) (v i c : ℕ) → v ≤ length s → i ≤ length s → byte c (drop v s) ≡ Some (drop i s) → i ≡ v + 1
 byte_next s v i c h k b =
     let m : length s - v ≡ suc (length s - i) = sym (length-drop v s) ∙ ap length (byte-text c (drop v s) b) ∙ ap suc (length-drop i s) in
     omega arith
 
-module _ (d : ℕ) (s : Text) (v e : ℕ) (h : v ≤ e) (k : e ≤ length s) (w : value d (take (e - v) (drop v s)) ≡ some []) where
+module _ (d : ℕ) (s : Text) (v e : ℕ) (h : v ≤ e) (k : e ≤ length s) (w : value d (take (e - v) (drop v s)) ≡ Some []) where
   pub value-further : v + 1 ≤ e
   value-further = go (e - v) refl
     where
@@ -33,15 +33,15 @@ module _ (d : ℕ) (s : Text) (v e : ℕ) (h : v ≤ e) (k : e ≤ length s) (w 
 
   -- it begins with c, and `inside` reads it from there
   module _ {A : Type 0} (c : ℕ) (inside : Taker A) (opens : (t : Text) → value d (c ∷ t) ≡ behind (inside t))
-      (extends : (t u : Text) (a : A) (r : Text) → inside t ≡ some (a, r) → inside (t ++ u) ≡ some (a, r ++ u))
+      (extends : (t u : Text) (a : A) (r : Text) → inside t ≡ Some (a, r) → inside (t ++ u) ≡ Some (a, r ++ u))
       (i : ℕ)
       (l : i ≤ length s)
-      (b : byte c (drop v s) ≡ some (drop i s))
+      (b : byte c (drop v s) ≡ Some (drop i s))
     where
       pub begins-here : drop v s ≡ c ∷ drop (v + 1) s
       begins-here = byte-text c (drop v s) b ∙ ap (λ (j : ℕ). c ∷ drop j s) (byte_next s v i c (omega arith) l b)
 
-      pub inside-here : (a : A) × (inside (drop (v + 1) s) ≡ some (a, drop e s))
+      pub inside-here : (a : A) × (inside (drop (v + 1) s) ≡ Some (a, drop e s))
       unfolding part
       inside-here =
           let y : Text = take (e - (v + 1)) (drop (v + 1) s) in
@@ -50,7 +50,7 @@ module _ (d : ℕ) (s : Text) (v e : ℕ) (h : v ≤ e) (k : e ≤ length s) (w 
           (a, sym (ap inside (part-rest s (v + 1) e more)) ∙ extends y (drop e s) a [] f)
 
   -- it begins with another byte
-  pub begins-other : (c : ℕ) → byte c (drop v s) ≡ none → (b : ℕ) × (y : Text) × (b ≡ c → ⊥) × (take (e - v) (drop v s) ≡ b ∷ y)
+  pub begins-other : (c : ℕ) → byte c (drop v s) ≡ None → (b : ℕ) × (y : Text) × (b ≡ c → ⊥) × (take (e - v) (drop v s) ≡ b ∷ y)
   unfolding byte
   begins-other c n = go (drop v s) refl
     where

@@ -5,7 +5,6 @@ pub mod Strings
 pub mod Begins
 pub mod Sizes
 pub mod Paths
-pub mod Versioned
 pub mod Counted
 pub mod Stated
 pub mod Alone

@@ -1,11 +1,9 @@
--- A path is a string of 1 to 512 decoded bytes, and an id one that is not empty.
+-- A path is a string of 1 to 512 decoded bytes.
 use mathlib.Core.Path.{◌≡◌, refl, sym, ap, ◌∙◌, subst}
 use mathlib.Core.Bool.{Bool}
-use mathlib.Core.Option.{Option, none, some}
+use Rattle.std.specs.Prelude.{Option, None, Some}
 use Prim.Native.Nat.{ℕ, ◌+◌, ◌-◌, ◌≤◌, ◌<◌}
 use native.Mathlib.Omega.{arith}
-use borrow.Author.Tests.{lt-leb, le-leb}
-use lib.Dec.{leb}
 use lib.ListN.{length, drop}
 use Rattle.rules.specs.Actions.{in_action}
 use Rattle.rules.specs.Bytes.{Bytes, ◌>>=◌, guard, among}
@@ -17,45 +15,34 @@ use Rattle.rules.proofs.Ranges.{among-within, among_below, among-above}
 use Rattle.json_strings.specs.Decoded.{decoded}
 use Rattle.field_objects.specs.declared.notes.Slot.{Slot}
 use Rattle.field_scalars.specs.Inside.{Proper, string_in}
-use Rattle.field_scalars.specs.Texts.{Read, path_of, id_of}
+use Rattle.field_scalars.specs.Texts.{Read, path_of}
 use Rattle.field_scalars.proofs.Single.{proper-single, text-single}
 use Rattle.field_scalars.proofs.Strings.{string_of-none}
 use Rattle.field_scalars.proofs.Begins.{byte_next}
 use Rattle.field_scalars.proofs.Sizes.{quoted-ends, quoted-read, quoted-most, quoted-least}
 
 module _ {o : Option Bytes} {s : Text} {p n : ℕ} (r : Read o s p) (size : n ≡ length (decoded (drop p s))) where
-  sized : {test : Bool} → among 1 512 n ≡ test → path_of o ≡ (guard test >>= (λ _. some (decoded (drop p s))))
-  sized {test} e = ap path_of r.says ∙ ap (λ (b : Bool). guard b >>= (λ _. some (decoded (drop p s)))) (ap (among 1 512) (sym size) ∙ e)
+  sized : {test : Bool} → among 1 512 n ≡ test → path_of o ≡ (guard test >>= (λ _. Some (decoded (drop p s))))
+  sized {test} e = ap path_of r.says ∙ ap (λ (b : Bool). guard b >>= (λ _. Some (decoded (drop p s)))) (ap (among 1 512) (sym size) ∙ e)
 
-  pub path_empty : n ≡ 0 → path_of o ≡ none
+  pub path_empty : n ≡ 0 → path_of o ≡ None
   path_empty z = sized (among_below 1 512 n (omega arith))
 
-  pub path-long : 512 < n → path_of o ≡ none
+  pub path-long : 512 < n → path_of o ≡ None
   path-long l = sized (among-above 1 512 n (omega arith) l)
 
   pub path-good : (n ≡ 0 → ⊥) → n ≤ 512 → Read (path_of o) s p
   path-good z l = record { spelled = r.spelled; says = sized (among-within 1 512 n (omega arith) l) }
 
-  -- an id
-
-  id-by : {test : Bool} → leb 1 n ≡ test → id_of o ≡ (guard test >>= (λ _. some (decoded (drop p s))))
-  id-by {test} e = ap id_of r.says ∙ ap (λ (b : Bool). guard b >>= (λ _. some (decoded (drop p s)))) (ap (leb 1) (sym size) ∙ e)
-
-  pub id-empty : n ≡ 0 → id_of o ≡ none
-  id-empty z = id-by (lt-leb 1 n (omega arith))
-
-  pub id-good : (n ≡ 0 → ⊥) → Read (id_of o) s p
-  id-good z = record { spelled = r.spelled; says = id-by (le-leb 1 n (omega arith)) }
-
 -- ---- the path of a field that stands once, by the first byte of its text
 
 module _ (s : Text) (x : Slot) (p : Proper s x) (sole : x.seen ≡ 1) where
-  pub path-no-string : byte 0x22 (drop x.start s) ≡ none → path_of (string_in s x) ≡ none
+  pub path-no-string : byte 0x22 (drop x.start s) ≡ None → path_of (string_in s x) ≡ None
   path-no-string n =
       let q = proper-single s x sole p in
       ap path_of (sym (text-single s x string_of sole) ∙ string_of-none s x.start x.end q.0 (ap (λ (o : Option Text). o >>= string) n))
 
-  module _ (i : ℕ) (l : i ≤ length s) (b : byte 0x22 (drop x.start s) ≡ some (drop i s)) where
+  module _ (i : ℕ) (l : i ≤ length s) (b : byte 0x22 (drop x.start s) ≡ Some (drop i s)) where
     pub path-ends : i + 1 ≤ x.end
     path-ends = let q = proper-single s x sole p in quoted-ends in_action s x.start x.end q.0 q.1 q.2 i l b
 
@@ -67,7 +54,7 @@ module _ (s : Text) (x : Slot) (p : Proper s x) (sole : x.seen ≡ 1) where
         let q = proper-single s x sole p in
         subst (λ (o : Option Bytes). Read o s i) (text-single s x string_of sole) (quoted-read in_action s x.start x.end q.0 q.1 q.2 i l b)
 
-    pub path-unspelled : x.end - 1 - i ≡ 0 → path_of (string_in s x) ≡ none
+    pub path-unspelled : x.end - 1 - i ≡ 0 → path_of (string_in s x) ≡ None
     path-unspelled z =
         let q = proper-single s x sole p in
         path_empty here refl (omega (arith, quoted-most in_action s x.start x.end q.0 q.1 q.2 i l b))

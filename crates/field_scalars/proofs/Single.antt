@@ -1,17 +1,15 @@
 -- A field by how often it was seen: once, and where it stands; or not once.
 use mathlib.Core.Path.{◌≡◌, refl, sym, ap, subst}
-use mathlib.Core.Option.{Option, none, some}
+use Rattle.std.specs.Prelude.{Option, None, Some}
 use mathlib.Core.List.{List, []}
 use Prim.Native.Nat.{ℕ, zero, suc, ◌-◌, ◌≤◌}
 use lib.ListN.{length, take, drop}
 use Rattle.rules.specs.Actions.{in_action}
-use Rattle.rules.specs.Bytes.{ascii, same, first, ◌>>=◌}
+use Rattle.rules.specs.Bytes.{◌>>=◌}
 use Rattle.rules.specs.Json.Text.{Text}
-use Rattle.rules.specs.Json.Numbers.{int, whole}
-use Rattle.rules.specs.Json.Fields.{bool_of}
 use Rattle.rules.specs.Json.Values.{value}
 use Rattle.field_objects.specs.Slots.{text_in, Times}
-use Rattle.field_scalars.specs.Inside.{InsideBy, Inside, ProperBy, Proper, once_in, or_nothing}
+use Rattle.field_scalars.specs.Inside.{InsideBy, Inside, ProperBy, Proper}
 use Rattle.field_scalars.specs.Optionals.{There}
 use Rattle.field_objects.specs.declared.notes.Slot.{Slot}
 
@@ -26,7 +24,7 @@ module _ (s : Text) (x : Slot) where
   inside-single p i = subst (λ (n : ℕ). InsideBy s n x.start x.end) p i
 
   pub proper-single : x.seen ≡ 1 → Proper s x
-      → (x.start ≤ x.end) × (x.end ≤ length s) × (value in_action (take (x.end - x.start) (drop x.start s)) ≡ some [])
+      → (x.start ≤ x.end) × (x.end ≤ length s) × (value in_action (take (x.end - x.start) (drop x.start s)) ≡ Some [])
   proper-single p i = subst (λ (n : ℕ). ProperBy s n x.start x.end) p i
 
   pub proper-inside : Proper s x → Inside s x
@@ -39,46 +37,21 @@ module _ (s : Text) (x : Slot) where
 
   -- the same of a value that `optional_in` finds
   pub proper-there : {o : Option (Option Text)} {v e : ℕ} → Proper s x → There o s x v e
-      → (v ≤ e) × (e ≤ length s) × (value in_action (take (e - v) (drop v s)) ≡ some [])
+      → (v ≤ e) × (e ≤ length s) × (value in_action (take (e - v) (drop v s)) ≡ Some [])
   proper-there {o} {v} {e} p t =
       let q = proper-single t.once p in
-      let ends : value in_action (take (x.end - v) (drop v s)) ≡ some [] =
-      subst (λ (i : ℕ). value in_action (take (x.end - i) (drop i s)) ≡ some []) (sym t.begins) q.2 in
-      (t.ordered, t.within, subst (λ (i : ℕ). value in_action (take (i - v) (drop v s)) ≡ some []) (sym t.ends) ends)
+      let ends : value in_action (take (x.end - v) (drop v s)) ≡ Some [] =
+      subst (λ (i : ℕ). value in_action (take (x.end - i) (drop i s)) ≡ Some []) (sym t.begins) q.2 in
+      (t.ordered, t.within, subst (λ (i : ℕ). value in_action (take (i - v) (drop v s)) ≡ Some []) (sym t.ends) ends)
 
   pub text-single : {A : Type 0} (of : Text → Option A) → x.seen ≡ 1
       → of (take (x.end - x.start) (drop x.start s)) ≡ (text_in s x.seen x.start x.end >>= of)
   text-single of p = sym (ap (λ (n : ℕ). text_in s n x.start x.end >>= of) p)
 
-  pub text-not-single : {A : Type 0} (of : Text → Option A) → (x.seen ≡ 1 → ⊥) → none ≡ (text_in s x.seen x.start x.end >>= of)
+  pub text-not-single : {A : Type 0} (of : Text → Option A) → (x.seen ≡ 1 → ⊥) → None ≡ (text_in s x.seen x.start x.end >>= of)
   text-not-single of f = go x.seen f
     where
-      go : (n : ℕ) → (n ≡ 1 → ⊥) → none ≡ (text_in s n x.start x.end >>= of)
+      go : (n : ℕ) → (n ≡ 1 → ⊥) → None ≡ (text_in s n x.start x.end >>= of)
       go zero f = refl
       go (suc zero) f = absurd (f refl)
       go (suc (suc n)) f = refl
-
-  pub once-there : x.seen ≡ 1 → take (x.end - x.start) (drop x.start s) ≡ or_nothing (once_in s x)
-  once-there p = sym (ap (λ (n : ℕ). or_nothing (text_in s n x.start x.end)) p)
-
-  pub once-none : (x.seen ≡ 1 → ⊥) → [] ≡ or_nothing (once_in s x)
-  once-none f = go x.seen f
-    where
-      go : (n : ℕ) → (n ≡ 1 → ⊥) → [] ≡ or_nothing (text_in s n x.start x.end)
-      go zero f = refl
-      go (suc zero) f = absurd (f refl)
-      go (suc (suc n)) f = refl
-
--- ---- an empty text, where there is none
-
-pub nothing-none : {A : Type 0} (of : Text → Option A) (o : Option Text) → of [] ≡ none → of (or_nothing o) ≡ (o >>= of)
-nothing-none of none e = e
-nothing-none of (some t) e = refl
-
-pub whole-nothing : whole [] ≡ none
-unfolding whole int
-whole-nothing = refl
-
-pub bool_of-nothing : bool_of [] ≡ none
-unfolding bool_of ascii same first
-bool_of-nothing = refl

@@ -1,6 +1,6 @@
 -- How many bytes a string stands for, by how many it is spelled with: no more, and none only where there are none.
 use mathlib.Core.Path.{◌≡◌, refl, sym, ap, ◌∙◌}
-use mathlib.Core.Option.{Option, none, some}
+use Rattle.std.specs.Prelude.{Option, None, Some}
 use mathlib.Core.List.{[], ◌∷◌}
 use Prim.Native.Nat.{ℕ, ◌+◌, ◌-◌, ◌≤◌, ◌<◌}
 use native.Mathlib.Omega.{arith}
@@ -28,18 +28,18 @@ use Rattle.field_scalars.proofs.Strings.{string-read}
 use Rattle.field_scalars.proofs.Begins.{byte_next, inside-here, value-further}
 
 -- a string that does not end at once stands for some bytes
-string-some : (t : Text) {x : Bytes} {r : Text} → string t ≡ some (x, r) → length r + 1 < length t → 0 < length x
+string-some : (t : Text) {x : Bytes} {r : Text} → string t ≡ Some (x, r) → length r + 1 < length t → 0 < length x
 string-some [] e l = answered-none e string-end
 string-some (b ∷ t) {x} {r} e l = by (eqb b 0x22)
     (λ p. let ends : length t ≡ length r = ap length (left-same (sym (string-quote t) ∙ sym (ap (λ (c : ℕ). string (c ∷ t)) (eqb-true b 0x22 p)) ∙ e)) in
     absurd (omega arith))
     (λ p. by (eqb b 0x5C)
-    (λ q. let f : string (0x5C ∷ t) ≡ some (x, r) = sym (ap (λ (c : ℕ). string (c ∷ t)) (eqb-true b 0x5C q)) ∙ e in go f (escaped t) refl)
+    (λ q. let f : string (0x5C ∷ t) ≡ Some (x, r) = sym (ap (λ (c : ℕ). string (c ∷ t)) (eqb-true b 0x5C q)) ∙ e in go f (escaped t) refl)
     (λ q. omega (arith, ap length (sym (flat-itself b t (eqb-false b 0x22 p) (eqb-false b 0x5C q)) ∙ string-flat (b ∷ t) e))))
   where
-    go : string (0x5C ∷ t) ≡ some (x, r) → (o : Option (ℕ × Text)) → escaped t ≡ o → 0 < length x
-    go f none h = answered-none f (string-none 0x5C t (λ q. omega arith) (char-escape t ∙ ap (λ o. o >>= (λ p. some (utf8 p.0, p.1))) h))
-    go f (some c) h =
+    go : string (0x5C ∷ t) ≡ Some (x, r) → (o : Option (ℕ × Text)) → escaped t ≡ o → 0 < length x
+    go f None h = answered-none f (string-none 0x5C t (λ q. omega arith) (char-escape t ∙ ap (λ o. o >>= (λ p. Some (utf8 p.0, p.1))) h))
+    go f (Some c) h =
         omega (arith, (size-bounds c.0).some, length-append (utf8 c.0) (flat c.1), ap length (sym (flat-escape t h) ∙ string-flat (0x5C ∷ t) f))
 
 -- the text of a value from v to e that begins with a quote, i behind it
@@ -49,15 +49,15 @@ module _
     (v e : ℕ)
     (h : v ≤ e)
     (k : e ≤ length s)
-    (w : value d (take (e - v) (drop v s)) ≡ some [])
+    (w : value d (take (e - v) (drop v s)) ≡ Some [])
     (i : ℕ)
     (l : i ≤ length s)
-    (b : byte 0x22 (drop v s) ≡ some (drop i s))
+    (b : byte 0x22 (drop v s) ≡ Some (drop i s))
   where
     quote-next : i ≡ v + 1
     quote-next = byte_next s v i 0x22 (omega arith) l b
 
-    string-here : (x : Bytes) × (string (drop i s) ≡ some (x, drop e s))
+    string-here : (x : Bytes) × (string (drop i s) ≡ Some (x, drop e s))
     string-here =
         let (x, f) = inside-here d s v e h k w 0x22 string (λ t. value-scalar d 0x22 t (λ q. omega arith) (λ q. omega arith) ∙ scalar-string t)
         (λ t u a r. string-extends (length t) t u (omega arith)) i l b in

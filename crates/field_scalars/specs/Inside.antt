@@ -1,6 +1,6 @@
 -- A field by its slot: its value, if there is one, stands within the text, and the text of the value is what the rules read.
 use Rattle.std.specs.Prelude.{◌≡◌, Bool, [], ℕ, zero, suc, ◌-◌, ◌≤◌, length, take, drop}
-use Rattle.std.proofs.Math.Option.{Option, none, some}
+use Rattle.std.specs.Prelude.{Option, Some}
 use Rattle.rules.specs.Actions.{in_action}
 use Rattle.rules.specs.Bytes.{Bytes, ◌>>=◌}
 use Rattle.rules.specs.Json.Text.{Text}
@@ -21,7 +21,7 @@ Inside s x = InsideBy s x.seen x.start x.end
 -- a field of an action by its slot: its text, if there is one, stands within s and is a value
 abbrev pub ProperBy : Text → (seen v e : ℕ) → Type 0
 ProperBy s zero v e = Unit {0}
-ProperBy s (suc zero) v e = (v ≤ e) × (e ≤ length s) × (value in_action (take (e - v) (drop v s)) ≡ some [])
+ProperBy s (suc zero) v e = (v ≤ e) × (e ≤ length s) × (value in_action (take (e - v) (drop v s)) ≡ Some [])
 ProperBy s (suc (suc n)) v e = Unit {0}
 
 abbrev pub Proper : Text → Slot → Type 0
@@ -30,11 +30,6 @@ Proper s x = ProperBy s x.seen x.start x.end
 -- the text of a field that stands once
 abbrev pub once_in : Text → Slot → Option Text
 once_in s x = text_in s x.seen x.start x.end
-
--- an empty text where there is none
-abbrev pub or_nothing : Option Text → Text
-or_nothing none = []
-or_nothing (some t) = t
 
 abbrev pub whole_in : Text → Slot → Option ℕ
 whole_in s x = once_in s x >>= whole

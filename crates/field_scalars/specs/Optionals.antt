@@ -1,11 +1,9 @@
 -- A field that may be missing or null, and where its value stands. No two answers are so (proofs/Alone.antt).
 use Rattle.std.specs.Prelude.{◌≡◌, ℕ, ◌-◌, ◌≤◌, length, take, drop}
-use Rattle.std.proofs.Math.Option.{Option, none, some}
+use Rattle.std.specs.Prelude.{Option, None, Some}
 use Rattle.rules.specs.Json.Text.{Text}
 use Rattle.field_objects.specs.Slots.{optional_in}
 use Rattle.field_objects.specs.declared.notes.Slot.{Slot}
-use Rattle.field_scalars.specs.declared.Optional.{Optional}
-use Rattle.field_scalars.specs.declared.Optional.TheVariants.{At, Missing, Twice}
 
 abbrev pub optional_of : Text → Slot → Option (Option Text)
 optional_of t x = optional_in t x.seen x.start x.end
@@ -16,14 +14,14 @@ between t v e = take (e - v) (drop v t)
 
 -- o is the text from v to e, where the field stands once
 pub record There (o : Option (Option Text)) (t : Text) (x : Slot) (v e : ℕ) : Type 0 where
-  pub says : o ≡ some (some (between t v e))
+  pub says : o ≡ Some (Some (between t v e))
   pub once : x.seen ≡ 1
   pub begins : v ≡ x.start
   pub ends : e ≡ x.end
   pub ordered : v ≤ e
   pub within : e ≤ length t
 
-abbrev pub OptionalIs : Option (Option Text) → Text → Slot → Optional → Type 0
-OptionalIs o t x (At v e) = There o t x v e
-OptionalIs o t x Missing = o ≡ some none
-OptionalIs o t x Twice = o ≡ none
+abbrev pub OptionalIs : Option (Option Text) → Text → Slot → Option (Option (ℕ × ℕ)) → Type 0
+OptionalIs o t x (Some (Some (v, e))) = There o t x v e
+OptionalIs o t x (Some None) = o ≡ Some None
+OptionalIs o t x None = o ≡ None

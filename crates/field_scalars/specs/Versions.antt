@@ -1,5 +1,5 @@
 -- The number of a protocol that a whole number is.
-use Rattle.std.proofs.Math.Option.{Option}
+use Rattle.std.specs.Prelude.{Option}
 use Rattle.std.specs.Prelude.{ℕ}
 use Rattle.rules.specs.Bytes.{◌>>=◌}
 use Rattle.rules.specs.Actions.{protocol_number}

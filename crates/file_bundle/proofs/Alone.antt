@@ -1,6 +1,6 @@
 -- A byte string is one bundle or none, and an entry of it is read in one way: the file's name and body fix how long they are.
 use mathlib.Core.Path.{◌≡◌, refl, sym, ap, ◌∙◌}
-use mathlib.Core.Option.{Option}
+use Rattle.std.specs.Prelude.{Option}
 use mathlib.Core.List.{List}
 use Prim.Native.Nat.{ℕ, ◌+◌, ◌*◌, ◌≤◌}
 use native.Mathlib.Omega.{arith}
@@ -12,14 +12,13 @@ use Rattle.rules.specs.Bundle.{File}
 use Rattle.rules.proofs.Json.Suffix.{some_same, answered-none}
 use Rattle.file_bundle.specs.Answers.{OpenedAs, EntryIs}
 use Rattle.file_bundle.specs.declared.Entry.{Entry}
-use Rattle.file_bundle.specs.declared.Opened.{Opened}
-use Rattle.file_bundle.specs.declared.Opened.TheVariants.{Entries, Malformed}
+use Rattle.std.specs.Prelude.{Some, None}
 
-pub opened-alone : (o : Option (List File)) (r q : Opened) → OpenedAs o r → OpenedAs o q → r ≡ q
-opened-alone o (Entries n) (Entries m) h k = ap Entries (sym h.2 ∙ ap length (some_same (sym h.1 ∙ k.1)) ∙ k.2)
-opened-alone o (Entries n) Malformed h k = answered-none h.1 k
-opened-alone o Malformed (Entries m) h k = answered-none k.1 h
-opened-alone o Malformed Malformed h k = refl
+pub opened-alone : (o : Option (List File)) (r q : Option ℕ) → OpenedAs o r → OpenedAs o q → r ≡ q
+opened-alone o (Some n) (Some m) h k = ap Some (sym h.2 ∙ ap length (some_same (sym h.1 ∙ k.1)) ∙ k.2)
+opened-alone o (Some n) None h k = answered-none h.1 k
+opened-alone o None (Some m) h k = answered-none k.1 h
+opened-alone o None None h k = refl
 
 -- parts from one place on that are the same bytes are equally long
 part-alone : (s : Bytes) (a n m : ℕ) → a + n ≤ length s → a + m ≤ length s → part s a (a + n) ≡ part s a (a + m) → n ≡ m

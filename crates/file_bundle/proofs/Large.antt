@@ -1,41 +1,48 @@
 -- Versions that are too large, file by file.
 use mathlib.Core.Path.{◌≡◌, refl}
 use mathlib.Core.List.{List}
-use Prim.Native.Nat.{ℕ, ◌+◌, ◌≤◌, ◌<◌}
+use Rattle.std.specs.List.{list_any, range_with_len}
+use Prim.Native.Nat.{ℕ, zero, suc, ◌+◌, ◌≤◌, ◌<◌}
+use native.Mathlib.Omega.{arith}
 use lib.ListN.{length, drop, get_or, drop_of_length-le}
-use mathlib.Core.Bool.{Bool, true, false}
+use mathlib.Core.Bool.{Bool, true, false, ◌||◌}
 use Rattle.facts.proofs.Lists.{drop_here}
 use Rattle.rules.specs.Names.{Name as RuleName, version, checkpoint, marker, other, too_large, name_of, is_too_large, any_too_large}
 use Rattle.file_names.specs.Names.{name_is}
-use Rattle.file_names.specs.declared.Name.{Name}
-use Rattle.file_names.specs.declared.Name.TheVariants.{VersionFile, Checkpoint, Marker, Other, TooLarge}
+use Rattle.file_names.specs.declared.Name.TheVariants.{TooLarge}
 use Rattle.rules.specs.Bundle.{File}
 use Rattle.file_bundle.specs.Files.{no_file}
 
-abbrev pub tells_large : Name → Bool
-tells_large (VersionFile v) = false
-tells_large (Checkpoint v) = false
-tells_large Marker = false
-tells_large Other = false
-tells_large TooLarge = true
-
-pub tells-large : (x : RuleName) → tells_large (name_is x) ≡ is_too_large x
+pub large-told : (x : RuleName) → name_is x ≡ TooLarge → true ≡ is_too_large x
 unfolding name_is is_too_large
-tells-large (version n) = refl
-tells-large (checkpoint n) = refl
-tells-large marker = refl
-tells-large other = refl
-tells-large too_large = refl
+large-told (version n) e = cc
+large-told (checkpoint n) e = cc
+large-told marker e = cc
+large-told other e = cc
+large-told too_large e = refl
 
-module _ (fs : List File) (k : ℕ) where
-  pub large-here : k < length fs → is_too_large (name_of (get_or fs k no_file).name) ≡ true → any_too_large (drop k fs) ≡ true
-  unfolding any_too_large
-  large-here h e = rw (drop_here fs k no_file h, any_too_large, e)
+pub large-untold : (x : RuleName) → (name_is x ≡ TooLarge → ⊥) → false ≡ is_too_large x
+unfolding name_is is_too_large
+large-untold (version n) h = refl
+large-untold (checkpoint n) h = refl
+large-untold marker h = refl
+large-untold other h = refl
+large-untold too_large h = absurd (h refl)
 
-  pub large-more : k < length fs → is_too_large (name_of (get_or fs k no_file).name) ≡ false → any_too_large (drop k fs) ≡ any_too_large (drop (k + 1) fs)
-  unfolding any_too_large
-  large-more h e = rw (drop_here fs k no_file h, any_too_large, e)
+module _ (fs : List File) where
+  -- whether the version in the name of file k is too large
+  abbrev pub large_at : ℕ → Bool
+  large_at k = is_too_large (name_of (get_or fs k no_file).name)
 
-  pub large-end : length fs ≤ k → any_too_large (drop k fs) ≡ false
+  -- of the n from number k on, as of all that are left
+  pub large-within : (n k : ℕ) → k + n ≡ length fs → list_any large_at (range_with_len k n) ≡ any_too_large (drop k fs)
   unfolding any_too_large
-  large-end h = rw (drop_of_length-le fs h)
+  large-within zero k h = let l : length fs ≤ k = omega arith in rw (drop_of_length-le fs l)
+  large-within (suc n) k h =
+      let l : k < length fs = omega arith in
+      rw (drop_here fs k no_file l, any_too_large) (go (large_at k) (large-within n (k + 1) (omega arith)))
+    where
+      go : (b : Bool) → list_any large_at (range_with_len (k + 1) n) ≡ any_too_large (drop (k + 1) fs)
+          → b || list_any large_at (range_with_len (k + 1) n) ≡ elim b [ true ↦ true | false ↦ any_too_large (drop (k + 1) fs) ]
+      go true e = refl
+      go false e = e

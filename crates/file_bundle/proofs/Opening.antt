@@ -1,7 +1,7 @@
 -- The bundle as a whole: when its bytes are well-formed, and how many files it then has.
 use mathlib.Core.Path.{◌≡◌, sym, ap, ◌∙◌}
 use mathlib.Core.Bool.{Bool, false, ◌&&◌}
-use mathlib.Core.Option.{Option, some}
+use Rattle.std.specs.Prelude.{Option, Some}
 use mathlib.Core.List.{List, [], ◌∷◌}
 use Prim.Native.Nat.{ℕ, suc, ◌+◌, ◌*◌, ◌≤◌, ◌<◌}
 use native.Mathlib.Nat.{sub-zero}
@@ -66,13 +66,13 @@ module _ (s : Bytes) where
 pub record Cut (k at : ℕ) (e : Entry) (es : List Entry) (rest : Bytes) (fs : List File) : Type 0 where
   pub name : Bytes
   pub others : List File
-  pub named : name_in e.padded ≡ some name
+  pub named : name_in e.padded ≡ Some name
   pub placed : e.start ≡ at
   pub inside : e.size ≤ length rest
-  pub behind : files_from (suc k) (at + e.size) es (drop e.size rest) ≡ some others
+  pub behind : files_from (suc k) (at + e.size) es (drop e.size rest) ≡ Some others
   pub all : fs ≡ record { entry = k; name = name; start = at; time = e.time; body = take e.size rest } ∷ others
 
-pub files-cut : (k at : ℕ) (e : Entry) (es : List Entry) (rest : Bytes) (fs : List File) → files_from k at (e ∷ es) rest ≡ some fs → Cut k at e es rest fs
+pub files-cut : (k at : ℕ) (e : Entry) (es : List Entry) (rest : Bytes) (fs : List File) → files_from k at (e ∷ es) rest ≡ Some fs → Cut k at e es rest fs
 unfolding files_from
 files-cut k at e es rest fs h =
     let a = bind-some (name_in e.padded) _ h in
@@ -89,7 +89,7 @@ files-cut k at e es rest fs h =
       all = sym (some_same d.2);
     }
 
-pub length-files : (k at : ℕ) (es : List Entry) (rest : Bytes) (fs : List File) → files_from k at es rest ≡ some fs → length fs ≡ length es
+pub length-files : (k at : ℕ) (es : List Entry) (rest : Bytes) (fs : List File) → files_from k at es rest ≡ Some fs → length fs ≡ length es
 unfolding files_from
 length-files k at [] rest fs h = let b = guard-bind (is_empty rest) _ h in ap length (sym (some_same b.1))
 length-files k at (e ∷ es) rest fs h =
@@ -100,10 +100,10 @@ length-files k at (e ∷ es) rest fs h =
 pub record WellFormed (s : Bytes) (n : ℕ) (fs : List File) : Type 0 where
   pub low : 4 ≤ length s
   pub contents : 4 + 112 * n ≤ length s
-  pub files : files_from 0 (4 + 112 * n) (entries n (drop 4 s)) (drop (4 + 112 * n) s) ≡ some fs
+  pub files : files_from 0 (4 + 112 * n) (entries n (drop 4 s)) (drop (4 + 112 * n) s) ≡ Some fs
   pub count : length fs ≡ n
 
-files_of-some : (s : Bytes) (n : ℕ) (fs : List File) → 4 ≤ length s → files_of n s ≡ some fs → WellFormed s n fs
+files_of-some : (s : Bytes) (n : ℕ) (fs : List File) → 4 ≤ length s → files_of n s ≡ Some fs → WellFormed s n fs
 unfolding files_of entry_bytes
 files_of-some s n fs low h =
     let es = entries n (drop 4 s) in
@@ -119,7 +119,7 @@ files_of-some s n fs low h =
       count = length-files 0 (4 + 112 * n) (entries n (drop 4 s)) (drop (4 + 112 * n) s) fs d.1 ∙ length-entries n (drop 4 s);
     }
 
-pub bundle-some : (s : Bytes) (fs : List File) → bundle s ≡ some fs → WellFormed s (little (take 4 s)) fs
+pub bundle-some : (s : Bytes) (fs : List File) → bundle s ≡ Some fs → WellFormed s (little (take 4 s)) fs
 unfolding bundle
 bundle-some s fs h =
     let a = guard-bind (among 4 most_bytes (length s)) (λ _. files_of (little (take 4 s)) s) h in

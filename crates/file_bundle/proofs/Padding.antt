@@ -1,7 +1,7 @@
 -- A name and the zeros behind it, byte by byte.
 use mathlib.Core.Path.{◌≡◌, refl, sym, ap, ◌∙◌}
 use mathlib.Core.Bool.{Bool, true, false, ◌||◌, true≢false}
-use mathlib.Core.Option.{Option, none, some}
+use Rattle.std.specs.Prelude.{Option, None, Some}
 use mathlib.Core.List.{[], ◌∷◌}
 use Prim.Native.Nat.{ℕ, zero, suc, ◌+◌, ◌≤◌, ◌<◌}
 use native.Mathlib.Nat.{not-suc-le-zero}
@@ -12,21 +12,9 @@ use borrow.Author.Tests.{eq-eqb, ne_eqb, eqb-false, le-leb}
 use Rattle.facts.proofs.Lists.{drop_here}
 use Rattle.rules.specs.Bytes.{Bytes, among, ◌>>=◌, guard, is_some}
 use Rattle.rules.specs.Bundle.{zeros, unpadded, name_in}
-use Rattle.rules.proofs.Ranges.{among-within, among_below, among-above}
 use Rattle.bytes_eights.specs.Words.{Eight}
 use Rattle.bytes_eights.proofs.Words.{byte-zeros, zeros-all}
 use Rattle.file_bundle.specs.Files.{name_size, Filled}
-
--- ---- a byte of a name
-
-pub visible-between : (b : ℕ) → 0x21 ≤ b → b ≤ 0x7E → among 0x21 0x7E b ≡ true
-visible-between b l h = among-within 0x21 0x7E b l h
-
-pub visible-below : (b : ℕ) → b < 0x21 → among 0x21 0x7E b ≡ false
-visible-below b h = among_below 0x21 0x7E b h
-
-pub visible-above : (b : ℕ) → 0x7E < b → among 0x21 0x7E b ≡ false
-visible-above b h = among-above 0x21 0x7E b (omega arith) h
 
 -- ---- at place i of p
 
@@ -51,15 +39,15 @@ module _ (p : Bytes) (i : ℕ) (h : i < length p) where
   unfolding unpadded is_some
   name-more e = rw (drop_here p i 0 h, unpadded, e) (go (unpadded (drop (i + 1) p)))
     where
-      go : (o : Option Bytes) → is_some (o >>= λ name. some (get_or p i 0 ∷ name)) ≡ is_some o
-      go none = refl
-      go (some name) = refl
+      go : (o : Option Bytes) → is_some (o >>= λ name. Some (get_or p i 0 ∷ name)) ≡ is_some o
+      go None = refl
+      go (Some name) = refl
 
   pub name-other : among 0x21 0x7E (get_or p i 0) ≡ false → is_some (unpadded (drop i p)) ≡ zeros (drop i p)
   unfolding unpadded is_some
   name-other e = rw (drop_here p i 0 h, unpadded, e) (go (zeros (get_or p i 0 ∷ drop (i + 1) p)))
     where
-      go : (z : Bool) → is_some {A = Bytes} (elim z [ true ↦ some [] | false ↦ none ]) ≡ z
+      go : (z : Bool) → is_some {A = Bytes} (elim z [ true ↦ Some [] | false ↦ None ]) ≡ z
       go true = refl
       go false = refl
 
@@ -112,7 +100,7 @@ unfolding name_in unpadded is_some
 name-none [] h e = absurd (not-suc-le-zero h)
 name-none (b ∷ bs) h e = rw (name_in, unpadded, e) (go (zeros (b ∷ bs)))
   where
-    go : (z : Bool) → is_some {A = Bytes} (elim z [ true ↦ some [] | false ↦ none ] >>= λ name. guard (leb 1 (length name)) >>= λ _. some name) ≡ false
+    go : (z : Bool) → is_some {A = Bytes} (elim z [ true ↦ Some [] | false ↦ None ] >>= λ name. guard (leb 1 (length name)) >>= λ _. Some name) ≡ false
     go true = refl
     go false = refl
 
@@ -121,6 +109,6 @@ unfolding name_in unpadded is_some
 name-some [] h e = absurd (not-suc-le-zero h)
 name-some (b ∷ bs) h e = rw (name_in, unpadded, e) (go (unpadded bs))
   where
-    go : (o : Option Bytes) → is_some (o >>= (λ name. some (b ∷ name)) >>= λ name. guard (leb 1 (length name)) >>= λ _. some name) ≡ is_some o
-    go none = refl
-    go (some name) = rw (le-leb 1 (suc (length name)) (omega arith))
+    go : (o : Option Bytes) → is_some (o >>= (λ name. Some (b ∷ name)) >>= λ name. guard (leb 1 (length name)) >>= λ _. Some name) ≡ is_some o
+    go None = refl
+    go (Some name) = rw (le-leb 1 (suc (length name)) (omega arith))

@@ -1,7 +1,7 @@
 -- Of a well-formed bundle: what file k is, by the entry that lies in the contents.
 use mathlib.Core.Path.{◌≡◌, refl, sym, ap, subst, ◌∙◌}
 use mathlib.Core.Bool.{true}
-use mathlib.Core.Option.{Option, none, some}
+use Rattle.std.specs.Prelude.{Option, None, Some}
 use mathlib.Core.List.{List, [], ◌∷◌}
 use Prim.Native.Nat.{ℕ, zero, suc, ◌+◌, ◌*◌, ◌-◌, ◌≤◌, ◌<◌}
 use native.Mathlib.Nat.{not-suc-le-zero, le_of_suc-le-suc}
@@ -19,14 +19,14 @@ use Rattle.file_bundle.proofs.Opening.{files-cut, length-files, bundle-some}
 -- the file f is that of entry number k, which is e
 pub record FileOf (s : Bytes) (e : Entry) (k : ℕ) (f : File) : Type 0 where
   pub number : f.entry ≡ k
-  pub named : name_in e.padded ≡ some f.name
+  pub named : name_in e.padded ≡ Some f.name
   pub start : e.start ≡ f.start
   pub time : e.time ≡ f.time
   pub inside : e.start + e.size ≤ length s
   pub body : take e.size (drop e.start s) ≡ f.body
 
 files-at : (s : Bytes) (es : List Entry) (k at j m : ℕ) (fs : List File) (d : Entry)
-    → at ≤ length s → files_from k at es (drop at s) ≡ some fs → j < length fs → m ≡ k + j
+    → at ≤ length s → files_from k at es (drop at s) ≡ Some fs → j < length fs → m ≡ k + j
     → FileOf s (get_or es j d) m (get_or fs j no_file)
 files-at s [] k at j m fs d l h b e = let z = length-files k at [] (drop at s) fs h in absurd (omega arith)
 files-at s (x ∷ es) k at zero m fs d l h b e =
@@ -46,7 +46,7 @@ files-at s (x ∷ es) k at (suc j) m fs d l h b e =
     let r = files-cut k at x es (drop at s) fs h in
     let i : x.size ≤ length s - at = rw length-drop at r.inside in
     let c : suc j < suc (length r.others) = subst (λ (gs : List File). suc j < length gs) r.all b in
-    let g : files_from (suc k) (at + x.size) es (drop (at + x.size) s) ≡ some r.others = rw (drop-drop x.size at s) at r.behind in
+    let g : files_from (suc k) (at + x.size) es (drop (at + x.size) s) ≡ Some r.others = rw (drop-drop x.size at s) at r.behind in
     subst (λ (gs : List File). FileOf s (get_or es j d) m (get_or gs (suc j) no_file)) (sym r.all)
     (files-at s es (suc k) (at + x.size) j m r.others d (omega arith) g (le_of_suc-le-suc c) (omega arith))
 
@@ -56,7 +56,7 @@ pub record Found (s : Bytes) (k : ℕ) : Type 0 where
   pub contents : 4 + 112 * k + 112 ≤ length s
   pub file : FileOf s (entry_of (drop (4 + 112 * k) s)) k (file_in s k)
 
-found_in : (s : Bytes) (k : ℕ) (fs : List File) → bundle s ≡ some fs → k < length fs → Found s k
+found_in : (s : Bytes) (k : ℕ) (fs : List File) → bundle s ≡ Some fs → k < length fs → Found s k
 unfolding file_in files_in files_or
 found_in s k fs e h =
     let w = bundle-some s fs e in
@@ -75,8 +75,8 @@ unfolding files_in files_or
 found s k h = go (bundle s) refl h
   where
     go : (o : Option (List File)) → bundle s ≡ o → k < length (files_or o) → Found s k
-    go none e l = absurd (not-suc-le-zero l)
-    go (some fs) e l = found_in s k fs e l
+    go None e l = absurd (not-suc-le-zero l)
+    go (Some fs) e l = found_in s k fs e l
 
 -- ---- how many there are
 
@@ -85,5 +85,5 @@ unfolding files_in files_or is_some
 files_in-count s h = go (bundle s) refl h
   where
     go : (o : Option (List File)) → bundle s ≡ o → is_some o ≡ true → (4 ≤ length s) × (length (files_or o) ≡ little (take 4 s))
-    go none e t = apart (cc)
-    go (some fs) e t = let w = bundle-some s fs e in (w.low, w.count)
+    go None e t = apart (cc)
+    go (Some fs) e t = let w = bundle-some s fs e in (w.low, w.count)

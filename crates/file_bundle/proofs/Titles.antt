@@ -2,7 +2,7 @@
 use mathlib.Core.Path.{◌≡◌, refl, sym, ap, ◌∙◌}
 use mathlib.Core.Logic.{◌⊎◌, inl, inr}
 use mathlib.Core.Bool.{Bool, true, false}
-use mathlib.Core.Option.{Option, none, some}
+use Rattle.std.specs.Prelude.{Option, None, Some}
 use mathlib.Core.List.{List, [], ◌∷◌}
 use Prim.Native.Nat.{ℕ, zero, suc, ◌+◌, ◌*◌, ◌≤◌, ◌<◌}
 use native.Mathlib.Nat.{not-suc-le-zero, le_of_suc-le-suc}
@@ -41,22 +41,22 @@ order-zeros (b ∷ bs) (c ∷ cs) l y z =
     order-cons-equal b c bs cs (u.0 ∙ sym w.0) ∙ order-zeros bs cs (omega arith) u.1 w.1
 
 -- the first byte is of the name, or only zeros are left
-unpadded-cons : (b : ℕ) (bs name : Bytes) → unpadded (b ∷ bs) ≡ some name
-    → ((0 < b) × (rest : Bytes) × (unpadded bs ≡ some rest) × (b ∷ rest ≡ name)) ⊎ ((zeros (b ∷ bs) ≡ true) × ([] ≡ name))
+unpadded-cons : (b : ℕ) (bs name : Bytes) → unpadded (b ∷ bs) ≡ Some name
+    → ((0 < b) × (rest : Bytes) × (unpadded bs ≡ Some rest) × (b ∷ rest ≡ name)) ⊎ ((zeros (b ∷ bs) ≡ true) × ([] ≡ name))
 unfolding unpadded
 unpadded-cons b bs name h = go (among 0x21 0x7E b) refl (zeros (b ∷ bs)) refl h
   where
     go : (v : Bool) → among 0x21 0x7E b ≡ v → (z : Bool) → zeros (b ∷ bs) ≡ z
-        → elim v [ true ↦ (unpadded bs >>= λ rest. some (b ∷ rest)) | false ↦ elim z [ true ↦ some [] | false ↦ none ] ] ≡ some name
-        → ((0 < b) × (rest : Bytes) × (unpadded bs ≡ some rest) × (b ∷ rest ≡ name)) ⊎ ((zeros (b ∷ bs) ≡ true) × ([] ≡ name))
+        → elim v [ true ↦ (unpadded bs >>= λ rest. Some (b ∷ rest)) | false ↦ elim z [ true ↦ Some [] | false ↦ None ] ] ≡ Some name
+        → ((0 < b) × (rest : Bytes) × (unpadded bs ≡ Some rest) × (b ∷ rest ≡ name)) ⊎ ((zeros (b ∷ bs) ≡ true) × ([] ≡ name))
     go true e z f t =
         let r = among-true 0x21 0x7E b e in
-        let c = bind-some (unpadded bs) (λ rest. some (b ∷ rest)) t in
+        let c = bind-some (unpadded bs) (λ rest. Some (b ∷ rest)) t in
         inl (omega (arith, r.0), c.0, c.1, some_same c.2)
     go false e true f t = inr (f, some_same t)
     go false e false f t = apart (cc)
 
-order-unpadded : (p q a b : Bytes) → length p ≡ length q → unpadded p ≡ some a → unpadded q ≡ some b → order p q ≡ less → order a b ≡ less
+order-unpadded : (p q a b : Bytes) → length p ≡ length q → unpadded p ≡ Some a → unpadded q ≡ Some b → order p q ≡ less → order a b ≡ less
 unfolding order
 order-unpadded [] [] a b l y z h = apart (cc)
 order-unpadded [] (d ∷ ds) a b l y z h = absurd (omega arith)
@@ -68,19 +68,19 @@ order-unpadded (c ∷ cs) (d ∷ ds) a b l y z h = go (λ x w. order-unpadded cs
     both x w ih (inr (inl m)) = apart (cc (order-cons-more c d cs ds m))
     both x w ih (inr (inr e)) = order-cons-equal c d x w e ∙ ih (sym (order-cons-equal c d cs ds e) ∙ h)
 
-    go : ((x w : Bytes) → unpadded cs ≡ some x → unpadded ds ≡ some w → order cs ds ≡ less → order x w ≡ less)
-        → ((0 < c) × (rest : Bytes) × (unpadded cs ≡ some rest) × (c ∷ rest ≡ a)) ⊎ ((zeros (c ∷ cs) ≡ true) × ([] ≡ a))
-        → ((0 < d) × (rest : Bytes) × (unpadded ds ≡ some rest) × (d ∷ rest ≡ b)) ⊎ ((zeros (d ∷ ds) ≡ true) × ([] ≡ b)) → order a b ≡ less
+    go : ((x w : Bytes) → unpadded cs ≡ Some x → unpadded ds ≡ Some w → order cs ds ≡ less → order x w ≡ less)
+        → ((0 < c) × (rest : Bytes) × (unpadded cs ≡ Some rest) × (c ∷ rest ≡ a)) ⊎ ((zeros (c ∷ cs) ≡ true) × ([] ≡ a))
+        → ((0 < d) × (rest : Bytes) × (unpadded ds ≡ Some rest) × (d ∷ rest ≡ b)) ⊎ ((zeros (d ∷ ds) ≡ true) × ([] ≡ b)) → order a b ≡ less
     go ih (inl u) (inl w) = rw (← u.3, ← w.3) (both u.1 w.1 (ih u.1 w.1 u.2 w.2) (trichotomy c d))
     go ih (inl u) (inr w) = let e = (zeros-cons d ds w.0).0 in apart (cc (order-cons-more c d cs ds (omega (arith, e, u.0))))
     go ih (inr u) (inl w) = rw (← u.1, ← w.3)
     go ih (inr u) (inr w) = apart (cc (order-zeros (c ∷ cs) (d ∷ ds) l u.0 w.0))
 
-name_in-unpadded : (p name : Bytes) → name_in p ≡ some name → unpadded p ≡ some name
+name_in-unpadded : (p name : Bytes) → name_in p ≡ Some name → unpadded p ≡ Some name
 unfolding name_in
 name_in-unpadded p name h =
-    let a = bind-some (unpadded p) (λ n. guard (leb 1 (length n)) >>= λ _. some n) h in
-    let b = guard-bind (leb 1 (length a.0)) (λ _. some a.0) a.2 in
+    let a = bind-some (unpadded p) (λ n. guard (leb 1 (length n)) >>= λ _. Some n) h in
+    let b = guard-bind (leb 1 (length a.0)) (λ _. Some a.0) a.2 in
     a.1 ∙ b.1
 
 -- ---- the contents, by neighbours
@@ -100,7 +100,7 @@ ascending-at (a ∷ b ∷ es) j d h l = go (λ i. ascending-at (b ∷ es) i d) j
     go ih i equal e t m = apart (cc)
     go ih i more e t m = apart (cc)
 
-bundle-ascending : (s : Bytes) (fs : List File) → bundle s ≡ some fs → ascending (entries (little (take 4 s)) (drop 4 s)) ≡ true
+bundle-ascending : (s : Bytes) (fs : List File) → bundle s ≡ Some fs → ascending (entries (little (take 4 s)) (drop 4 s)) ≡ true
 unfolding bundle files_of entry_bytes
 bundle-ascending s fs h =
     let n = little (take 4 s) in
@@ -116,7 +116,7 @@ bundle-ascending s fs h =
 
 -- the padded name of file k has 96 bytes, and is that file's name
 padded-at : (s : Bytes) (k : ℕ) → k < length (files_in s)
-    → (length (entry_of (drop (4 + 112 * k) s)).padded ≡ 96) × (unpadded (entry_of (drop (4 + 112 * k) s)).padded ≡ some (file_in s k).name)
+    → (length (entry_of (drop (4 + 112 * k) s)).padded ≡ 96) × (unpadded (entry_of (drop (4 + 112 * k) s)).padded ≡ Some (file_in s k).name)
 unfolding entry_of field
 padded-at s k h =
     let f = found s k h in
@@ -128,7 +128,7 @@ pub files-ascend : (s : Bytes) → Ascends (λ (f : File). f.name) (files_in s)
 unfolding files_in files_or file_in
 files-ascend s = go (bundle s) refl
   where
-    below : (fs : List File) → bundle s ≡ some fs → (j : ℕ) → suc j < length (files_in s) → order (file_in s j).name (file_in s (suc j)).name ≡ less
+    below : (fs : List File) → bundle s ≡ Some fs → (j : ℕ) → suc j < length (files_in s) → order (file_in s j).name (file_in s (suc j)).name ≡ less
     below fs e j l =
         let w = bundle-some s fs e in
         let n = little (take 4 s) in
@@ -145,5 +145,5 @@ files-ascend s = go (bundle s) refl
         order-unpadded _ _ _ _ (p.0 ∙ sym q.0) p.1 q.1 o
 
     go : (o : Option (List File)) → bundle s ≡ o → Ascends (λ (f : File). f.name) (files_in s)
-    go none e = rw e tt
-    go (some fs) e = ascends-of (λ (f : File). f.name) (files_in s) no_file (below fs e)
+    go None e = rw e tt
+    go (Some fs) e = ascends-of (λ (f : File). f.name) (files_in s) no_file (below fs e)

@@ -1,25 +1,21 @@
 -- What each answer of the crate says, in the rules' terms.
 use Rattle.std.specs.Prelude.{◌≡◌, false, List, ℕ, ◌+◌, ◌*◌, ◌≤◌, length}
-use Rattle.std.proofs.Math.Option.{Option, none, some}
+use Rattle.std.specs.Prelude.{Option, None, Some}
 use Rattle.facts.specs.Parts.{part}
 use Rattle.rules.specs.Bytes.{Bytes}
 use Rattle.rules.specs.Bundle.{File}
 use Rattle.file_bundle.specs.Files.{left_fits}
-use Rattle.file_bundle.specs.declared.Next.{Next}
-use Rattle.file_bundle.specs.declared.Next.TheVariants.{At, Bad}
 use Rattle.file_bundle.specs.declared.Entry.{Entry}
-use Rattle.file_bundle.specs.declared.Opened.{Opened}
-use Rattle.file_bundle.specs.declared.Opened.TheVariants.{Entries, Malformed}
 
 -- of what the bundle's bytes are: so many files, or malformed
-abbrev pub OpenedAs : Option (List File) → Opened → Type 0
-OpenedAs o (Entries n) = (fs : List File) × (o ≡ some fs) × (length fs ≡ n)
-OpenedAs o Malformed = o ≡ none
+abbrev pub OpenedAs : Option (List File) → Option ℕ → Type 0
+OpenedAs o (Some n) = (fs : List File) × (o ≡ Some fs) × (length fs ≡ n)
+OpenedAs o None = o ≡ None
 
 -- of entry number k of n, whose body is to start at `at`: the rest decides, from where the next body is to start; or nothing does
-abbrev pub Passed : Bytes → (n k at : ℕ) → Next → Type 0
-Passed s n k at (At b) = (b ≤ length s) × (left_fits s n k at ≡ left_fits s n (k + 1) b)
-Passed s n k at Bad = left_fits s n k at ≡ false
+abbrev pub Passed : Bytes → (n k at : ℕ) → Option ℕ → Type 0
+Passed s n k at (Some b) = (b ≤ length s) × (left_fits s n k at ≡ left_fits s n (k + 1) b)
+Passed s n k at None = left_fits s n k at ≡ false
 
 -- of entry number k, whose file is f: where the bundle s has its name and its body, and its time
 pub record EntryIs (s : Bytes) (f : File) (k : ℕ) (r : Entry) : Type 0 where

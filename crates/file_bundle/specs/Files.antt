@@ -1,14 +1,14 @@
 -- The files of a bundle by their number, and what is left of a bundle behind the entries that were passed.
 use Rattle.std.specs.Prelude.{◌≡◌, Bool, true, false, ◌&&◌, List, [], ◌∷◌, ℕ, suc, ◌+◌, ◌*◌, ◌-◌, eqb, drop, get_or}
-use Rattle.std.proofs.Math.Option.{Option, none, some}
+use Rattle.std.specs.Prelude.{Option, None, Some}
 use Rattle.rules.specs.Bytes.{Bytes, is_some, order, is_less}
 use Rattle.rules.specs.Bundle.{Entry, File, entries, ascending, files_from, bundle}
 
 -- ---- the files
 
 unfoldable pub files_or : Option (List File) → List File
-files_or none = []
-files_or (some fs) = fs
+files_or None = []
+files_or (Some fs) = fs
 
 -- the files of a bundle; none where it is malformed
 unfoldable pub files_in : Bytes → List File

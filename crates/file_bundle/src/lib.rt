@@ -13,7 +13,6 @@ ghost use Rattle.file_names.specs.Names.{name_is};
 ghost use Rattle.file_bundle.specs.Files.{files_in, file_in, name_size, first_two, left, left_fits};
 ghost use Rattle.file_bundle.specs.Answers.{Passed, OpenedAs, EntryIs};
 
-use bytes_values::Order;
 use file_names::{Millis, Name};
 
 // The count's bytes, an entry's, and those of its name.
@@ -65,13 +64,7 @@ fn u64_at(s: &[u8], at: usize) -> u64
 fn visible(b: u8) -> bool
     ensures { result ≡ among 0x21 0x7E b }
 {
-    if b < 0x21 {
-        return false;
-    }
-    if 0x7E < b {
-        return false;
-    }
-    true
+    b.is_ascii_graphic()
 }
 
 // Passes zeros from place `at` on, eight at a time; there may be more of them.
@@ -94,12 +87,10 @@ fn zeros_from(p: &[u8], at: usize) -> bool
     requires { at ≤ length p.now }
     ensures { result ≡ zeros (drop at p.now) }
 {
-    let mut i = skip_zeros(p, at);
-    while i < p.len() {
+    for i in skip_zeros(p, at)..p.len() {
         if p[i] != 0 {
             return false;
         }
-        i += 1;
     }
     true
 }
@@ -112,12 +103,10 @@ fn name_fits(p: &[u8]) -> bool
     if !visible(p[0]) {
         return false;
     }
-    let mut i = 1;
-    while i < p.len() {
+    for i in 1..p.len() {
         if !visible(p[i]) {
             return zeros_from(p, i);
         }
-        i += 1;
     }
     true
 }
@@ -126,14 +115,12 @@ fn name_fits(p: &[u8]) -> bool
 fn name_size(p: &[u8]) -> usize
     ensures { (result ≡ name_size p.now) × (result ≤ length p.now) }
 {
-    let mut i = sized::skip_filled(p);
-    while i < p.len() {
+    for i in sized::skip_filled(p)..p.len() {
         if p[i] == 0 {
             return i;
         }
-        i += 1;
     }
-    i
+    p.len()
 }
 
 // ---- the entries, one after another
@@ -150,42 +137,30 @@ fn ascends(s: &[u8], n: usize, k: usize) -> bool
     let a_end = a + NAME;
     let b = a + ENTRY;
     let b_end = b + NAME;
-    let o = bytes_values::order_bytes(&s[a..a_end], &s[b..b_end]);
-    match o {
-        Order::Less => true,
-        Order::Equal => false,
-        Order::More => false,
-    }
-}
-
-// Where the next body is to start.
-#[derive(Clone, Copy)]
-enum Next {
-    At(usize),
-    Bad,
+    bytes_values::order_bytes(&s[a..a_end], &s[b..b_end]).is_lt()
 }
 
 // Passes entry k of n, whose body is to start at `at`.
-fn pass_entry(s: &[u8], n: usize, k: usize, at: usize) -> Next
+fn pass_entry(s: &[u8], n: usize, k: usize, at: usize) -> Option<usize>
     requires { (k < n) × (4 + 112 * n ≤ length s.now) × (at ≤ length s.now) }
     ensures { Passed s.now n k at result }
 {
     let e = COUNT + ENTRY * k;
     let e_start = e + NAME;
     if !name_fits(&s[e..e_start]) {
-        return Next::Bad;
+        return None;
     }
     if !ascends(s, n, k) {
-        return Next::Bad;
+        return None;
     }
     if u32_at(s, e_start) != at {
-        return Next::Bad;
+        return None;
     }
     let size = u32_at(s, e_start + 4);
     if s.len() - at < size {
-        return Next::Bad;
+        return None;
     }
-    Next::At(at + size)
+    Some(at + size)
 }
 
 // Whether n entries and their bodies fill the bundle.
@@ -193,50 +168,37 @@ fn filled(s: &[u8], n: usize) -> bool
     requires { 4 + 112 * n ≤ length s.now }
     ensures { result ≡ left_fits s.now n 0 (4 + 112 * n) }
 {
-    let mut k = 0;
     let mut at = COUNT + ENTRY * n;
-    while k < n {
-        match pass_entry(s, n, k, at) {
-            Next::Bad => {
-                return false;
-            }
-            Next::At(b) => {
-                at = b;
-                k += 1;
-            }
-        }
+    for k in 0..n {
+        let Some(next) = pass_entry(s, n, k, at) else {
+            return false;
+        };
+        at = next;
     }
     at == s.len()
 }
 
-// What a byte string is as a bundle.
-#[derive(Clone, Copy)]
-pub enum Opened {
-    Entries(usize),
-    Malformed,
-}
-
 // How many files the bundle s has, where it is well-formed.
-pub fn open(s: &[u8]) -> Opened
+pub fn open(s: &[u8]) -> Option<usize>
     ensures { OpenedAs (rule_bundle s.now) result }
 {
     if s.len() < COUNT {
-        return Opened::Malformed;
+        return None;
     }
     if MOST_BYTES < s.len() {
-        return Opened::Malformed;
+        return None;
     }
     let n = u32_at(s, 0);
     if MOST_ENTRIES < n {
-        return Opened::Malformed;
+        return None;
     }
     if s.len() < COUNT + ENTRY * n {
-        return Opened::Malformed;
+        return None;
     }
     if filled(s, n) {
-        return Opened::Entries(n);
+        return Some(n);
     }
-    Opened::Malformed
+    None
 }
 
 // ---- the files of a well-formed bundle
@@ -307,13 +269,7 @@ fn too_large(s: &[u8], k: usize) -> bool
     if file_names::begins_low(name_in(s, k)) {
         return false; // as in most names
     }
-    match kind(s, k) {
-        Name::VersionFile(_) => false,
-        Name::Checkpoint(_) => false,
-        Name::Marker => false,
-        Name::Other => false,
-        Name::TooLarge => true,
-    }
+    matches!(kind(s, k), Name::TooLarge)
 }
 
 // Whether the version in some name of the well-formed bundle s is too large.
@@ -321,13 +277,5 @@ pub fn any_too_large(s: &[u8]) -> bool
     requires { IsBundle s.now }
     ensures { result ≡ any_too_large (files_in s.now) }
 {
-    let n = u32_at(s, 0);
-    let mut k = 0;
-    while k < n {
-        if too_large(s, k) {
-            return true;
-        }
-        k += 1;
-    }
-    false
+    (0..u32_at(s, 0)).any(|k| too_large(s, k))
 }

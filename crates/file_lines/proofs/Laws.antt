@@ -55,7 +55,7 @@ ends-is_line l e x = by (eqb e (length l)) whole cut
 pub free-none : (s : Bytes) (a : ℕ) → Free s a a
 free-none s a j h m e = absurd (omega arith)
 
-pub free_more : (s : Bytes) (a i : ℕ) → Free s a i → (get_or s i 0 ≡ 0x0A → ⊥) → Free s a (i + 1)
+free_more : (s : Bytes) (a i : ℕ) → Free s a i → (get_or s i 0 ≡ 0x0A → ⊥) → Free s a (i + 1)
 free_more s a i f n j h m e = go (eq-or-lt_of_le {n = j} {m = i} (omega arith))
   where
     go : (j ≡ i) ⊎ (j < i) → ⊥

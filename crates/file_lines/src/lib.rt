@@ -46,14 +46,13 @@ pub fn line_end(s: &[u8], from: usize, to: usize) -> usize
     requires { (from ≤ to) × (to ≤ length s.now) }
     ensures { EndsLine s.now from to result }
 {
-    let mut i = skip_sixteens(s, from, to);
-    while i < to {
+    let start = skip_sixteens(s, from, to);
+    for i in start..to {
         if s[i] == LINE_FEED {
             return i;
         }
-        i += 1;
     }
-    i
+    to
 }
 
 // Whether bytes that were lent as a line are one: they hold no line feed.

@@ -1,7 +1,7 @@
 -- A name by its ending: what is read of the digits, told by the ending behind them.
-use mathlib.Core.Path.{◌≡◌, refl}
+use mathlib.Core.Path.{◌≡◌, refl, ◌∙◌}
 use mathlib.Core.Bool.{Bool, true, false}
-use mathlib.Core.Option.{Option, none, some}
+use Rattle.std.specs.Prelude.{Option, None, Some, Result, Ok, Err}
 use mathlib.Core.List.{[]}
 use Prim.Native.Nat.{ℕ, ◌≤◌, ◌<◌}
 use native.Mathlib.Omega.{arith}
@@ -12,46 +12,38 @@ use Rattle.rules.specs.Numbers.{decimal, most}
 use Rattle.rules.specs.Names.{name_of, with_ending, numbered}
 use Rattle.rules.proofs.Order.{same_true}
 use Rattle.file_names.specs.Names.{name_is, digits_is, number_is}
+use Rattle.file_names.specs.declared.Version.{Version}
 use Rattle.file_names.specs.declared.Name.{Name}
-use Rattle.file_names.specs.declared.Name.TheVariants.{VersionFile, Checkpoint, Marker, Other, TooLarge}
-use Rattle.file_names.specs.declared.Digits.{Digits}
-use Rattle.file_names.specs.declared.Digits.TheVariants.{Number, Above, NotDigits}
+use Rattle.file_names.specs.declared.Name.TheVariants.{VersionFile, Checkpoint, Marker, Other}
 
--- the name that digits make, where `make` makes it of their number
-abbrev pub named : (ℕ → Name) → Digits → Name
-named make (Number v) = make v
-named make Above = TooLarge
-named make NotDigits = Other
+-- the name of a version, where `make` makes it of one
+abbrev pub named : (Version → Name) → Result Version Name → Name
+named make (Ok v) = make v
+named make (Err name) = name
 
-abbrev pub as_version : ℕ → Name
-as_version v = VersionFile (record { 0 = v })
-
-abbrev pub as_checkpoint : ℕ → Name
-as_checkpoint v = Checkpoint (record { 0 = v })
-
-pub version-ending : (o : Option ℕ) → named as_version (digits_is o) ≡ name_is (with_ending o (ascii ".json"))
+version-ending : (o : Option ℕ) → named VersionFile (digits_is o) ≡ name_is (with_ending o (ascii ".json"))
 unfolding name_is digits_is number_is with_ending numbered same ascii
-version-ending none = refl
-version-ending (some n) = go (leb n most)
+version-ending None = refl
+version-ending (Some n) = go (leb n most)
   where
-    go : (small : Bool) → named as_version (number_is small n) ≡ name_is (numbered true false small n)
+    go : (small : Bool) → named VersionFile (number_is small n) ≡ name_is (numbered true false small n)
     go true = refl
     go false = refl
 
-pub checkpoint-ending : (o : Option ℕ) → named as_checkpoint (digits_is o) ≡ name_is (with_ending o (ascii ".checkpoint.json"))
+checkpoint-ending : (o : Option ℕ) → named Checkpoint (digits_is o) ≡ name_is (with_ending o (ascii ".checkpoint.json"))
 unfolding name_is digits_is number_is with_ending numbered same ascii
-checkpoint-ending none = refl
-checkpoint-ending (some n) = go (leb n most)
+checkpoint-ending None = refl
+checkpoint-ending (Some n) = go (leb n most)
   where
-    go : (small : Bool) → named as_checkpoint (number_is small n) ≡ name_is (numbered false true small n)
+    go : (small : Bool) → named Checkpoint (number_is small n) ≡ name_is (numbered false true small n)
     go true = refl
     go false = refl
 
-pub other-ending : (o : Option ℕ) (e : Bytes) → same e (ascii ".json") ≡ false → same e (ascii ".checkpoint.json") ≡ false
+other-ending : (o : Option ℕ) (e : Bytes) → same e (ascii ".json") ≡ false → same e (ascii ".checkpoint.json") ≡ false
     → Other ≡ name_is (with_ending o e)
 unfolding name_is with_ending numbered
-other-ending none e p q = refl
-other-ending (some n) e p q = rw (p, q)
+other-ending None e p q = refl
+other-ending (Some n) e p q = rw (p, q)
 
 -- ---- the whole name
 
@@ -71,9 +63,17 @@ module _ (s : Bytes) where
       let l : length s ≤ 20 = omega arith in
       rw (name-digits e, drop_of_length-le s l) (other-ending (decimal (take 20 s)) [] refl refl)
 
-  pub name-ended : (e : Bytes) → same s (ascii "_last_checkpoint") ≡ false → same (drop 20 s) e ≡ true
+  name-ended : (e : Bytes) → same s (ascii "_last_checkpoint") ≡ false → same (drop 20 s) e ≡ true
       → name_is (with_ending (decimal (take 20 s)) e) ≡ name_is (name_of s)
   name-ended e p q = rw (name-digits p, same_true (drop 20 s) e q)
+
+  pub name-version : same s (ascii "_last_checkpoint") ≡ false → same (drop 20 s) (ascii ".json") ≡ true
+      → named VersionFile (digits_is (decimal (take 20 s))) ≡ name_is (name_of s)
+  name-version p q = version-ending (decimal (take 20 s)) ∙ name-ended (ascii ".json") p q
+
+  pub name-checkpoint : same s (ascii "_last_checkpoint") ≡ false → same (drop 20 s) (ascii ".checkpoint.json") ≡ true
+      → named Checkpoint (digits_is (decimal (take 20 s))) ≡ name_is (name_of s)
+  name-checkpoint p q = checkpoint-ending (decimal (take 20 s)) ∙ name-ended (ascii ".checkpoint.json") p q
 
   pub name-other : same s (ascii "_last_checkpoint") ≡ false → same (drop 20 s) (ascii ".json") ≡ false → same (drop 20 s) (ascii ".checkpoint.json") ≡ false
       → Other ≡ name_is (name_of s)

@@ -1,7 +1,7 @@
 -- Twenty digits of which the first two are zeros: what they stand for is below 10^18, and no version that is too large.
 use mathlib.Core.Path.{◌≡◌, refl, sym, ◌∙◌}
 use mathlib.Core.Bool.{Bool, true, false}
-use mathlib.Core.Option.{Option, none, some}
+use Rattle.std.specs.Prelude.{Option, None, Some}
 use mathlib.Core.List.{[], ◌∷◌}
 use Prim.Native.Nat.{ℕ, suc, ◌+◌, ◌-◌, ◌*◌, ◌^◌, ◌≤◌, ◌<◌}
 use native.Mathlib.Nat.{add-zero, pow-le-pow_right}
@@ -26,31 +26,31 @@ unfolding is_digit
 digit-less b e = let r = among-true 48 57 b e in omega (arith, r.0, r.1)
 
 -- each digit more is at most ten times more
-decimal-below : (t : Bytes) (j k n : ℕ) → k < 10 ^ j → decimal_from k t ≡ some n → n < 10 ^ (j + length t)
+decimal-below : (t : Bytes) (j k n : ℕ) → k < 10 ^ j → decimal_from k t ≡ Some n → n < 10 ^ (j + length t)
 unfolding decimal_from
 decimal-below [] j k n h e = let q : k ≡ n = cc in rw add-zero (omega arith)
 decimal-below (b ∷ t) j k n h e = go (decimal-below t (j + 1) (k * 10 + (b - 48)) n) (is_digit b) refl
   where
-    go : (k * 10 + (b - 48) < 10 ^ (j + 1) → decimal_from (k * 10 + (b - 48)) t ≡ some n → n < 10 ^ (j + 1 + length t)) → (x : Bool) → is_digit b ≡ x
+    go : (k * 10 + (b - 48) < 10 ^ (j + 1) → decimal_from (k * 10 + (b - 48)) t ≡ Some n → n < 10 ^ (j + 1 + length t)) → (x : Bool) → is_digit b ≡ x
         → n < 10 ^ (j + suc (length t))
     go ih true p =
         let q : j + suc (length t) ≡ j + 1 + length t = omega arith in
         rw q (ih (grown k (b - 48) j h (digit-less b p)) (sym (decimal_digit b t k p) ∙ e))
-    go ih false p = let q : none ≡ some n = sym (decimal-other b t k p) ∙ e in apart (cc)
+    go ih false p = let q : None ≡ Some n = sym (decimal-other b t k p) ∙ e in apart (cc)
 
 -- ---- the name
 
-not-large : (o : Option ℕ) (e : Bytes) → ((n : ℕ) → o ≡ some n → n ≤ most) → is_too_large (with_ending o e) ≡ false
+not-large : (o : Option ℕ) (e : Bytes) → ((n : ℕ) → o ≡ Some n → n ≤ most) → is_too_large (with_ending o e) ≡ false
 unfolding is_too_large with_ending numbered
-not-large none e h = refl
-not-large (some n) e h = rw (le-leb n most (h n refl)) (go (same e (ascii ".json")) (same e (ascii ".checkpoint.json")))
+not-large None e h = refl
+not-large (Some n) e h = rw (le-leb n most (h n refl)) (go (same e (ascii ".json")) (same e (ascii ".checkpoint.json")))
   where
     go : (x y : Bool) → is_too_large (numbered x y true n) ≡ false
     go true y = refl
     go false true = refl
     go false false = refl
 
-low : (t : Bytes) (n : ℕ) → decimal (take 20 (48 ∷ 48 ∷ t)) ≡ some n → n ≤ most
+low : (t : Bytes) (n : ℕ) → decimal (take 20 (48 ∷ 48 ∷ t)) ≡ Some n → n ≤ most
 unfolding most decimal decimal_from is_digit among
 low t n e =
     let d : n < 10 ^ (0 + length (take 18 t)) = decimal-below (take 18 t) 0 0 n (omega arith) e in

@@ -1,60 +1,45 @@
 -- The last of twenty digits: whether the number is at most 2^63 - 1 is known only with it.
-use mathlib.Core.Path.{◌≡◌, ◌∙◌}
-use mathlib.Core.Bool.{true, false}
-use mathlib.Core.List.{[], ◌∷◌}
+use mathlib.Core.Path.{◌≡◌, refl, ap, ◌∙◌}
+use mathlib.Core.Bool.{Bool, true, false}
+use mathlib.Core.List.{[], ◌∷◌, ◌++◌}
+use Rattle.std.specs.Prelude.{Ok, Err}
 use Prim.Native.Nat.{ℕ, ◌+◌, ◌-◌, ◌*◌, ◌≤◌, ◌<◌}
 use native.Mathlib.Omega.{arith}
-use lib.ListN.{length, take, drop, get_or, drop_of_length-le}
-use lib.Seq.{length-take-le, get_or-take}
+use lib.ListN.{length, take, get_or}
 use borrow.Author.Tests.{le-leb, lt-leb}
-use Rattle.facts.proofs.Lists.{drop_here}
-use Rattle.rules.specs.Bytes.{Bytes}
+use Rattle.std.proofs.lemmas.List.{take_more}
+use Rattle.rules.specs.Bytes.{Bytes, ◌>>=◌}
 use Rattle.rules.specs.Numbers.{is_digit, decimal, decimal_from, most}
 use Rattle.file_names.specs.Names.{digits_is, number_is}
-use Rattle.rules.proofs.Decimals.{decimal-at-digit, decimal-at-other, decimal-start}
-use Rattle.file_names.specs.declared.Digits.TheVariants.{Number, Above, NotDigits}
+use Rattle.rules.proofs.Decimals.{decimal_digit, decimal-other}
+use Rattle.file_names.specs.declared.Name.TheVariants.{Other, TooLarge}
 
 module _ (n b : ℕ) where
-  pub last-other : is_digit b ≡ false → NotDigits ≡ digits_is (decimal_from n (b ∷ []))
+  pub last-other : is_digit b ≡ false → Err Other ≡ digits_is (decimal_from n (b ∷ []))
   unfolding decimal_from digits_is
   last-other e = rw (decimal_from, e)
 
-  pub last-above : is_digit b ≡ true → 9223372036854775807 < n * 10 + (b - 48) → Above ≡ digits_is (decimal_from n (b ∷ []))
+  pub last-above : is_digit b ≡ true → 9223372036854775807 < n * 10 + (b - 48) → Err TooLarge ≡ digits_is (decimal_from n (b ∷ []))
   unfolding decimal_from digits_is number_is most
   last-above e h = rw (decimal_from, e, lt-leb _ _ h)
 
-  pub last-number : is_digit b ≡ true → n * 10 + (b - 48) ≤ 9223372036854775807 → Number (n * 10 + (b - 48)) ≡ digits_is (decimal_from n (b ∷ []))
+  pub last-number : is_digit b ≡ true → n * 10 + (b - 48) ≤ 9223372036854775807 → Ok (record { 0 = n * 10 + (b - 48) }) ≡ digits_is (decimal_from n (b ∷ []))
   unfolding decimal_from digits_is number_is most
   last-number e h = rw (decimal_from, e, le-leb _ _ h)
 
--- ---- a turn over the first twenty bytes of s, at place i, behind digits that stand for v
+-- ---- one digit behind others
 
-pub turn-start : (s : Bytes) → 20 ≤ length s → decimal (take 20 s) ≡ decimal_from 0 (drop 0 (take 20 s))
-turn-start s h =
-    let l : length (take 20 s) ≡ 20 = length-take-le 20 s h in
-    decimal-start (take 20 s) (omega (arith, l))
+digit-behind : (t : Bytes) (b k : ℕ) → decimal_from k (t ++ b ∷ []) ≡ decimal_from k t >>= (λ n. decimal_from n (b ∷ []))
+unfolding decimal_from
+digit-behind [] b k = refl
+digit-behind (c ∷ t) b k = go (is_digit c) refl (digit-behind t b (k * 10 + (c - 48)))
+  where
+    go : (x : Bool) → is_digit c ≡ x → decimal_from (k * 10 + (c - 48)) (t ++ b ∷ []) ≡ decimal_from (k * 10 + (c - 48)) t >>= (λ n. decimal_from n (b ∷ []))
+        → decimal_from k (c ∷ (t ++ b ∷ [])) ≡ decimal_from k (c ∷ t) >>= (λ n. decimal_from n (b ∷ []))
+    go true p e = rw (decimal_digit c (t ++ b ∷ []) k p, decimal_digit c t k p) e
+    go false p e = rw (decimal-other c (t ++ b ∷ []) k p, decimal-other c t k p)
 
-module _ (s : Bytes) (i v : ℕ) (long : 20 ≤ length s) where
-  pub turn-other : i < 20 → decimal (take 20 s) ≡ decimal_from v (drop i (take 20 s)) → is_digit (get_or s i 0) ≡ false
-      → NotDigits ≡ digits_is (decimal (take 20 s))
-  unfolding digits_is
-  turn-other h g e =
-      let d : is_digit (get_or (take 20 s) i 0) ≡ false = rw (get_or-take 20 s i 0 h) e in
-      let l : i < length (take 20 s) = rw (length-take-le 20 s long) h in
-      rw (g, decimal-at-other (take 20 s) i v l d)
-
-  pub turn_more : i < 20 → decimal (take 20 s) ≡ decimal_from v (drop i (take 20 s)) → is_digit (get_or s i 0) ≡ true
-      → decimal (take 20 s) ≡ decimal_from (v * 10 + (get_or s i 0 - 48)) (drop (i + 1) (take 20 s))
-  turn_more h g e =
-      let at : get_or (take 20 s) i 0 ≡ get_or s i 0 = get_or-take 20 s i 0 h in
-      let d : is_digit (get_or (take 20 s) i 0) ≡ true = rw at e in
-      let l : i < length (take 20 s) = rw (length-take-le 20 s long) h in
-      g ∙ rw at at (decimal-at-digit (take 20 s) i v l d)
-
-  pub turn_last : i ≡ 19 → decimal (take 20 s) ≡ decimal_from v (drop i (take 20 s))
-      → digits_is (decimal_from v (get_or s i 0 ∷ [])) ≡ digits_is (decimal (take 20 s))
-  turn_last h g =
-      let l : i < length (take 20 s) = rw (length-take-le 20 s long) (omega arith) in
-      let m : length (take 20 s) ≤ i + 1 = rw (length-take-le 20 s long) (omega arith) in
-      let end : drop (i + 1) (take 20 s) ≡ [] = drop_of_length-le (take 20 s) m in
-      rw (g, drop_here (take 20 s) i 0 l, end, get_or-take 20 s i 0 (omega arith))
+pub twenty-parts : (s : Bytes) → 20 ≤ length s → decimal (take 20 s) ≡ decimal (take 19 s) >>= (λ n. decimal_from n (get_or s 19 0 ∷ []))
+unfolding decimal
+twenty-parts [] h = absurd (omega arith)
+twenty-parts (b ∷ s) h = ap (decimal_from 0) (take_more (b ∷ s) 19 0 (omega arith)) ∙ digit-behind (b ∷ take 18 s) (get_or (b ∷ s) 19 0) 0

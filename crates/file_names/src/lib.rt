@@ -4,11 +4,11 @@
 
 ghost use Rattle.std.specs.Prelude.{◌≡◌, ◌≤◌, length, take, [], ◌∷◌};
 ghost use Rattle.rules.specs.Numbers.{decimal, decimal_from};
-ghost use Rattle.rules.specs.Bytes.{ascii, begins};
-ghost use Rattle.rules.specs.Names.{with_ending, name_of};
+ghost use Rattle.rules.specs.Bytes.{begins};
+ghost use Rattle.rules.specs.Names.{name_of};
 ghost use Rattle.file_names.specs.Names.{name_is, digits_is, two_zeros};
 
-use bytes_values::MOST;
+use bytes_values::{MOST, SAFE_DIGITS};
 
 // The number of a version. It is never compared with a time.
 #[derive(Clone, Copy)]
@@ -34,83 +34,30 @@ pub const DIGITS: usize = 20;
 // The highest number with room for one more digit.
 const ROOM: u64 = 922337203685477580;
 
-// What twenty bytes are: a version, a number above the highest, or no digits.
-#[derive(Clone, Copy)]
-enum Digits {
-    Number(u64),
-    Above,
-    NotDigits,
-}
-
-fn wide(b: u8) -> u64
-    ensures { result ≡ b }
-{
-    b as u64
-}
-
-// The twentieth digit, b, behind digits that stand for n.
-fn last_digit(n: u64, b: u8) -> Digits
+// The twentieth digit, b, behind digits that stand for n: the version, or what the name says without one.
+fn last_digit(n: u64, b: u8) -> Result<Version, Name>
     ensures { result ≡ digits_is (decimal_from n (b ∷ [])) }
 {
-    if b < b'0' {
-        return Digits::NotDigits;
-    }
-    if b'9' < b {
-        return Digits::NotDigits;
+    if !b.is_ascii_digit() {
+        return Err(Name::Other);
     }
     if ROOM < n {
-        return Digits::Above;
+        return Err(Name::TooLarge);
     }
-    let v = n * 10 + (wide(b) - 48);
+    let v = n * 10 + u64::from(b - b'0');
     if MOST < v {
-        return Digits::Above;
+        return Err(Name::TooLarge);
     }
-    Digits::Number(v)
+    Ok(Version(v))
 }
 
-// The first twenty bytes of a name, read in base ten whatever the first digit is. Nineteen digits always fit.
-fn twenty_digits(n: &[u8]) -> Digits
+// The same of the first twenty bytes of a name, read in base ten whatever the first digit is. Nineteen digits always fit.
+fn twenty_digits(n: &[u8]) -> Result<Version, Name>
     requires { 20 ≤ length n.now }
     ensures { result ≡ digits_is (decimal (take 20 n.now)) }
 {
-    let mut i = 0;
-    let mut v: u64 = 0;
-    while i < 19 {
-        let b = n[i];
-        if b < b'0' {
-            return Digits::NotDigits;
-        }
-        if b'9' < b {
-            return Digits::NotDigits;
-        }
-        v = v * 10 + (wide(b) - 48);
-        i += 1;
-    }
-    last_digit(v, n[i])
-}
-
-// A name whose digits are followed by `.json`.
-fn version_file(n: &[u8]) -> Name
-    requires { 20 ≤ length n.now }
-    ensures { result ≡ name_is (with_ending (decimal (take 20 n.now)) (ascii ".json")) }
-{
-    match twenty_digits(n) {
-        Digits::Number(v) => Name::VersionFile(Version(v)),
-        Digits::Above => Name::TooLarge,
-        Digits::NotDigits => Name::Other,
-    }
-}
-
-// A name whose digits are followed by `.checkpoint.json`.
-fn checkpoint(n: &[u8]) -> Name
-    requires { 20 ≤ length n.now }
-    ensures { result ≡ name_is (with_ending (decimal (take 20 n.now)) (ascii ".checkpoint.json")) }
-{
-    match twenty_digits(n) {
-        Digits::Number(v) => Name::Checkpoint(Version(v)),
-        Digits::Above => Name::TooLarge,
-        Digits::NotDigits => Name::Other,
-    }
+    let v = bytes_values::short_digits(&n[..SAFE_DIGITS]).ok_or(Name::Other)?;
+    last_digit(v, n[SAFE_DIGITS])
 }
 
 // What the name n says.
@@ -123,11 +70,18 @@ pub fn name_of(n: &[u8]) -> Name
     if n.len() < DIGITS {
         return Name::Other;
     }
-    if bytes_values::same_bytes(&n[DIGITS..], b".json") {
-        return version_file(n);
+    let ending = &n[DIGITS..];
+    if bytes_values::same_bytes(ending, b".json") {
+        return match twenty_digits(n) {
+            Ok(v) => Name::VersionFile(v),
+            Err(name) => name,
+        };
     }
-    if bytes_values::same_bytes(&n[DIGITS..], b".checkpoint.json") {
-        return checkpoint(n);
+    if bytes_values::same_bytes(ending, b".checkpoint.json") {
+        return match twenty_digits(n) {
+            Ok(v) => Name::Checkpoint(v),
+            Err(name) => name,
+        };
     }
     Name::Other
 }
@@ -136,11 +90,5 @@ pub fn name_of(n: &[u8]) -> Name
 pub fn begins_low(n: &[u8]) -> bool
     ensures { result ≡ begins two_zeros n.now }
 {
-    if n.len() < 2 {
-        return false;
-    }
-    if n[0] != b'0' {
-        return false;
-    }
-    n[1] == b'0'
+    2 <= n.len() && n[0] == b'0' && n[1] == b'0'
 }

@@ -1,7 +1,7 @@
 -- Inside a string: what a turn of the loop over its characters keeps. The bound of `chars` is not told: it only has to be enough.
 use mathlib.Core.Path.{◌≡◌, refl, sym, ap, ◌∙◌}
 use mathlib.Core.Bool.{true}
-use mathlib.Core.Option.{Option, none, some}
+use Rattle.std.specs.Prelude.{Option, None, Some}
 use mathlib.Core.List.{◌∷◌, ◌++◌}
 use Prim.Native.Nat.{ℕ, zero, suc, ◌+◌, ◌-◌, ◌≤◌, ◌<◌}
 use native.Mathlib.Omega.{arith}
@@ -14,7 +14,6 @@ use Rattle.rules.proofs.Json.Plain.{plain-quote, plain-backslash}
 use Rattle.rules.proofs.Json.Shadows.{behind-spelled}
 use Rattle.rules.proofs.Json.StringReads.{string-bound}
 use Rattle.json_tokens.specs.Answers.{Answer}
-use Rattle.json_tokens.specs.declared.tokens.Next.TheVariants.{At}
 use Rattle.json_tokens.proofs.Places.{here, here-is, ended}
 use Rattle.json_characters.specs.Runs.{Plains, Closing, Closes}
 use Rattle.json_characters.proofs.Runs.{plains-keep}
@@ -24,16 +23,16 @@ chars-behind : (n : ℕ) (b : ℕ) (t : Text) → (b ≡ 0x22 → ⊥) → behin
 unfolding chars
 chars-behind n b t q = rw (chars, ne_eqb b 0x22 q) (each (char (b ∷ t)))
   where
-    others : (x : Bytes) (o : Option (Bytes × Text)) → behind (o >>= λ p. some (x ++ p.0, p.1)) ≡ behind o
-    others x none = refl
-    others x (some p) = refl
+    others : (x : Bytes) (o : Option (Bytes × Text)) → behind (o >>= λ p. Some (x ++ p.0, p.1)) ≡ behind o
+    others x None = refl
+    others x (Some p) = refl
 
-    each : (o : Option (Bytes × Text)) → behind (o >>= λ p. chars n p.1 >>= λ q. some (p.0 ++ q.0, q.1)) ≡ (behind o >>= λ r. behind (chars n r))
-    each none = refl
-    each (some p) = others p.0 (chars n p.1)
+    each : (o : Option (Bytes × Text)) → behind (o >>= λ p. chars n p.1 >>= λ q. Some (p.0 ++ q.0, q.1)) ≡ (behind o >>= λ r. behind (chars n r))
+    each None = refl
+    each (Some p) = others p.0 (chars n p.1)
 
 -- a plain byte is a character by itself
-plain-char : (b : ℕ) (t : Text) → is_plain b ≡ true → behind (char (b ∷ t)) ≡ some t
+plain-char : (b : ℕ) (t : Text) → is_plain b ≡ true → behind (char (b ∷ t)) ≡ Some t
 unfolding char unescaped
 plain-char b t p = rw (char, ne_eqb b 0x5C (plain-backslash p)) (behind-spelled unescaped (b ∷ t) ∙ rw (unescaped, p))
 
@@ -56,12 +55,12 @@ inside-start {s} {at} h =
       same = refl;
     }
 
-chars-ended : (n : ℕ) (s : Text) (i : ℕ) → length s ≤ i → chars n (drop i s) ≡ none
+chars-ended : (n : ℕ) (s : Text) (i : ℕ) → length s ≤ i → chars n (drop i s) ≡ None
 unfolding chars
 chars-ended zero s i h = refl
 chars-ended (suc n) s i h = rw (ended s i h)
 
-chars-quote : (n : ℕ) (s : Text) (i : ℕ) → length s < n + i → i < length s → get_or s i 0 ≡ 0x22 → behind (chars n (drop i s)) ≡ some (drop (i + 1) s)
+chars-quote : (n : ℕ) (s : Text) (i : ℕ) → length s < n + i → i < length s → get_or s i 0 ≡ 0x22 → behind (chars n (drop i s)) ≡ Some (drop (i + 1) s)
 unfolding chars
 chars-quote zero s i f h e = absurd (omega arith)
 chars-quote (suc n) s i f h e = rw (here-is s i 0x22 h e)
@@ -73,19 +72,19 @@ chars-next zero s i f h q = absurd (omega arith)
 chars-next (suc m) s i f h q = (m, refl, rw (here s i h) (chars-behind m _ _ q))
 
 module _ {s : Text} {at i : ℕ} (t : Inside s at i) where
-  pub inside-ended : length s ≤ i → behind (string (drop at s)) ≡ none
+  pub inside-ended : length s ≤ i → behind (string (drop at s)) ≡ None
   inside-ended h = sym t.same ∙ ap behind (chars-ended t.n s i h)
 
   module _ (h : i < length s) where
-    pub inside-quote : get_or s i 0 ≡ 0x22 → behind (string (drop at s)) ≡ some (drop (i + 1) s)
+    pub inside-quote : get_or s i 0 ≡ 0x22 → behind (string (drop at s)) ≡ Some (drop (i + 1) s)
     inside-quote e = sym t.same ∙ chars-quote t.n s i t.enough h e
 
-    pub inside-none : (get_or s i 0 ≡ 0x22 → ⊥) → behind (char (drop i s)) ≡ none → behind (string (drop at s)) ≡ none
+    pub inside-none : (get_or s i 0 ≡ 0x22 → ⊥) → behind (char (drop i s)) ≡ None → behind (string (drop at s)) ≡ None
     inside-none q e =
         let (m, p, r) = chars-next t.n s i t.enough h q in
         sym t.same ∙ r ∙ rw e
 
-    pub inside-more : {j : ℕ} → (get_or s i 0 ≡ 0x22 → ⊥) → behind (char (drop i s)) ≡ some (drop j s) → i + 1 ≤ j → j ≤ length s → Inside s at j
+    pub inside-more : {j : ℕ} → (get_or s i 0 ≡ 0x22 → ⊥) → behind (char (drop i s)) ≡ Some (drop j s) → i + 1 ≤ j → j ≤ length s → Inside s at j
     inside-more {j = j} q e l w =
         let (m, p, r) = chars-next t.n s i t.enough h q in
         record {
@@ -107,7 +106,7 @@ pub inside-rest : {s : Text} {at i : ℕ} → Inside s at i → behind (string (
 inside-rest {s} {at} {i} t = ap behind (string-bound t.n (drop i s) (omega (arith, length-drop i s, t.enough, t.within))) ∙ t.same
 
 -- a string of plain bytes alone
-pub closes-answer : (s : Text) (at r : ℕ) → at ≤ length s → Closes s at r → 0 < r → Answer (behind (string (drop at s))) s (at + 1) (At r)
+pub closes-answer : (s : Text) (at r : ℕ) → at ≤ length s → Closes s at r → 0 < r → Answer (behind (string (drop at s))) s (at + 1) (Some r)
 closes-answer s at r h c l =
     let i : ℕ = r - 1 in
     let same : r ≡ i + 1 = omega arith in
@@ -115,4 +114,4 @@ closes-answer s at r h c l =
     let low : at ≤ i = x.0 in
     let high : i < length s = x.1 in
     let inside : Inside s at i = inside-run (inside-start h) (low, omega arith, x.2) in
-    (inside-quote inside high x.3 ∙ ap (λ (k : ℕ). some (drop k s)) (sym same), omega arith, omega arith)
+    (inside-quote inside high x.3 ∙ ap (λ (k : ℕ). Some (drop k s)) (sym same), omega arith, omega arith)

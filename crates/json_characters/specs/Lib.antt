@@ -1,4 +1,3 @@
 -- What the scanners of characters promise, in the rules' terms.
 pub mod Codes
-pub mod Leading
 pub mod Runs

@@ -3,9 +3,7 @@ ghost use Rattle.std.specs.Prelude.{◌≡◌, ◌≤◌, ◌<◌, ◌+◌, leng
 ghost use Rattle.rules.specs.Json.Strings.{hex_digit, code_unit, paired, high as high_half, code_point, short_escape, escaped};
 ghost use Rattle.json_characters.specs.Codes.{Taken, Means};
 
-use json_tokens::Next;
-
-const SMALL_U: u8 = 0x75;
+const SMALL_U: u8 = b'u';
 
 // The first code units that are high surrogates, that are low ones, and that are neither again.
 const HIGH: u32 = 0xD800;
@@ -14,132 +12,87 @@ const LOW: u32 = 0xDC00;
 
 const BEYOND: u32 = 0xE000;
 
-// The number that a byte stands for, or that it stands for none.
-#[derive(Clone, Copy)]
-enum Meant {
-    Number(u8),
-    Nothing,
-}
-
 // The value of a hexadecimal digit.
-fn hex_digit(b: u8) -> Meant
+fn hex_digit(b: u8) -> Option<u8>
     ensures { Means (hex_digit b) 0xF result }
 {
     match b {
-        0x30..=0x39 => Meant::Number(b - 0x30),
-        0x41..=0x46 => Meant::Number(b - 0x37),
-        0x61..=0x66 => Meant::Number(b - 0x57),
-        _ => Meant::Nothing,
+        b'0'..=b'9' => Some(b - b'0'),
+        b'A'..=b'F' => Some(b - b'A' + 10),
+        b'a'..=b'f' => Some(b - b'a' + 10),
+        _ => None,
     }
 }
 
 // The byte that is meant by one behind a backslash.
-fn short_escape(b: u8) -> Meant
+fn short_escape(b: u8) -> Option<u8>
     ensures { Means (short_escape b) 0x5C result }
 {
     match b {
-        0x22 => Meant::Number(0x22),
-        0x5C => Meant::Number(0x5C),
-        0x2F => Meant::Number(0x2F),
-        0x62 => Meant::Number(0x08),
-        0x66 => Meant::Number(0x0C),
-        0x6E => Meant::Number(0x0A),
-        0x72 => Meant::Number(0x0D),
-        0x74 => Meant::Number(0x09),
-        _ => Meant::Nothing,
+        b'"' | b'\\' | b'/' => Some(b),
+        b'b' => Some(0x08),
+        b'f' => Some(0x0C),
+        b'n' => Some(b'\n'),
+        b'r' => Some(b'\r'),
+        b't' => Some(b'\t'),
+        _ => None,
     }
-}
-
-// The same number in a wider type.
-fn wide(n: u8) -> u32
-    ensures { result ≡ n }
-{
-    n as u32
-}
-
-// A code point (or the code unit of one) and the position behind it, or that none stands there.
-#[derive(Clone, Copy)]
-pub enum Code {
-    Point(u32, usize),
-    NoCode,
 }
 
 // Four hexadecimal digits.
-fn code_unit(s: &[u8], at: usize) -> Code
+fn code_unit(s: &[u8], at: usize) -> Option<(u32, usize)>
     requires { at ≤ length s.now }
     ensures { Taken (code_unit (drop at s.now)) s.now at 0xFFFF result }
 {
-    let mut i = at;
-    let mut k: usize = 4;
-    let mut u: u32 = 0;
-    while 0 < k {
-        if s.len() <= i {
-            return Code::NoCode;
-        }
-        let Meant::Number(d) = hex_digit(s[i]) else {
-            return Code::NoCode;
-        };
-        u = u * 16 + wide(d);
-        i += 1;
-        k -= 1;
+    if s.len() - at < 4 {
+        return None;
     }
-    Code::Point(u, i)
+    let mut u = 0;
+    for i in at..at + 4 {
+        let d = hex_digit(s[i])?;
+        u = u * 16 + u32::from(d);
+    }
+    Some((u, at + 4))
 }
 
 // Behind the high surrogate: the escape of a low one, and the code point of both.
-fn low_half(s: &[u8], at: usize, high: u32) -> Code
+fn low_half(s: &[u8], at: usize, high: u32) -> Option<(u32, usize)>
     requires { (at ≤ length s.now) × (0xD800 ≤ high) × (high < 0xDC00) }
     ensures { Taken (paired high_half high (drop at s.now)) s.now at 0x10FFFF result }
 {
-    let Next::At(i) = json_tokens::skip_word(s, at, b"\\u") else {
-        return Code::NoCode;
-    };
-    let Code::Point(low, j) = code_unit(s, i) else {
-        return Code::NoCode;
-    };
-    if low < LOW {
-        return Code::NoCode;
+    let i = json_tokens::skip_word(s, at, b"\\u")?;
+    let (low, j) = code_unit(s, i)?;
+    if low < LOW || BEYOND <= low {
+        return None;
     }
-    if BEYOND <= low {
-        return Code::NoCode;
-    }
-    Code::Point(0x10000 + (high - HIGH) * 0x400 + (low - LOW), j)
+    Some((0x10000 + (high - HIGH) * 0x400 + (low - LOW), j))
 }
 
 // The code point of the digits behind a backslash and a u; a surrogate alone is none.
-fn code_point(s: &[u8], at: usize) -> Code
+fn code_point(s: &[u8], at: usize) -> Option<(u32, usize)>
     requires { at ≤ length s.now }
     ensures { Taken (code_point (drop at s.now)) s.now at 0x10FFFF result }
 {
-    let Code::Point(u, i) = code_unit(s, at) else {
-        return Code::NoCode;
-    };
-    if u < HIGH {
-        return Code::Point(u, i);
+    let (u, i) = code_unit(s, at)?;
+    match u {
+        HIGH..LOW => low_half(s, i, u),
+        LOW..BEYOND => None,
+        _ => Some((u, i)),
     }
-    if u < LOW {
-        return low_half(s, i, u);
-    }
-    if u < BEYOND {
-        return Code::NoCode;
-    }
-    Code::Point(u, i)
 }
 
 // Behind a backslash: the code point that is meant.
-pub fn escape(s: &[u8], at: usize) -> Code
+pub fn escape(s: &[u8], at: usize) -> Option<(u32, usize)>
     requires { at ≤ length s.now }
     ensures { Taken (escaped (drop at s.now)) s.now (at + 1) 0x10FFFF result }
 {
     if s.len() <= at {
-        return Code::NoCode;
+        return None;
     }
     let b = s[at];
     if b == SMALL_U {
         return code_point(s, at + 1);
     }
-    let Meant::Number(c) = short_escape(b) else {
-        return Code::NoCode;
-    };
-    Code::Point(wide(c), at + 1)
+    let c = short_escape(b)?;
+    Some((u32::from(c), at + 1))
 }

@@ -6,7 +6,7 @@ mod plain;
 mod strings;
 mod utf8;
 
-pub use escapes::{Code, escape};
+pub use escapes::escape;
 pub use plain::{plain_end, skip_plain};
 pub use strings::{skip_char, skip_chars, skip_string};
 pub use utf8::skip_unescaped;

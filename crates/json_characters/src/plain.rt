@@ -10,15 +10,12 @@ fn skip_few(s: &[u8], at: usize) -> usize
     requires { at ≤ length s.now }
     ensures { Run s.now at result }
 {
-    let mut i = at;
-    while i < s.len() {
-        if is_plain(s[i]) {
-            i += 1;
-        } else {
+    for i in at..s.len() {
+        if !is_plain(s[i]) {
             return i;
         }
     }
-    i
+    s.len()
 }
 
 // Passes plain bytes from `at` on: the place of the first that is none, or the end.

@@ -1,6 +1,6 @@
 -- A cursor's steps: within a code point, over a byte that stands for itself, into an escape; and where it ends.
 use mathlib.Core.Path.{◌≡◌, refl, sym, ap, ◌∙◌}
-use mathlib.Core.Option.{none, some}
+use Rattle.std.specs.Prelude.{None, Some}
 use mathlib.Core.List.{[], ◌∷◌, ◌++◌}
 use Prim.Native.Nat.{ℕ, zero, suc, ◌+◌, ◌-◌, ◌≤◌, ◌<◌}
 use native.Mathlib.Omega.{arith}
@@ -13,8 +13,7 @@ use Rattle.rules.specs.Json.Strings.{utf8, escaped}
 use Rattle.json_strings.specs.Flat.{flat, last_of}
 use Rattle.json_strings.specs.Ahead.{fresh, ahead, Sound, into_escape, next_at, next_by, Went, Stepped}
 use Rattle.json_strings.specs.declared.cursors.Cursor.{Cursor}
-use Rattle.json_strings.specs.declared.cursors.Step.{Step}
-use Rattle.json_strings.specs.declared.cursors.Step.TheVariants.{Byte, End}
+use Rattle.std.specs.Prelude.{Option}
 use Rattle.json_strings.proofs.Flat.{flat-end, flat-quote, flat-itself, flat-none, flat-escape}
 use Rattle.json_strings.proofs.Widths.{Last, size-bounds, last_of-all, last_of_none}
 
@@ -31,10 +30,10 @@ module _ (s : Text) (i : ℕ) where
     pub flat-at-itself : (get_or s i 0 ≡ 0x22 → ⊥) → (get_or s i 0 ≡ 0x5C → ⊥) → flat (drop i s) ≡ get_or s i 0 ∷ flat (drop (i + 1) s)
     flat-at-itself q e = ap flat (drop_here s i 0 h) ∙ flat-itself (get_or s i 0) (drop (i + 1) s) q e
 
-    pub flat-at-none : get_or s i 0 ≡ 0x5C → escaped (drop (i + 1) s) ≡ none → flat (drop i s) ≡ []
+    pub flat-at-none : get_or s i 0 ≡ 0x5C → escaped (drop (i + 1) s) ≡ None → flat (drop i s) ≡ []
     flat-at-none e n = ap flat (drop-is s i 0 0x5C h e) ∙ flat-none (drop (i + 1) s) n
 
-    pub flat-at-escape : (x j : ℕ) → get_or s i 0 ≡ 0x5C → escaped (drop (i + 1) s) ≡ some (x, drop j s) → flat (drop i s) ≡ utf8 x ++ flat (drop j s)
+    pub flat-at-escape : (x j : ℕ) → get_or s i 0 ≡ 0x5C → escaped (drop (i + 1) s) ≡ Some (x, drop j s) → flat (drop i s) ≡ utf8 x ++ flat (drop j s)
     flat-at-escape x j e n = ap flat (drop-is s i 0 0x5C h e) ∙ flat-escape (drop (i + 1) s) n
 
 -- ---- cursors
@@ -54,9 +53,9 @@ went-fresh s c e h = record {
   nearer = omega (arith, h.nearer);
 }
 
-pub stepped_fresh : (s : Text) (c : Cursor) (r : Step) → c.left ≡ 0 → Stepped s (fresh c.at) r → Stepped s c r
-stepped_fresh s c (Byte b d) e h = went-fresh s c e h
-stepped_fresh s c End e h = ahead-fresh s c e ∙ sym (ahead-fresh s (fresh c.at) refl) ∙ h
+pub stepped_fresh : (s : Text) (c : Cursor) (r : Option (ℕ × Cursor)) → c.left ≡ 0 → Stepped s (fresh c.at) r → Stepped s c r
+stepped_fresh s c (Some (b, d)) e h = went-fresh s c e h
+stepped_fresh s c None e h = ahead-fresh s c e ∙ sym (ahead-fresh s (fresh c.at) refl) ∙ h
 
 pub went-part : (s : Text) (c : Cursor) {b : ℕ} → Sound s c → 0 < c.left → Last c.code c.left b
     → Went s c (record { at = c.at; code = c.code; left = c.left - 1 }) b
@@ -81,7 +80,7 @@ went-itself s i h q e = record {
   nearer = omega arith;
 }
 
-pub went-escape : (s : Text) (i x j n : ℕ) {b : ℕ} → i < length s → get_or s i 0 ≡ 0x5C → escaped (drop (i + 1) s) ≡ some (x, drop j s)
+pub went-escape : (s : Text) (i x j n : ℕ) {b : ℕ} → i < length s → get_or s i 0 ≡ 0x5C → escaped (drop (i + 1) s) ≡ Some (x, drop j s)
     → i + 2 ≤ j → j ≤ length s → x ≤ 0x10FFFF → n ≡ length (utf8 x) → Last x n b
     → Went s (fresh i) (record { at = j; code = x; left = n - 1 }) b
 unfolding ahead next_by next_at into_escape

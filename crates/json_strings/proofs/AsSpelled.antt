@@ -1,9 +1,8 @@
 -- Strings compared as they are spelled: how the bytes are found that can be, and what two strings that are spelled alike tell.
-use mathlib.Core.Path.{◌≡◌, refl, sym, ap, ◌∙◌, subst}
-use mathlib.Core.Bool.{true}
+use mathlib.Core.Path.{◌≡◌, refl, sym, ap, ◌∙◌}
 use mathlib.Core.List.{◌∷◌, ◌++◌}
-use mathlib.Core.Option.{some}
-use Prim.Native.Nat.{ℕ, zero, suc, ◌+◌, ◌-◌, ◌≤◌, ◌<◌}
+use Rattle.std.specs.Prelude.{Some}
+use Prim.Native.Nat.{ℕ, zero, suc, ◌+◌, ◌-◌, ◌≤◌, ◌<◌, min}
 use native.Mathlib.Omega.{arith}
 use lib.Dec.{eqb, ltb}
 use lib.ListN.{length, drop, get_or}
@@ -39,32 +38,8 @@ module _ {t : Text} {a b : ℕ} (r : Raw t a b) where
         (λ y. g k (ltb-false k b y) i e);
   }
 
-  pub raw-still : Raw t a (b + 0)
-  raw-still = let e : b ≡ b + 0 = omega arith in subst (Raw t a) e r
-
   pub raw-plain : (c : ℕ) → b ≤ c → c ≤ length t → Plains t b c → Raw t a c
   raw-plain c l m p = raw-more c l m (λ k h i. plain-quote (p k h i)) (λ k h i e. absurd (plain-backslash (p k h i) e))
-
-  pub raw-itself : b < length t → (get_or t b 0 ≡ 0x22 → ⊥) → (get_or t b 0 ≡ 0x5C → ⊥) → Raw t a (b + 1)
-  raw-itself l q e = raw-more (b + 1) (omega arith) (omega arith) (λ k h i f. q (there k h i f)) (λ k h i f. absurd (e (there k h i f)))
-    where
-      there : (k : ℕ) → b ≤ k → k < b + 1 → {x : ℕ} → get_or t k 0 ≡ x → get_or t b 0 ≡ x
-      there k h i f = let p : b ≡ k = omega arith in ap (λ (n : ℕ). get_or t n 0) p ∙ f
-
-  pub raw-slash : b + 2 ≤ length t → get_or t b 0 ≡ 0x5C → get_or t (b + 1) 0 ≡ 0x2F → Raw t a (b + 2)
-  raw-slash l e f = raw-more (b + 2) (omega arith) l
-      (λ k h i q. by (eqb k b)
-      (λ y. omega (arith, q, at k b y ∙ e))
-      (λ y. omega (arith, q, next k h i (eqb-false k b y))))
-      (λ k h i q. by (eqb k b)
-      (λ y. let p : k ≡ b = eqb-true k b y in (omega arith, ap (λ (n : ℕ). get_or t (n + 1) 0) p ∙ f))
-      (λ y. absurd (omega (arith, q, next k h i (eqb-false k b y)))))
-    where
-      at : (k n : ℕ) → eqb k n ≡ true → get_or t k 0 ≡ get_or t n 0
-      at k n y = ap (λ (m : ℕ). get_or t m 0) (eqb-true k n y)
-
-      next : (k : ℕ) → b ≤ k → k < b + 2 → (k ≡ b → ⊥) → get_or t k 0 ≡ 0x2F
-      next k h i n = let p : k ≡ b + 1 = omega (arith, n) in ap (λ (m : ℕ). get_or t m 0) p ∙ f
 
 -- ---- strings that are spelled alike
 
@@ -101,7 +76,7 @@ flat-at-slash : (s : Text) (i : ℕ) → i + 1 < length s → get_or s i 0 ≡ 0
 unfolding escaped short_escape first
 flat-at-slash s i h e f =
     let p : i + 1 + 1 ≡ i + 2 = omega arith in
-    flat-at-escape s i (omega arith) 0x2F (i + 2) e (ap escaped (drop-is s (i + 1) 0 0x2F h f) ∙ ap (λ (n : ℕ). some (0x2F, drop n s)) p)
+    flat-at-escape s i (omega arith) 0x2F (i + 2) e (ap escaped (drop-is s (i + 1) 0 0x2F h f) ∙ ap (λ (n : ℕ). Some (0x2F, drop n s)) p)
     ∙ ap (λ (x : Bytes). x ++ flat (drop (i + 2) s)) (utf8-one 0x2F (omega arith))
 
 module _ {t : Text} {j end : ℕ} (w : Raw t j end) where
@@ -162,10 +137,10 @@ module _ (s : Text) (i : ℕ) {t : Text} {j end : ℕ} (w : Raw t j end) where
       here k q x f = let p : n ≡ k = omega arith in x (ap (λ (m : ℕ). get_or t (j + m) 0) p ∙ f)
 
   -- as far as both are looked at, `room` bytes, n are alike, and m of them are whole
-  pub common-whole : {room n m : ℕ} → i < length s → (room ≤ end - j) × (room ≤ length s - i) → (n ≤ room) × Alike s i t j n → (m ≤ n) × Whole t j m
+  pub common-whole : {room n m : ℕ} → i < length s → room ≡ min (end - j) (length s - i) → (n ≤ room) × Alike s i t j n → (m ≤ n) × Whole t j m
       → Common s i t j m
   common-whole {room} {n} {m} h r a v =
-      common-raw m (omega (arith, r.1, a.0, v.0)) (omega (arith, w.low, r.0, a.0, v.0)) (λ k l. a.1 k (omega (arith, v.0))) v.1
+      common-raw m (omega (arith, r, a.0, v.0)) (omega (arith, w.low, r, a.0, v.0)) (λ k l. a.1 k (omega (arith, v.0))) v.1
 
   module _ {n : ℕ} (h : i + n < length s) (l : j + n < end) (a : Alike s i t j n) (b : Tells (get_or s (i + n) 0) (get_or t (j + n) 0)) where
     common-told : Common s i t j n

@@ -6,14 +6,13 @@ use Rattle.rules.specs.Json.Text.{Text}
 use Rattle.rules.proofs.Tests.{apart}
 use Rattle.json_strings.specs.Ahead.{Stepped}
 use Rattle.json_strings.specs.declared.cursors.Cursor.{Cursor}
-use Rattle.json_strings.specs.declared.cursors.Step.{Step}
-use Rattle.json_strings.specs.declared.cursors.Step.TheVariants.{Byte, End}
+use Rattle.std.specs.Prelude.{Option, Some, None}
 
-pub stepped-alone : (s : Text) (c : Cursor) (r q : Step) → Stepped s c r → Stepped s c q → r ≡ q
-stepped-alone s c (Byte a d) (Byte b e) h k =
+pub stepped-alone : (s : Text) (c : Cursor) (r q : Option (ℕ × Cursor)) → Stepped s c r → Stepped s c q → r ≡ q
+stepped-alone s c (Some (a, d)) (Some (b, e)) h k =
     let bytes : a ∷ _ ≡ b ∷ _ = sym h.more ∙ k.more in
     let first : a ≡ b = cc bytes in
-    ap (λ (x : ℕ). Byte x d) first ∙ ap (Byte b) (h.place ∙ sym k.place)
-stepped-alone s c (Byte a d) End h k = let e = sym h.more ∙ k in apart (cc)
-stepped-alone s c End (Byte b e) h k = let e = sym k.more ∙ h in apart (cc)
-stepped-alone s c End End h k = refl
+    ap (λ (x : ℕ). (Some (x, d))) first ∙ ap (λ (d : Cursor). Some (b, d)) (h.place ∙ sym k.place)
+stepped-alone s c (Some (a, d)) None h k = let e = sym h.more ∙ k in apart (cc)
+stepped-alone s c None (Some (b, e)) h k = let e = sym k.more ∙ h in apart (cc)
+stepped-alone s c None None h k = refl

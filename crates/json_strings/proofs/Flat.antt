@@ -1,6 +1,6 @@
 -- The byte-wise view of a string's text, step by step: no bound is left in these laws.
 use mathlib.Core.Path.{◌≡◌, refl, ap}
-use mathlib.Core.Option.{Option, none, some}
+use Rattle.std.specs.Prelude.{Option, None, Some}
 use mathlib.Core.List.{[], ◌∷◌, ◌++◌}
 use Prim.Native.Nat.{ℕ, zero, suc, ◌+◌, ◌≤◌, ◌<◌}
 use native.Mathlib.Omega.{arith}
@@ -19,8 +19,8 @@ use Rattle.json_strings.specs.Flat.{meant, flat_in, flat}
 meant-same : {f g : Text → Bytes} (t : Text) (o : Option (ℕ × Text)) → escaped t ≡ o
     → ((r : Text) → length r < length t → f r ≡ g r) → meant f o ≡ meant g o
 unfolding meant
-meant-same t none e h = refl
-meant-same t (some p) e h =
+meant-same t None e h = refl
+meant-same t (Some p) e h =
     let l : length p.1 + 1 ≤ length t = reads-fewer (escaped-reads p.0 t p.1 e) in
     ap (λ (x : Bytes). utf8 p.0 ++ x) (h p.1 (omega arith))
 
@@ -48,11 +48,11 @@ pub flat-itself : (b : ℕ) (t : Text) → (b ≡ 0x22 → ⊥) → (b ≡ 0x5C 
 unfolding flat flat_in
 flat-itself b t q e = rw (flat_in, ne_eqb b 0x22 q, ne_eqb b 0x5C e)
 
-pub flat-none : (t : Text) → escaped t ≡ none → flat (0x5C ∷ t) ≡ []
+pub flat-none : (t : Text) → escaped t ≡ None → flat (0x5C ∷ t) ≡ []
 unfolding flat flat_in meant
 flat-none t e = rw (flat_in, e)
 
-pub flat-escape : (t : Text) {c : ℕ} {r : Text} → escaped t ≡ some (c, r) → flat (0x5C ∷ t) ≡ utf8 c ++ flat r
+pub flat-escape : (t : Text) {c : ℕ} {r : Text} → escaped t ≡ Some (c, r) → flat (0x5C ∷ t) ≡ utf8 c ++ flat r
 unfolding flat flat_in meant
 flat-escape t {c} {r} e =
     let l : length r + 1 ≤ length t = reads-fewer (escaped-reads c t r e) in

@@ -6,8 +6,9 @@ use lib.ListN.{drop}
 use Rattle.rules.specs.Bytes.{Bytes, same, Order as RuleOrder, less, equal, more, order, is_equal}
 use Rattle.rules.specs.Json.Text.{Text}
 use Rattle.rules.proofs.Order.{order-cons-less, order-cons-more, order-cons-equal, same-order}
-use Rattle.bytes_values.specs.Answers.{order_is, order_of}
-use Rattle.bytes_values.specs.declared.Order.{Order}
+use Rattle.std.specs.Ordering.{is_eq}
+use Rattle.bytes_values.specs.Answers.{order_is}
+use Rattle.std.specs.declared.cmp.Ordering.{Ordering}
 use Rattle.json_tokens.proofs.Anew.{anew, anew-same}
 use Rattle.json_strings.specs.Decoded.{decoded, WellSpelled}
 use Rattle.json_strings.specs.Flat.{flat}
@@ -39,11 +40,11 @@ module _ {y : Bytes} where
 
 -- ---- sameness by the order's answer
 
-pub same_answer : (x y : Bytes) (r : Order) → r ≡ order_is (order x y) → is_equal (order_of r) ≡ same x y
-unfolding order_is order_of
-same_answer x y r e = ap (λ (o : Order). is_equal (order_of o)) e ∙ ap is_equal (back (order x y)) ∙ sym (same-order x y)
+pub same_answer : (x y : Bytes) (r : Ordering) → r ≡ order_is (order x y) → is_eq r ≡ same x y
+unfolding order_is is_equal
+same_answer x y r e = ap is_eq e ∙ back (order x y) ∙ sym (same-order x y)
   where
-    back : (o : RuleOrder) → order_of (order_is o) ≡ o
+    back : (o : RuleOrder) → is_eq (order_is o) ≡ is_equal o
     back less = refl
     back equal = refl
     back more = refl

@@ -1,6 +1,6 @@
 -- A string that is spelled in a part of a text is spelled at its place in the text, and stands for the same bytes.
 use mathlib.Core.Path.{◌≡◌, sym, ap, ◌∙◌}
-use mathlib.Core.Option.{some}
+use Rattle.std.specs.Prelude.{Some}
 use mathlib.Core.List.{◌++◌}
 use Prim.Native.Nat.{ℕ, ◌+◌, ◌≤◌, ◌<◌}
 use native.Mathlib.Omega.{arith}
@@ -19,7 +19,7 @@ use Rattle.rules.proofs.Json.Shadows.{behind-some}
 use Rattle.rules.proofs.Json.Extends.{string-extends}
 use Rattle.json_strings.specs.Decoded.{bytes_of, decoded, WellSpelled}
 
-decoded-some : (t : Text) {x : Bytes} {r : Text} → string t ≡ some (x, r) → decoded t ≡ x
+decoded-some : (t : Text) {x : Bytes} {r : Text} → string t ≡ Some (x, r) → decoded t ≡ x
 unfolding decoded bytes_of
 decoded-some t e = ap bytes_of e
 
@@ -35,20 +35,20 @@ module _ (s : Text) (a b : ℕ) where
       (λ t. (a + n, part-rest s (a + n) b (leb-true (a + n) b t)))
       (λ f. let l : b < a + n = leb-false (a + n) b f in (b, ap (λ (u : Text). u ++ drop b s) (part_none s (a + n) b (omega arith))))
 
-  before : (p : ℕ) {x : Bytes} {r : Text} → string (part s (a + p) b) ≡ some (x, r) → a + p ≤ b
+  before : (p : ℕ) {x : Bytes} {r : Text} → string (part s (a + p) b) ≡ Some (x, r) → a + p ≤ b
   before p e = by (leb (a + p) b) (λ t. leb-true (a + p) b t)
       (λ f. let l : b < a + p = leb-false (a + p) b f in answered-none e (ap string (part_none s (a + p) b (omega arith)) ∙ string-end))
 
   pub spelled-part : a ≤ b → (p : ℕ) → WellSpelled (part s a b) p → Placed s (a + p) (decoded (drop p (part s a b)))
   spelled-part h p w =
       let (x, g) = behind-some (string (drop p (part s a b))) w.closed in
-      let here : string (part s (a + p) b) ≡ some (x, part s (a + w.end) b) =
-      ap string (sym (drop-part s a b p)) ∙ g ∙ ap (λ (u : Text). some (x, u)) (drop-part s a b w.end) in
+      let here : string (part s (a + p) b) ≡ Some (x, part s (a + w.end) b) =
+      ap string (sym (drop-part s a b p)) ∙ g ∙ ap (λ (u : Text). Some (x, u)) (drop-part s a b w.end) in
       let (m, q) = left w.end h in
-      let there : string (drop (a + p) s) ≡ some (x, drop m s) =
+      let there : string (drop (a + p) s) ≡ Some (x, drop m s) =
       ap string (sym (part-rest s (a + p) b (before p here)))
       ∙ string-extends (length (part s (a + p) b)) (part s (a + p) b) (drop b s) (omega arith) here
-      ∙ ap (λ (u : Text). some (x, u)) q in
+      ∙ ap (λ (u : Text). Some (x, u)) q in
       record {
         spelled = record { end = m; closed = ap behind there };
         same = decoded-some (drop (a + p) s) there ∙ sym (decoded-some (drop p (part s a b)) g);

@@ -1,7 +1,7 @@
 -- A well spelled string read byte by byte gives what `string` gives: the bytes of a longer character are no quote and no backslash.
 use mathlib.Core.Path.{◌≡◌, refl, sym, ap, ◌∙◌, subst}
 use mathlib.Core.Bool.{true, false}
-use mathlib.Core.Option.{Option, none, some}
+use Rattle.std.specs.Prelude.{Option, None, Some}
 use mathlib.Core.List.{[], ◌∷◌, ◌++◌}
 use Prim.Native.Nat.{ℕ, zero, suc, ◌-◌, ◌<◌}
 use native.Mathlib.Omega.{arith}
@@ -45,14 +45,14 @@ passes-byte {b} {t} q e h = record {
 passes-above : {b : ℕ} {t r : Text} → 0x5C < b → Passes t r → Passes (b ∷ t) r
 passes-above l h = passes-byte (λ e. omega arith) (λ e. omega arith) h
 
-byte_in-passes : (lo hi : ℕ) (t : Text) {u r : Text} → 0x5C < lo → byte_in lo hi t ≡ some u → Passes u r → Passes t r
+byte_in-passes : (lo hi : ℕ) (t : Text) {u r : Text} → 0x5C < lo → byte_in lo hi t ≡ Some u → Passes u r → Passes t r
 unfolding byte_in
 byte_in-passes lo hi [] l e h = apart (cc)
 byte_in-passes lo hi (b ∷ t) {u} {r} l e h = by (among lo hi b)
     (λ p. passes-above (omega (arith, (among-true lo hi b p).0)) (subst (λ (x : Text). Passes x r) (sym (some_same (rw (byte_in, p) at e))) h))
     (λ p. answered-none e (rw (byte_in, p)))
 
-tails-passes : (n : ℕ) (t : Text) {r : Text} → tails n t ≡ some r → Passes t r
+tails-passes : (n : ℕ) (t : Text) {r : Text} → tails n t ≡ Some r → Passes t r
 unfolding tails
 tails-passes zero t e = subst (Passes t) (some_same e) passes_none
 tails-passes (suc n) t e = bound (byte_in 0x80 0xBF t) _ e (λ u p q. byte_in-passes 0x80 0xBF t (omega arith) p (tails-passes n u q))
@@ -61,7 +61,7 @@ tails-passes (suc n) t e = bound (byte_in 0x80 0xBF t) _ e (λ u p q. byte_in-pa
 abbrev Above : ℕ → ℕ × ℕ × ℕ → Type 0
 Above b p = (0x5C < b) × (0x5C < p.0)
 
-leads-above : (b : ℕ) {p : ℕ × ℕ × ℕ} → leads b ≡ some p → Above b p
+leads-above : (b : ℕ) {p : ℕ × ℕ × ℕ} → leads b ≡ Some p → Above b p
 unfolding leads All
 leads-above b e = first-answers (Above b) _ (
   among-above 0xC2 0xDF (0x80, 0xBF, 0) (omega arith) (omega arith),
@@ -89,23 +89,23 @@ leads-above b e = first-answers (Above b) _ (
   ),
 ) e
   where
-    above : (a : ℕ × ℕ × ℕ) → 0x5C < a.0 → 0x5C < b → (x : ℕ × ℕ × ℕ) → some a ≡ some x → Above b x
+    above : (a : ℕ × ℕ × ℕ) → 0x5C < a.0 → 0x5C < b → (x : ℕ × ℕ × ℕ) → Some a ≡ Some x → Above b x
     above a l k x f = (k, omega (arith, ap (λ (p : ℕ × ℕ × ℕ). p.0) (some_same f)))
 
-    among-above : (lo hi : ℕ) (a : ℕ × ℕ × ℕ) → 0x5C < lo → 0x5C < a.0 → among lo hi b ≡ true → (x : ℕ × ℕ × ℕ) → some a ≡ some x → Above b x
+    among-above : (lo hi : ℕ) (a : ℕ × ℕ × ℕ) → 0x5C < lo → 0x5C < a.0 → among lo hi b ≡ true → (x : ℕ × ℕ × ℕ) → Some a ≡ Some x → Above b x
     among-above lo hi a l k h = above a k (omega (arith, (among-true lo hi b h).0))
 
-    is-above : (n : ℕ) (a : ℕ × ℕ × ℕ) → 0x5C < n → 0x5C < a.0 → eqb b n ≡ true → (x : ℕ × ℕ × ℕ) → some a ≡ some x → Above b x
+    is-above : (n : ℕ) (a : ℕ × ℕ × ℕ) → 0x5C < n → 0x5C < a.0 → eqb b n ≡ true → (x : ℕ × ℕ × ℕ) → Some a ≡ Some x → Above b x
     is-above n a l k h = above a k (omega (arith, eqb-true b n h))
 
-multibyte-passes : (t : Text) {r : Text} → multibyte t ≡ some r → Passes t r
+multibyte-passes : (t : Text) {r : Text} → multibyte t ≡ Some r → Passes t r
 unfolding multibyte
 multibyte-passes [] e = apart (cc)
 multibyte-passes (b ∷ t) e = bound (leads b) _ e (λ p h k.
     let a : Above b p = leads-above b h in
     bound (byte_in p.0 p.1 t) _ k (λ u i j. passes-above a.0 (byte_in-passes p.0 p.1 t a.1 i (tails-passes p.2 u j))))
 
-unescaped-passes : (t : Text) {r : Text} → unescaped t ≡ some r → Passes t r
+unescaped-passes : (t : Text) {r : Text} → unescaped t ≡ Some r → Passes t r
 unfolding unescaped
 unescaped-passes [] e = apart (cc)
 unescaped-passes (b ∷ t) {r} e = by (is_plain b)
@@ -113,24 +113,24 @@ unescaped-passes (b ∷ t) {r} e = by (is_plain b)
     (λ p. multibyte-passes (b ∷ t) (sym (rw (unescaped, p)) ∙ e))
 
 -- a character that is no escape
-unescaped-flat : (t : Text) {x r : Text} → spelled unescaped t ≡ some (x, r) → flat t ≡ x ++ flat r
+unescaped-flat : (t : Text) {x r : Text} → spelled unescaped t ≡ Some (x, r) → flat t ≡ x ++ flat r
 unescaped-flat t {x} {r} e =
     let h : Passes t r = unescaped-passes t (spelled-left unescaped t e) in
     let n : length h.passed ≡ length t - length r = omega (arith, ap length h.split, length-append h.passed r) in
     h.stands ∙ ap (λ (y : Bytes). y ++ flat r) (sym (spelled-text unescaped t e ∙ ap (take (length t - length r)) h.split ∙ take_at h.passed r _ n))
 
-escape-flat : (t : Text) {x r : Text} → char (0x5C ∷ t) ≡ some (x, r) → flat (0x5C ∷ t) ≡ x ++ flat r
+escape-flat : (t : Text) {x r : Text} → char (0x5C ∷ t) ≡ Some (x, r) → flat (0x5C ∷ t) ≡ x ++ flat r
 escape-flat t e = bound (escaped t) _ (sym (char-escape t) ∙ e) (λ p h k.
     flat-escape t h ∙ ap (λ (q : Bytes × Text). q.0 ++ flat q.1) (some_same k))
 
-char-flat : (b : ℕ) (t : Text) {x r : Text} → char (b ∷ t) ≡ some (x, r) → flat (b ∷ t) ≡ x ++ flat r
+char-flat : (b : ℕ) (t : Text) {x r : Text} → char (b ∷ t) ≡ Some (x, r) → flat (b ∷ t) ≡ x ++ flat r
 char-flat b t {x} {r} e = by (eqb b 0x5C)
-    (λ p. subst (λ (n : ℕ). char (n ∷ t) ≡ some (x, r) → flat (n ∷ t) ≡ x ++ flat r) (sym (eqb-true b 0x5C p)) (escape-flat t) e)
+    (λ p. subst (λ (n : ℕ). char (n ∷ t) ≡ Some (x, r) → flat (n ∷ t) ≡ x ++ flat r) (sym (eqb-true b 0x5C p)) (escape-flat t) e)
     (λ p. unescaped-flat (b ∷ t) (sym (char-plain b t (eqb-false b 0x5C p)) ∙ e))
 
 -- ---- strings
 
-chars-flat : (n : ℕ) (t : Text) {d : Bytes} {r : Text} → chars n t ≡ some (d, r) → flat t ≡ d
+chars-flat : (n : ℕ) (t : Text) {d : Bytes} {r : Text} → chars n t ≡ Some (d, r) → flat t ≡ d
 unfolding chars
 chars-flat zero t e = apart (cc)
 chars-flat (suc n) [] e = apart (cc)
@@ -138,22 +138,22 @@ chars-flat (suc n) (b ∷ t) {d} {r} e = by (eqb b 0x22)
     (λ p. ap (λ (k : ℕ). flat (k ∷ t)) (eqb-true b 0x22 p) ∙ flat-quote t ∙ value_same (sym (chars-quote n b t p) ∙ e))
     (λ p. go (λ u x v h. chars-flat n u h) p (char (b ∷ t)) refl)
   where
-    go : ((u : Text) (x : Bytes) (v : Text) → chars n u ≡ some (x, v) → flat u ≡ x) → eqb b 0x22 ≡ false → (o : Option (Bytes × Text)) → char (b ∷ t) ≡ o
+    go : ((u : Text) (x : Bytes) (v : Text) → chars n u ≡ Some (x, v) → flat u ≡ x) → eqb b 0x22 ≡ false → (o : Option (Bytes × Text)) → char (b ∷ t) ≡ o
         → flat (b ∷ t) ≡ d
-    go ih p none f = answered-none e (chars-none n b t p f)
-    go ih p (some c) f = bound (chars n c.1) _ (sym (chars-char n b t p f) ∙ e) (λ q h k.
+    go ih p None f = answered-none e (chars-none n b t p f)
+    go ih p (Some c) f = bound (chars n c.1) _ (sym (chars-char n b t p f) ∙ e) (λ q h k.
         char-flat b t f ∙ ap (λ (x : Bytes). c.0 ++ x) (ih c.1 q.0 q.1 h) ∙ value_same k)
 
-pub string-flat : (t : Text) {d : Bytes} {r : Text} → string t ≡ some (d, r) → flat t ≡ d
+pub string-flat : (t : Text) {d : Bytes} {r : Text} → string t ≡ Some (d, r) → flat t ≡ d
 unfolding string
 string-flat t e = chars-flat (suc (length t)) t e
 
 -- ---- a string that was found well spelled
 
-closed-flat : (t : Text) {r : Text} (o : Option (Bytes × Text)) → string t ≡ o → behind o ≡ some r → flat t ≡ bytes_of o
+closed-flat : (t : Text) {r : Text} (o : Option (Bytes × Text)) → string t ≡ o → behind o ≡ Some r → flat t ≡ bytes_of o
 unfolding bytes_of
-closed-flat t none e h = apart (cc)
-closed-flat t (some p) e h = string-flat t e
+closed-flat t None e h = apart (cc)
+closed-flat t (Some p) e h = string-flat t e
 
 module _ {s : Text} {at : ℕ} (w : WellSpelled s at) where
   pub well-flat : flat (drop at s) ≡ decoded (drop at s)

@@ -1,7 +1,7 @@
 -- A string up to its first escape: what a turn of the loop over its characters keeps.
 use mathlib.Core.Path.{◌≡◌, refl, sym, ap, subst, ◌∙◌}
 use mathlib.Core.Bool.{true}
-use mathlib.Core.Option.{Option, none, some}
+use Rattle.std.specs.Prelude.{Option, None, Some}
 use mathlib.Core.List.{[], ◌∷◌, ◌++◌, append_assoc, append-nil}
 use Prim.Native.Nat.{ℕ, ◌+◌, ◌-◌, ◌≤◌, ◌<◌}
 use native.Mathlib.Omega.{arith}
@@ -19,7 +19,6 @@ use Rattle.rules.proofs.Json.Places.{spelled-place}
 use Rattle.rules.proofs.Json.TextReads.{spelled_none}
 use Rattle.rules.proofs.Json.Steps.{char-plain, string-end, string-quote, string-none, string-char}
 use Rattle.json_tokens.specs.Answers.{Answer}
-use Rattle.json_tokens.specs.declared.tokens.Next.TheVariants.{At}
 use Rattle.json_characters.specs.Runs.{Plains, Closing, Closes}
 use Rattle.json_characters.proofs.Runs.{plains-keep}
 use Rattle.json_strings.specs.Decoded.{decoded}
@@ -31,22 +30,22 @@ use Rattle.json_strings.proofs.Shorter.{string-longer}
 
 -- the bytes x in front of a string's
 pub after : Bytes → Option (Bytes × Text) → Option (Bytes × Text)
-after x o = o >>= (λ p. some (x ++ p.0, p.1))
+after x o = o >>= (λ p. Some (x ++ p.0, p.1))
 
 after-after : (x y : Bytes) (o : Option (Bytes × Text)) → after x (after y o) ≡ after (x ++ y) o
 unfolding after
-after-after x y none = refl
-after-after x y (some p) = ap (λ (z : Bytes). some (z, p.1)) (sym (append_assoc x y p.0))
+after-after x y None = refl
+after-after x y (Some p) = ap (λ (z : Bytes). Some (z, p.1)) (sym (append_assoc x y p.0))
 
 after_nothing : (o : Option (Bytes × Text)) → after [] o ≡ o
 unfolding after
-after_nothing none = refl
-after_nothing (some p) = refl
+after_nothing None = refl
+after_nothing (Some p) = refl
 
 after-behind : (x : Bytes) (o : Option (Bytes × Text)) → behind (after x o) ≡ behind o
 unfolding after
-after-behind x none = refl
-after-behind x (some p) = refl
+after-behind x None = refl
+after-behind x (Some p) = refl
 
 -- from `at` to i the string is spelled as it stands
 pub record Scanning (s : Text) (at i : ℕ) : Type 0 where
@@ -62,21 +61,21 @@ scanning-start {s} {at} h = record {
 }
 
 module _ {s : Text} {at i : ℕ} (c : Scanning s at i) where
-  pub scanning-none : string (drop i s) ≡ none → string (drop at s) ≡ none
+  pub scanning-none : string (drop i s) ≡ None → string (drop at s) ≡ None
   unfolding after
   scanning-none e = c.rest ∙ ap (after (part s at i)) e
 
-  scanning-rest : {r : Text} → behind (string (drop i s)) ≡ some r → behind (string (drop at s)) ≡ some r
+  scanning-rest : {r : Text} → behind (string (drop i s)) ≡ Some r → behind (string (drop at s)) ≡ Some r
   scanning-rest e = ap behind c.rest ∙ after-behind (part s at i) (string (drop i s)) ∙ e
 
-  pub scanning-no-rest : behind (string (drop i s)) ≡ none → string (drop at s) ≡ none
+  pub scanning-no-rest : behind (string (drop i s)) ≡ None → string (drop at s) ≡ None
   scanning-no-rest e = scanning-none (behind-none (string (drop i s)) e)
     where
-      behind-none : (o : Option (Bytes × Text)) → behind o ≡ none → o ≡ none
-      behind-none none f = refl
-      behind-none (some p) f = apart (cc)
+      behind-none : (o : Option (Bytes × Text)) → behind o ≡ None → o ≡ None
+      behind-none None f = refl
+      behind-none (Some p) f = apart (cc)
 
-  pub scanning-ended : length s ≤ i → string (drop at s) ≡ none
+  pub scanning-ended : length s ≤ i → string (drop at s) ≡ None
   scanning-ended h = scanning-none (ap string (drop_of_length-le s h) ∙ string-end)
 
   module _ (h : i < length s) where
@@ -86,19 +85,19 @@ module _ {s : Text} {at i : ℕ} (c : Scanning s at i) where
         let n : i - at ≡ i + 1 - 1 - at = omega arith in
         let low : at ≤ i = c.from in (
           c.rest ∙ ap (after (part s at i)) (ap string (drop-is s i 0 0x22 h e) ∙ string-quote (drop (i + 1) s))
-              ∙ ap (λ (x : Bytes). some (x, drop (i + 1) s)) (append-nil (part s at i) ∙ ap (λ (k : ℕ). take k (drop at s)) n),
+              ∙ ap (λ (x : Bytes). Some (x, drop (i + 1) s)) (append-nil (part s at i) ∙ ap (λ (k : ℕ). take k (drop at s)) n),
           omega arith,
           omega arith,
         )
 
     -- up to the backslash the string is as long as what it stands for, and longer behind it
-    scanning-fewer : (j : ℕ) → j ≤ length s → get_or s i 0 ≡ 0x5C → behind (string (drop i s)) ≡ some (drop j s) → length (decoded (drop at s)) < j - 1 - at
+    scanning-fewer : (j : ℕ) → j ≤ length s → get_or s i 0 ≡ 0x5C → behind (string (drop i s)) ≡ Some (drop j s) → length (decoded (drop at s)) < j - 1 - at
     unfolding after part
     scanning-fewer j w e f =
         let (x, g) = behind-some (string (drop i s)) f in
         let here : drop i s ≡ 0x5C ∷ drop (i + 1) s = drop-is s i 0 0x5C h e in
         let rest-long : length x + length (drop j s) + 1 ≤ length (drop (i + 1) s) = string-longer (drop (i + 1) s) (sym (ap string here) ∙ g) in
-        let all : string (drop at s) ≡ some (part s at i ++ x, drop j s) = c.rest ∙ ap (after (part s at i)) g in
+        let all : string (drop at s) ≡ Some (part s at i ++ x, drop j s) = c.rest ∙ ap (after (part s at i)) g in
         let low : at ≤ i = c.from in
         let fits : i - at ≤ length (drop at s) = omega (arith, length-drop at s) in
         omega (
@@ -110,7 +109,7 @@ module _ {s : Text} {at i : ℕ} (c : Scanning s at i) where
           length-drop (i + 1) s,
         )
 
-    pub scanning-backslash : (j : ℕ) → get_or s i 0 ≡ 0x5C → Answer (behind (string (drop i s))) s (i + 1) (At j) → Scanned s at (Escaped j)
+    pub scanning-backslash : (j : ℕ) → get_or s i 0 ≡ 0x5C → Answer (behind (string (drop i s))) s (i + 1) (Some j) → Scanned s at (Escaped j)
     scanning-backslash j e f =
         let low : at ≤ i = c.from in
         let further : i + 1 ≤ j = f.1 in
@@ -120,11 +119,11 @@ module _ {s : Text} {at i : ℕ} (c : Scanning s at i) where
       char-here : char (drop i s) ≡ spelled unescaped (drop i s)
       char-here = rw (drop_here s i 0 h) (char-plain (get_or s i 0) (drop (i + 1) s) e)
 
-      pub scanning-bad : unescaped (drop i s) ≡ none → string (drop at s) ≡ none
+      pub scanning-bad : unescaped (drop i s) ≡ None → string (drop at s) ≡ None
       scanning-bad f = scanning-none (ap string (drop_here s i 0 h) ∙ string-none (get_or s i 0) (drop (i + 1) s) q
           (sym (ap char (drop_here s i 0 h)) ∙ char-here ∙ spelled_none unescaped (drop i s) f))
 
-      pub scanning-more : (j : ℕ) → unescaped (drop i s) ≡ some (drop j s) → i + 1 ≤ j → j ≤ length s → Scanning s at j
+      pub scanning-more : (j : ℕ) → unescaped (drop i s) ≡ Some (drop j s) → i + 1 ≤ j → j ≤ length s → Scanning s at j
       unfolding part after
       scanning-more j f l w = record {
         from = omega (arith, c.from);

@@ -1,6 +1,6 @@
 -- How many bytes a string stands for: never more than it is spelled with, so that counting them does not overflow.
 use mathlib.Core.Path.{◌≡◌, sym, ap, ◌∙◌}
-use mathlib.Core.Option.{none, some}
+use Rattle.std.specs.Prelude.{None, Some}
 use mathlib.Core.List.{[], ◌∷◌}
 use Prim.Native.Nat.{ℕ, ◌+◌, ◌≤◌, ◌<◌}
 use native.Mathlib.Omega.{arith}
@@ -20,7 +20,7 @@ use Rattle.json_strings.proofs.Widths.{size-one, size-bounds}
 Small : ℕ → Type 0
 Small x = x < 0x80
 
-short_escape-small : (b : ℕ) {x : ℕ} → short_escape b ≡ some x → Small x
+short_escape-small : (b : ℕ) {x : ℕ} → short_escape b ≡ Some x → Small x
 unfolding short_escape All Small
 short_escape-small b e =
     first-answers Small _ (
@@ -35,16 +35,16 @@ short_escape-small b e =
     )
     e
   where
-    at : {T : Type 0} (n : ℕ) → n < 0x80 → T → (x : ℕ) → some n ≡ some x → x < 0x80
+    at : {T : Type 0} (n : ℕ) → n < 0x80 → T → (x : ℕ) → Some n ≡ Some x → x < 0x80
     at n l t x f = omega (arith, some_same f)
 
 -- behind a backslash: even without it, an escape is no shorter than what it stands for
-pub escaped-size : (t : Text) {x : ℕ} {r : Text} → escaped t ≡ some (x, r) → length (utf8 x) + length r ≤ length t
+pub escaped-size : (t : Text) {x : ℕ} {r : Text} → escaped t ≡ Some (x, r) → length (utf8 x) + length r ≤ length t
 unfolding escaped Small
 escaped-size [] e = apart (cc)
 escaped-size (b ∷ t) {x} {r} e = by (eqb b 0x75)
     (λ p. omega (arith, reads-fewer (code_point-reads x t r (sym (rw (escaped, p)) ∙ e)), (size-bounds x).most))
-    (λ p. bound (short_escape b) (λ c. some (c, t)) (sym (rw (escaped, p)) ∙ e) (λ c h k.
+    (λ p. bound (short_escape b) (λ c. Some (c, t)) (sym (rw (escaped, p)) ∙ e) (λ c h k.
     let small : c < 0x80 = short_escape-small b h in
     let l : c ≡ x = value_same k in
     let m : t ≡ r = left-same k in
@@ -72,7 +72,7 @@ module _ {s : Text} {at i n : ℕ} (c : Counted s at i n) where
     pub counted-quote : get_or s i 0 ≡ 0x22 → n ≡ length (flat (drop at s))
     counted-quote e = counted-end (flat-at-quote s i h e)
 
-    pub counted_none : get_or s i 0 ≡ 0x5C → escaped (drop (i + 1) s) ≡ none → n ≡ length (flat (drop at s))
+    pub counted_none : get_or s i 0 ≡ 0x5C → escaped (drop (i + 1) s) ≡ None → n ≡ length (flat (drop at s))
     counted_none e f = counted-end (flat-at-none s i h e f)
 
     pub counted-itself : (get_or s i 0 ≡ 0x22 → ⊥) → (get_or s i 0 ≡ 0x5C → ⊥) → Counted s at (i + 1) (n + 1)
@@ -82,7 +82,7 @@ module _ {s : Text} {at i n : ℕ} (c : Counted s at i n) where
       sum = omega (arith, c.sum, ap length (flat-at-itself s i h q e));
     }
 
-    module _ (x j m : ℕ) (f : escaped (drop (i + 1) s) ≡ some (x, drop j s)) (l : i + 2 ≤ j) (w : j ≤ length s) (q : m ≡ length (utf8 x)) where
+    module _ (x j m : ℕ) (f : escaped (drop (i + 1) s) ≡ Some (x, drop j s)) (l : i + 2 ≤ j) (w : j ≤ length s) (q : m ≡ length (utf8 x)) where
       -- the sum stays within the text
       pub counted-room : n + m ≤ j
       counted-room = omega (arith, escaped-size (drop (i + 1) s) f, length-drop (i + 1) s, length-drop j s, c.few)

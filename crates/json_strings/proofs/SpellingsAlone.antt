@@ -1,6 +1,6 @@
 -- A scan of a string has one answer: what is left fixes the position, and a string with escapes is longer than what it stands for.
 use mathlib.Core.Path.{◌≡◌, refl, sym, ap, ◌∙◌}
-use mathlib.Core.Option.{some}
+use Rattle.std.specs.Prelude.{Some}
 use Prim.Native.Nat.{ℕ, ◌+◌, ◌-◌, ◌≤◌, ◌<◌}
 use native.Mathlib.Omega.{arith}
 use lib.ListN.{length, drop, length-drop}
@@ -17,7 +17,7 @@ use Rattle.json_strings.proofs.Decoding.{decoded-some}
 
 module _ (s : Text) (at : ℕ) where
   -- up to where a string goes, plain or not
-  plain-behind : (i : ℕ) → Scanned s at (Plain i) → behind (string (drop at s)) ≡ some (drop i s)
+  plain-behind : (i : ℕ) → Scanned s at (Plain i) → behind (string (drop at s)) ≡ Some (drop i s)
   plain-behind i h = ap behind h.0
 
   plain_size : (i : ℕ) → Scanned s at (Plain i) → length (decoded (drop at s)) ≡ i - 1 - at
@@ -27,7 +27,7 @@ module _ (s : Text) (at : ℕ) where
       let fits : i - 1 - at ≤ length (drop at s) = omega (arith, length-drop at s) in
       ap length (decoded-some (drop at s) h.0) ∙ length-take-le (i - 1 - at) (drop at s) fits
 
-  place-alone : (i j : ℕ) → i ≤ length s → j ≤ length s → behind (string (drop at s)) ≡ some (drop i s) → behind (string (drop at s)) ≡ some (drop j s) → i ≡ j
+  place-alone : (i j : ℕ) → i ≤ length s → j ≤ length s → behind (string (drop at s)) ≡ Some (drop i s) → behind (string (drop at s)) ≡ Some (drop j s) → i ≡ j
   place-alone i j h k e f = left_alone s i j h k (some_same (sym e ∙ f))
 
   -- a plain string is not one with escapes

@@ -1,13 +1,11 @@
 -- What a cursor stands for: the bytes that are to come; and what a step does.
 use Rattle.std.specs.Prelude.{◌≡◌, true, false, [], ◌∷◌, ◌++◌, ℕ, zero, suc, ◌+◌, ◌-◌, ◌*◌, ◌≤◌, ◌<◌, eqb, length, drop}
-use Rattle.std.proofs.Math.Option.{Option, none, some}
+use Rattle.std.specs.Prelude.{Option, None, Some}
 use Rattle.rules.specs.Bytes.{Bytes}
 use Rattle.rules.specs.Json.Text.{Text}
 use Rattle.rules.specs.Json.Strings.{utf8, escaped}
 use Rattle.json_strings.specs.Flat.{flat, last_of}
 use Rattle.json_strings.specs.declared.cursors.Cursor.{Cursor}
-use Rattle.json_strings.specs.declared.cursors.Step.{Step}
-use Rattle.json_strings.specs.declared.cursors.Step.TheVariants.{Byte, End}
 
 -- at a byte of the text, in no escape
 abbrev pub fresh : ℕ → Cursor
@@ -28,8 +26,8 @@ distance s c = (length s - c.at) * 4 + c.left
 -- where a cursor goes over a byte that is to come: within its code point; or, with no more of it, by the byte at which it stands,
 -- into the code point of an escape or to the next byte
 unfoldable pub into_escape : Text → Option (ℕ × Text) → Cursor
-into_escape s none = fresh 0
-into_escape s (some p) = record { at = length s - length p.1; code = p.0; left = length (utf8 p.0) - 1 }
+into_escape s None = fresh 0
+into_escape s (Some p) = record { at = length s - length p.1; code = p.0; left = length (utf8 p.0) - 1 }
 
 unfoldable pub next_at : Text → (at : ℕ) → Text → Cursor
 next_at s at [] = fresh at
@@ -49,6 +47,6 @@ pub record Went (s : Text) (c d : Cursor) (b : ℕ) : Type 0 where
   pub sound : Sound s d
   pub nearer : distance s d < distance s c
 
-abbrev pub Stepped : Text → Cursor → Step → Type 0
-Stepped s c (Byte b d) = Went s c d b
-Stepped s c End = ahead s c ≡ []
+abbrev pub Stepped : Text → Cursor → Option (ℕ × Cursor) → Type 0
+Stepped s c (Some (b, d)) = Went s c d b
+Stepped s c None = ahead s c ≡ []

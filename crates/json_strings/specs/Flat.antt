@@ -1,15 +1,15 @@
 -- A string's text byte by byte: what it stands for up to its quote, where a byte that is no quote and no backslash stands for itself.
 -- For well spelled strings this is what `string` gives (proofs/Raw.antt), and it says nothing of characters.
 use Rattle.std.specs.Prelude.{true, false, [], ◌∷◌, ◌++◌, ℕ, zero, suc, ◌-◌, eqb, length, drop}
-use Rattle.std.proofs.Math.Option.{Option, none, some}
+use Rattle.std.specs.Prelude.{Option, None, Some}
 use Rattle.rules.specs.Bytes.{Bytes}
 use Rattle.rules.specs.Json.Text.{Text}
 use Rattle.rules.specs.Json.Strings.{utf8, escaped}
 
 -- the code point of an escape in UTF-8, and then the rest; nothing where it is none
 unfoldable pub meant : (Text → Bytes) → Option (ℕ × Text) → Bytes
-meant rest none = []
-meant rest (some p) = utf8 p.0 ++ rest p.1
+meant rest None = []
+meant rest (Some p) = utf8 p.0 ++ rest p.1
 
 -- of fewer bytes and escapes than the bound
 unfoldable pub flat_in : (bound : ℕ) → Text → Bytes

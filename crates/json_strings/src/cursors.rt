@@ -4,7 +4,6 @@ ghost use Rattle.rules.specs.Json.Strings.{utf8};
 ghost use Rattle.json_strings.specs.Ahead.{Sound, Stepped, fresh};
 ghost use Rattle.json_strings.specs.Flat.{last_of};
 
-use json_characters::Code;
 use json_tokens::{BACKSLASH, QUOTE};
 
 // The first code points that take two bytes, three bytes and four bytes in UTF-8.
@@ -65,66 +64,55 @@ pub struct Cursor {
     pub left: usize,
 }
 
-// A byte that a string stands for, and where the reader stands behind it; or the string's end.
-#[derive(Clone, Copy)]
-pub enum Step {
-    Byte(u8, Cursor),
-    End,
-}
-
 // The first byte of the escape at the backslash.
-fn next_escaped(s: &[u8], at: usize) -> Step
+fn next_escaped(s: &[u8], at: usize) -> Option<(u8, Cursor)>
     requires { (at < length s.now) × (get_or s.now at 0 ≡ 0x5C) }
     ensures { Stepped s.now (fresh at) result }
 {
-    let Code::Point(code, i) = json_characters::escape(s, at + 1) else {
-        return Step::End;
-    };
+    let (code, i) = json_characters::escape(s, at + 1)?;
     let left = utf8_size(code);
-    Step::Byte(
+    Some((
         utf8_byte(code, left),
         Cursor {
             at: i,
             code,
             left: left - 1,
         },
-    )
+    ))
 }
 
 // The next byte that the string stands for.
-pub fn next(s: &[u8], c: Cursor) -> Step
+pub fn next(s: &[u8], c: Cursor) -> Option<(u8, Cursor)>
     requires { Sound s.now c }
     ensures { Stepped s.now c result }
 {
-    let at = c.at;
-    let code = c.code;
-    let left = c.left;
+    let Cursor { at, code, left } = c;
     if 0 < left {
-        return Step::Byte(
+        return Some((
             utf8_byte(code, left),
             Cursor {
                 at,
                 code,
                 left: left - 1,
             },
-        );
+        ));
     }
     if s.len() <= at {
-        return Step::End;
+        return None;
     }
     let b = s[at];
     if b == QUOTE {
-        return Step::End;
+        return None;
     }
     if b == BACKSLASH {
         return next_escaped(s, at);
     }
-    Step::Byte(
+    Some((
         b,
         Cursor {
             at: at + 1,
             code: 0,
             left: 0,
         },
-    )
+    ))
 }

@@ -6,9 +6,9 @@ mod pairs;
 mod single;
 mod spellings;
 
-pub use cursors::{Cursor, Step, next, utf8_size};
+pub use cursors::{Cursor, next, utf8_size};
 pub use pairs::{order_raw, order_strings, raw_end, same_strings};
 pub use single::{decoded_size, string_is};
 pub use spellings::{Spelling, scan_string};
 
-pub const SLASH: u8 = 0x2F;
+pub const SLASH: u8 = b'/';

@@ -7,17 +7,10 @@ ghost use Rattle.json_strings.specs.Decoded.{decoded, WellSpelled};
 ghost use Rattle.json_strings.specs.Flat.{flat};
 ghost use Rattle.json_strings.specs.Spelling.{Raw, Whole, Tells};
 
-use crate::cursors::{Cursor, Step};
+use crate::cursors::Cursor;
 use crate::{SLASH, cursors};
-use bytes_values::Order;
 use json_tokens::{BACKSLASH, QUOTE};
-
-// The lesser of two lengths.
-fn lesser(a: usize, b: usize) -> usize
-    ensures { (result ≤ a) × (result ≤ b) }
-{
-    if a < b { a } else { b }
-}
+use std::cmp::Ordering;
 
 // How many bytes at k may be compared without decoding: 1 for an ordinary byte, 2 for a backslash and a slash, 0 for any other escape and for
 // the closing quote.
@@ -25,17 +18,11 @@ fn raw_here(t: &[u8], k: usize) -> usize
     requires { k < length t.now }
     ensures { (a : ℕ) → Raw t.now a k → Raw t.now a (k + result) }
 {
-    let b = t[k];
-    if b == QUOTE {
-        return 0;
+    match t[k] {
+        BACKSLASH if k + 1 < t.len() && t[k + 1] == SLASH => 2,
+        QUOTE | BACKSLASH => 0,
+        _ => 1,
     }
-    if b != BACKSLASH {
-        return 1;
-    }
-    if t.len() - k < 2 {
-        return 0;
-    }
-    if t[k + 1] == SLASH { 2 } else { 0 }
 }
 
 // Up to where the string in t behind j is compared as it is spelled: its quote, or an escape that is not a slash.
@@ -70,31 +57,22 @@ fn whole(t: &[u8], j: usize, end: usize, n: usize) -> usize
 fn tells(x: u8, y: u8) -> bool
     ensures { result ≡ true → Tells x y }
 {
-    if x == QUOTE {
-        return false;
-    }
-    if x == BACKSLASH {
-        return false;
-    }
-    if y == BACKSLASH {
-        return false;
-    }
-    if y == SLASH { false } else { true }
+    x != QUOTE && x != BACKSLASH && y != BACKSLASH && y != SLASH
 }
 
 // How nothing stands to what is to come.
-fn order_ended(t: &[u8], c: Cursor) -> Order
+fn order_ended(t: &[u8], c: Cursor) -> Ordering
     requires { Sound t.now c }
     ensures { result ≡ order_is (order [] (ahead t.now c)) }
 {
     match cursors::next(t, c) {
-        Step::Byte(_, _) => Order::Less,
-        Step::End => Order::Equal,
+        Some(_) => Ordering::Less,
+        None => Ordering::Equal,
     }
 }
 
 // How what is spelled in s from i on stands to what is spelled in t from j on.
-fn order_rests(s: &[u8], i: usize, t: &[u8], j: usize) -> Order
+fn order_rests(s: &[u8], i: usize, t: &[u8], j: usize) -> Ordering
     requires { (i ≤ length s.now) × (j ≤ length t.now) }
     ensures { result ≡ order_is (order (flat (drop i s.now)) (flat (drop j t.now))) }
 {
@@ -109,17 +87,17 @@ fn order_rests(s: &[u8], i: usize, t: &[u8], j: usize) -> Order
         left: 0,
     };
     loop {
-        let Step::Byte(x, e) = cursors::next(s, c) else {
+        let Some((x, e)) = cursors::next(s, c) else {
             return order_ended(t, d);
         };
-        let Step::Byte(y, f) = cursors::next(t, d) else {
-            return Order::More;
+        let Some((y, f)) = cursors::next(t, d) else {
+            return Ordering::Greater;
         };
         if x < y {
-            return Order::Less;
+            return Ordering::Less;
         }
         if y < x {
-            return Order::More;
+            return Ordering::Greater;
         }
         c = e;
         d = f;
@@ -128,21 +106,21 @@ fn order_rests(s: &[u8], i: usize, t: &[u8], j: usize) -> Order
 
 // How the string in s behind i stands to the string in t behind j, by the unsigned bytes that they stand for, where it is known that up
 // to `end` the one in t is compared as it is spelled.
-pub fn order_raw(s: &[u8], i: usize, t: &[u8], j: usize, end: usize) -> Order
+pub fn order_raw(s: &[u8], i: usize, t: &[u8], j: usize, end: usize) -> Ordering
     requires { WellSpelled s.now i × WellSpelled t.now j × Raw t.now j end }
     ensures { result ≡ order_is (order (decoded (drop i s.now)) (decoded (drop j t.now))) }
 {
-    let room = lesser(end - j, s.len() - i);
+    let room = (end - j).min(s.len() - i);
     let n = bytes_eights::common(s, i, t, j, room);
     if n < room {
         let b = s[i + n];
         let c = t[j + n];
         if tells(b, c) {
             if b < c {
-                return Order::Less;
+                return Ordering::Less;
             }
             if c < b {
-                return Order::More;
+                return Ordering::Greater;
             }
         }
     }
@@ -152,12 +130,12 @@ pub fn order_raw(s: &[u8], i: usize, t: &[u8], j: usize, end: usize) -> Order
 }
 
 // The same where that is not known.
-pub fn order_strings(s: &[u8], i: usize, t: &[u8], j: usize) -> Order
+pub fn order_strings(s: &[u8], i: usize, t: &[u8], j: usize) -> Ordering
     requires { WellSpelled s.now i × WellSpelled t.now j }
     ensures { result ≡ order_is (order (decoded (drop i s.now)) (decoded (drop j t.now))) }
 {
     let end = raw_end(t, j);
-    let room = lesser(end - j, s.len() - i);
+    let room = (end - j).min(s.len() - i);
     let n = bytes_eights::common(s, i, t, j, room);
     let m = whole(t, j, end, n);
     order_rests(s, i + m, t, j + m)
@@ -168,9 +146,5 @@ pub fn same_strings(s: &[u8], i: usize, t: &[u8], j: usize) -> bool
     requires { WellSpelled s.now i × WellSpelled t.now j }
     ensures { result ≡ same (decoded (drop i s.now)) (decoded (drop j t.now)) }
 {
-    match order_strings(s, i, t, j) {
-        Order::Less => false,
-        Order::Equal => true,
-        Order::More => false,
-    }
+    order_strings(s, i, t, j).is_eq()
 }

@@ -6,8 +6,7 @@ ghost use Rattle.json_strings.specs.Decoded.{decoded, WellSpelled};
 ghost use Rattle.json_strings.specs.Flat.{flat};
 
 use crate::cursors;
-use crate::cursors::{Cursor, Step};
-use json_characters::Code;
+use crate::cursors::Cursor;
 use json_tokens::{BACKSLASH, QUOTE};
 
 // Whether nothing is to come.
@@ -15,10 +14,7 @@ fn ended(s: &[u8], c: Cursor) -> bool
     requires { Sound s.now c }
     ensures { result ≡ same (ahead s.now c) [] }
 {
-    match cursors::next(s, c) {
-        Step::Byte(_, _) => false,
-        Step::End => true,
-    }
+    cursors::next(s, c).is_none()
 }
 
 // Whether what is spelled from `at` on is the key from k on.
@@ -31,16 +27,14 @@ fn key_follows(s: &[u8], at: usize, key: &[u8], k: usize) -> bool
         code: 0,
         left: 0,
     };
-    let mut i = k;
-    while i < key.len() {
-        let Step::Byte(b, d) = cursors::next(s, c) else {
+    for &x in &key[k..] {
+        let Some((b, d)) = cursors::next(s, c) else {
             return false;
         };
-        if b != key[i] {
+        if b != x {
             return false;
         }
         c = d;
-        i += 1;
     }
     ended(s, c)
 }
@@ -50,26 +44,20 @@ pub fn string_is(s: &[u8], at: usize, key: &[u8]) -> bool
     requires { WellSpelled s.now at }
     ensures { result ≡ same (decoded (drop at s.now)) key.now }
 {
-    let mut i = at;
-    let mut k = 0;
-    while k < key.len() {
+    for (k, &x) in key.iter().enumerate() {
+        let i = at + k;
         if s.len() <= i {
             return false;
         }
         let b = s[i];
-        if b == QUOTE {
-            return false;
-        }
         if b == BACKSLASH {
             return key_follows(s, i, key, k);
         }
-        if b != key[k] {
+        if b == QUOTE || b != x {
             return false;
         }
-        i += 1;
-        k += 1;
     }
-    key_follows(s, i, key, k)
+    key_follows(s, at + key.len(), key, key.len())
 }
 
 // How many bytes the string stands for.
@@ -85,7 +73,7 @@ pub fn decoded_size(s: &[u8], at: usize) -> usize
             return n;
         }
         if first == BACKSLASH {
-            let Code::Point(code, j) = json_characters::escape(s, i + 1) else {
+            let Some((code, j)) = json_characters::escape(s, i + 1) else {
                 return n;
             };
             n += cursors::utf8_size(code);

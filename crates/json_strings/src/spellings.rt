@@ -3,7 +3,7 @@ ghost use Rattle.std.specs.Prelude.{◌≡◌, ◌≤◌, length};
 ghost use Rattle.json_strings.specs.Scanned.{Scanned};
 
 use json_characters::skip_plain;
-use json_tokens::{BACKSLASH, Next, QUOTE};
+use json_tokens::{BACKSLASH, QUOTE};
 
 // What stands behind an opening quote: a string that is spelled as the bytes that it stands for, or one with escapes,
 // each with the position behind it; or no string.
@@ -32,12 +32,12 @@ pub fn scan_string(s: &[u8], at: usize) -> Spelling
             return Spelling::Plain(i + 1);
         }
         if b == BACKSLASH {
-            let Next::At(j) = json_characters::skip_chars(&s[0..], i) else { // `&s[0..]` on purpose: it stays in registers (docs/PERFORMANCE-HISTORY.md)
+            let Some(j) = json_characters::skip_chars(&s[0..], i) else { // `&s[0..]` on purpose: it stays in registers (docs/PERFORMANCE-HISTORY.md)
                 return Spelling::Bad;
             };
             return Spelling::Escaped(j);
         }
-        let Next::At(k) = json_characters::skip_unescaped(&s[0..], i) else {
+        let Some(k) = json_characters::skip_unescaped(&s[0..], i) else {
             return Spelling::Bad;
         };
         i = skip_plain(s, k);

@@ -8,7 +8,7 @@ use Rattle.facts.specs.Parts.{part}
 use Rattle.facts.proofs.Parts.{part-whole}
 use Rattle.rules.specs.Json.Text.{Text, Reader}
 use Rattle.json_tokens.specs.Answers.{Answer}
-use Rattle.json_tokens.specs.declared.tokens.Next.{Next}
+use Rattle.std.specs.Prelude.{Option}
 
 abbrev pub anew : Text → Text
 anew s = take (length s - 0) s
@@ -20,5 +20,5 @@ anew-same s = part-whole s (length s) (omega arith)
 pub within-anew : (s : Text) (i : ℕ) → i ≤ length s → i ≤ length (anew s)
 within-anew s i h = subst (λ (t : Text). i ≤ length t) (sym (anew-same s)) h
 
-pub answer-anew : (read : Reader) (s : Text) (i : ℕ) (r : Next) → Answer (read (drop i (anew s))) (anew s) (i + 1) r → Answer (read (drop i s)) s (i + 1) r
+pub answer-anew : (read : Reader) (s : Text) (i : ℕ) (r : Option ℕ) → Answer (read (drop i (anew s))) (anew s) (i + 1) r → Answer (read (drop i s)) s (i + 1) r
 answer-anew read s i r a = subst (λ (t : Text). Answer (read (drop i t)) t (i + 1) r) (anew-same s) a

@@ -1,13 +1,21 @@
 -- A word against a text: what a turn of the loop over its bytes keeps.
-use mathlib.Core.Path.{◌≡◌, refl, ◌∙◌}
-use mathlib.Core.Option.{none, some}
+use mathlib.Core.Path.{◌≡◌, refl, ap, ◌∙◌}
+use mathlib.Core.List.{[], ◌∷◌}
+use Rattle.std.specs.Prelude.{None, Some}
 use Prim.Native.Nat.{ℕ, ◌+◌, ◌≤◌, ◌<◌}
 use native.Mathlib.Omega.{arith}
+use lib.Dec.{eqb}
 use lib.ListN.{length, drop, get_or}
-use borrow.Author.Tests.{eq-eqb, ne_eqb}
-use Rattle.rules.specs.Bytes.{Bytes}
-use Rattle.rules.specs.Json.Text.{Text, word}
+use Rattle.rules.specs.Bytes.{Bytes, ◌>>=◌}
+use Rattle.rules.specs.Json.Text.{Text, byte, word}
+use Rattle.rules.proofs.Tests.{by}
 use Rattle.json_tokens.proofs.Places.{here, ended}
+
+-- a word is its first byte and then its others
+word-byte : (c : ℕ) (w t : Bytes) → word (c ∷ w) t ≡ (byte c t >>= word w)
+unfolding word byte
+word-byte c w [] = refl
+word-byte c w (b ∷ t) = by (eqb b c) (λ e. rw (word, byte, e)) (λ e. rw (word, byte, e))
 
 -- the word from `at` on has been met up to its byte j and the position i
 pub record Met (w : Bytes) (s : Text) (at i j : ℕ) : Type 0 where
@@ -19,23 +27,16 @@ pub met_start : {w : Bytes} {s : Text} {at : ℕ} → at ≤ length s → Met w 
 met_start {at = at} h = record { same = refl; from = omega arith; within = h }
 
 module _ {w : Bytes} {s : Text} {at i j : ℕ} (m : Met w s at i j) where
-  pub met-more : j < length w → i < length s → get_or s i 0 ≡ get_or w j 0 → Met w s at (i + 1) (j + 1)
-  unfolding word
-  met-more p q e =
-      record {
-        same = m.same ∙ rw (here s i q, here w j p, word, eq-eqb _ _ e);
-        from = omega arith;
-        within = omega arith;
-      }
+  -- by the byte j of the word
+  met-byte : j < length w → word w (drop at s) ≡ (byte (get_or w j 0) (drop i s) >>= word (drop (j + 1) w))
+  met-byte p = m.same ∙ ap (λ (v : Bytes). word v (drop i s)) (here w j p) ∙ word-byte _ _ _
 
-  pub met-other : j < length w → i < length s → (get_or s i 0 ≡ get_or w j 0 → ⊥) → word w (drop at s) ≡ none
-  unfolding word
-  met-other p q e = m.same ∙ rw (here s i q, here w j p, word, ne_eqb _ _ e)
+  pub met-more : j < length w → {k : ℕ} → byte (get_or w j 0) (drop i s) ≡ Some (drop k s) → i + 1 ≤ k → k ≤ length s → Met w s at k (j + 1)
+  met-more p e l h = record { same = met-byte p ∙ rw e; from = omega arith; within = h }
 
-  pub met-short : j < length w → length s ≤ i → word w (drop at s) ≡ none
-  unfolding word
-  met-short p q = m.same ∙ rw (ended s i q, here w j p)
+  pub met-none : j < length w → byte (get_or w j 0) (drop i s) ≡ None → word w (drop at s) ≡ None
+  met-none p e = met-byte p ∙ rw e
 
-  pub met-whole : length w ≤ j → word w (drop at s) ≡ some (drop i s)
+  pub met-whole : length w ≤ j → word w (drop at s) ≡ Some (drop i s)
   unfolding word
   met-whole p = m.same ∙ rw (ended w j p)

@@ -5,20 +5,20 @@ mod numbers;
 mod tokens;
 
 pub use numbers::skip_number;
-pub use tokens::{Next, skip_byte, skip_word, skip_ws};
+pub use tokens::{skip_byte, skip_word, skip_ws};
 
-pub const QUOTE: u8 = 0x22;
+pub const QUOTE: u8 = b'"';
 
-pub const BACKSLASH: u8 = 0x5C;
+pub const BACKSLASH: u8 = b'\\';
 
-pub const OPEN_BRACE: u8 = 0x7B;
+pub const OPEN_BRACE: u8 = b'{';
 
-pub const CLOSE_BRACE: u8 = 0x7D;
+pub const CLOSE_BRACE: u8 = b'}';
 
-pub const OPEN_BRACKET: u8 = 0x5B;
+pub const OPEN_BRACKET: u8 = b'[';
 
-pub const CLOSE_BRACKET: u8 = 0x5D;
+pub const CLOSE_BRACKET: u8 = b']';
 
-pub const COLON: u8 = 0x3A;
+pub const COLON: u8 = b':';
 
-pub const COMMA: u8 = 0x2C;
+pub const COMMA: u8 = b',';

@@ -4,21 +4,19 @@ ghost use Rattle.rules.specs.Numbers.{is_digit};
 ghost use Rattle.rules.specs.Json.Numbers.{digits, digits1, minus, sign, int, frac, exp, number};
 ghost use Rattle.json_tokens.specs.Answers.{Answer, Skips};
 
-use crate::tokens::Next;
+const ZERO: u8 = b'0';
 
-const ZERO: u8 = 0x30;
+const MINUS: u8 = b'-';
 
-const MINUS: u8 = 0x2D;
+const PLUS: u8 = b'+';
 
-const PLUS: u8 = 0x2B;
-
-const DOT: u8 = 0x2E;
+const DOT: u8 = b'.';
 
 // 0 to 9.
 fn is_digit(b: u8) -> bool
     ensures { result ≡ is_digit b }
 {
-    if 0x30 <= b { b <= 0x39 } else { false }
+    b.is_ascii_digit()
 }
 
 // Passes digits from `at` on, eight at a time; there may be more of them.
@@ -42,29 +40,26 @@ fn skip_digits(s: &[u8], at: usize) -> usize
     requires { at ≤ length s.now }
     ensures { Skips (digits (drop at s.now)) s.now at result }
 {
-    let mut i = skip_eights(s, at);
-    while i < s.len() {
-        if is_digit(s[i]) {
-            i += 1;
-        } else {
+    for i in skip_eights(s, at)..s.len() {
+        if !is_digit(s[i]) {
             return i;
         }
     }
-    i
+    s.len()
 }
 
 // One digit or more.
-fn skip_digits1(s: &[u8], at: usize) -> Next
+fn skip_digits1(s: &[u8], at: usize) -> Option<usize>
     requires { at ≤ length s.now }
     ensures { Answer (digits1 (drop at s.now)) s.now (at + 1) result }
 {
     if s.len() <= at {
-        return Next::Bad;
+        return None;
     }
     if is_digit(s[at]) {
-        Next::At(skip_digits(s, at + 1))
+        Some(skip_digits(s, at + 1))
     } else {
-        Next::Bad
+        None
     }
 }
 
@@ -95,60 +90,55 @@ fn skip_sign(s: &[u8], at: usize) -> usize
 }
 
 // The digits before the point: a zero alone, or digits that begin with another.
-fn skip_int(s: &[u8], at: usize) -> Next
+fn skip_int(s: &[u8], at: usize) -> Option<usize>
     requires { at ≤ length s.now }
     ensures { Answer (int (drop at s.now)) s.now (at + 1) result }
 {
     if s.len() <= at {
-        return Next::Bad;
+        return None;
     }
     if s[at] == ZERO {
-        Next::At(at + 1)
+        Some(at + 1)
     } else {
         skip_digits1(s, at)
     }
 }
 
 // A point and its digits, where there is a point.
-fn skip_frac(s: &[u8], at: usize) -> Next
+fn skip_frac(s: &[u8], at: usize) -> Option<usize>
     requires { at ≤ length s.now }
     ensures { Answer (frac (drop at s.now)) s.now at result }
 {
     if s.len() <= at {
-        return Next::At(at);
+        return Some(at);
     }
     if s[at] == DOT {
         skip_digits1(s, at + 1)
     } else {
-        Next::At(at)
+        Some(at)
     }
 }
 
 // An exponent, its sign and its digits, where there is an e.
-fn skip_exp(s: &[u8], at: usize) -> Next
+fn skip_exp(s: &[u8], at: usize) -> Option<usize>
     requires { at ≤ length s.now }
     ensures { Answer (exp (drop at s.now)) s.now at result }
 {
     if s.len() <= at {
-        return Next::At(at);
+        return Some(at);
     }
     match s[at] {
-        0x65 => skip_digits1(s, skip_sign(s, at + 1)),
-        0x45 => skip_digits1(s, skip_sign(s, at + 1)),
-        _ => Next::At(at),
+        b'e' | b'E' => skip_digits1(s, skip_sign(s, at + 1)),
+        _ => Some(at),
     }
 }
 
 // A number, with its sign, fraction and exponent.
-pub fn skip_number(s: &[u8], at: usize) -> Next
+pub fn skip_number(s: &[u8], at: usize) -> Option<usize>
     requires { at ≤ length s.now }
     ensures { Answer (number (drop at s.now)) s.now (at + 1) result }
 {
-    let Next::At(i) = skip_int(s, skip_minus(s, at)) else {
-        return Next::Bad;
-    };
-    let Next::At(j) = skip_frac(s, i) else {
-        return Next::Bad;
-    };
+    let i = skip_int(s, skip_minus(s, at))?;
+    let j = skip_frac(s, i)?;
     skip_exp(s, j)
 }

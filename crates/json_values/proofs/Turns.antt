@@ -1,6 +1,6 @@
 -- The loop over the items of a container, at positions of a text: what its turns keep, and what each way out of it answers.
 use mathlib.Core.Path.{◌≡◌, sym, ◌∙◌}
-use mathlib.Core.Option.{none, some}
+use Rattle.std.specs.Prelude.{None, Some}
 use Prim.Native.Nat.{ℕ, ◌+◌, ◌-◌, ◌≤◌, ◌<◌}
 use native.Mathlib.Omega.{arith}
 use lib.ListN.{length, drop, length-drop}
@@ -18,7 +18,7 @@ use Rattle.json_values.proofs.Numbers.{numbered-none, numbered-at}
 
 -- a reader that passes `least` bytes or more ends that many further on
 pub read-further : {least : ℕ} {read : Reader} → EachReads least read → (s : Text) (at i : ℕ) → at ≤ length s → i ≤ length s
-    → read (drop at s) ≡ some (drop i s) → at + least ≤ i
+    → read (drop at s) ≡ Some (drop i s) → at + least ≤ i
 read-further {least} each s at i h k e =
     let n : length (drop i s) + least ≤ length (drop at s) = reads-fewer (each (drop at s) (drop i s) e) in
     omega (arith, n, length-drop i s, length-drop at s)
@@ -30,7 +30,7 @@ pub record Going {A : Type 0} (item : Taker A) (close : ℕ) (s : Text) (at i : 
 
 -- a list, where it is read up to i
 list-ends : {A : Type 0} {item : Taker A} → EachTakes 1 item → (close : ℕ) (s : Text) (at : ℕ) {i : ℕ} → at ≤ length s → i ≤ length s
-    → behind (list item close (drop at s)) ≡ some (drop i s)
+    → behind (list item close (drop at s)) ≡ Some (drop i s)
     → Numbered (behind (list item close (drop at s))) s (at + 1) i
 list-ends {item = item} each close s at {i} h k e = numbered-at (omega arith) (e, read-further (behind-reads (list-reads item close each)) s at i h k e, k)
 
@@ -50,10 +50,10 @@ module _ {A : Type 0} (item : Taker A) (close : ℕ) (s : Text) (at : ℕ) where
 -- ---- a turn, whose item stands from i to j
 
 module _ {A : Type 0} {item : Taker A} {close : ℕ} {s : Text} {at i : ℕ} (g : Going item close s at i) where
-  pub going-none : behind (item (drop i s)) ≡ none → Numbered (behind (list item close (drop at s))) s (at + 1) 0
+  pub going-none : behind (item (drop i s)) ≡ None → Numbered (behind (list item close (drop at s))) s (at + 1) 0
   going-none e = numbered-none (sym g.left ∙ behind-rest-none item close (drop i s) e)
 
-  module _ (j : ℕ) (e : behind (item (drop i s)) ≡ some (drop j s)) where
+  module _ (j : ℕ) (e : behind (item (drop i s)) ≡ Some (drop j s)) where
     pub going-neither : Follows (closing close (drop j s)) s (j + 1) Neither → Numbered (behind (list item close (drop at s))) s (at + 1) 0
     going-neither f = numbered-none (sym g.left ∙ behind-rest-neither item close (drop i s) e f)
 

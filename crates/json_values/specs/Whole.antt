@@ -1,6 +1,6 @@
 -- A member's name with its colon, and a whole text, in the rules' terms: two readings that the rules have inside others.
 use Rattle.std.specs.Prelude.{Bool, false, ℕ}
-use Rattle.std.proofs.Math.Option.{none, some}
+use Rattle.std.specs.Prelude.{None, Some}
 use Rattle.rules.specs.Bytes.{◌>>=◌, is_empty}
 use Rattle.rules.specs.Json.Text.{Text, Reader, behind, ws, byte}
 use Rattle.rules.specs.Json.Strings.{string}
@@ -15,4 +15,4 @@ name t = do
 
 -- JSON-text = ws value ws, and nothing more; objects and arrays nest at most d deep
 unfoldable pub is_json : (d : ℕ) → Text → Bool
-is_json d t = elim (value d (ws t)) [ none ↦ false | some r ↦ is_empty (ws r) ]
+is_json d t = elim (value d (ws t)) [ None ↦ false | Some r ↦ is_empty (ws r) ]

@@ -12,7 +12,7 @@ ghost use Rattle.json_values.specs.Whole.{name, is_json};
 
 use json_characters::{plain_end, skip_string};
 use json_tokens::{
-    CLOSE_BRACE, CLOSE_BRACKET, COLON, COMMA, Next, OPEN_BRACE, OPEN_BRACKET, QUOTE, skip_byte,
+    CLOSE_BRACE, CLOSE_BRACKET, COLON, COMMA, OPEN_BRACE, OPEN_BRACKET, QUOTE, skip_byte,
     skip_number, skip_word, skip_ws,
 };
 
@@ -61,27 +61,21 @@ pub fn closing(s: &[u8], at: usize, close: u8) -> Tail
 }
 
 // A colon, with white space around it.
-pub fn skip_colon(s: &[u8], at: usize) -> Next
+pub fn skip_colon(s: &[u8], at: usize) -> Option<usize>
     requires { at ≤ length s.now }
     ensures { Answer (colon (drop at s.now)) s.now (at + 1) result }
 {
-    let Next::At(i) = skip_byte(s, skip_ws(s, at), COLON) else {
-        return Next::Bad; // no colon
-    };
-    Next::At(skip_ws(s, i))
+    let i = skip_byte(s, skip_ws(s, at), COLON)?;
+    Some(skip_ws(s, i))
 }
 
 // The name of a member, its colon, and the white space before its value.
-pub fn skip_name(s: &[u8], at: usize) -> Next
+pub fn skip_name(s: &[u8], at: usize) -> Option<usize>
     requires { at ≤ length s.now }
     ensures { Answer (name (drop at s.now)) s.now (at + 1) result }
 {
-    let Next::At(i) = skip_byte(s, at, QUOTE) else { // no name
-        return Next::Bad;
-    };
-    let Next::At(j) = skip_string(s, i) else {
-        return Next::Bad;
-    };
+    let i = skip_byte(s, at, QUOTE)?;
+    let j = skip_string(s, i)?;
     skip_colon(s, j)
 }
 
@@ -90,7 +84,7 @@ fn plain_member(s: &[u8], at: usize) -> usize
     requires { at ≤ length s.now }
     ensures { (depth : ℕ) → Found (behind (member (rule_value depth) (drop at s.now))) s.now (at + 1) result }
 {
-    let Next::At(i) = skip_byte(s, at, QUOTE) else {
+    let Some(i) = skip_byte(s, at, QUOTE) else {
         return 0;
     };
     let n = plain_end(s, i);
@@ -110,25 +104,25 @@ fn plain_member(s: &[u8], at: usize) -> usize
 }
 
 // A value that is no string and holds no others: a number or one of the three words.
-fn skip_bare(s: &[u8], at: usize) -> Next
+fn skip_bare(s: &[u8], at: usize) -> Option<usize>
     requires { (at < length s.now) × (get_or s.now at 0 ≡ 0x22 → ⊥) }
     ensures { Answer (scalar (drop at s.now)) s.now (at + 1) result }
 {
     match s[at] {
-        0x66 => skip_word(s, at + 1, b"alse"),
-        0x6E => skip_word(s, at + 1, b"ull"),
-        0x74 => skip_word(s, at + 1, b"rue"),
+        b'f' => skip_word(s, at + 1, b"alse"),
+        b'n' => skip_word(s, at + 1, b"ull"),
+        b't' => skip_word(s, at + 1, b"rue"),
         _ => skip_number(s, at),
     }
 }
 
 // A value that holds no others: a string, a number or one of the three words.
-pub fn skip_scalar(s: &[u8], at: usize) -> Next
+pub fn skip_scalar(s: &[u8], at: usize) -> Option<usize>
     requires { at ≤ length s.now }
     ensures { Answer (scalar (drop at s.now)) s.now (at + 1) result }
 {
     if s.len() <= at {
-        return Next::Bad;
+        return None;
     }
     if s[at] == QUOTE {
         skip_string(s, at + 1)
@@ -159,7 +153,7 @@ fn value_within(s: &[u8], at: usize, depth: usize) -> usize
         }
         return array(s, at + 1, depth - 1);
     }
-    let Next::At(end) = skip_scalar(s, at) else {
+    let Some(end) = skip_scalar(s, at) else {
         return 0;
     };
     end
@@ -175,7 +169,7 @@ fn skip_member(s: &[u8], at: usize, depth: usize) -> usize
     if 0 < end {
         return end;
     }
-    let Next::At(v) = skip_name(s, at) else {
+    let Some(v) = skip_name(s, at) else {
         return 0;
     };
     value_within(s, v, depth)
@@ -234,21 +228,18 @@ fn array(s: &[u8], at: usize, depth: usize) -> usize
 }
 
 // A value in which objects and arrays nest at most `depth` deep; what holds no others is read with no call of those that call each other.
-pub fn value(s: &[u8], at: usize, depth: usize) -> Next
+pub fn value(s: &[u8], at: usize, depth: usize) -> Option<usize>
     requires { at ≤ length s.now }
     ensures { Answer (rule_value depth (drop at s.now)) s.now (at + 1) result }
 {
     if s.len() <= at {
-        return Next::Bad;
+        return None;
     }
     match s[at] {
-        0x22 => skip_string(s, at + 1),
-        0x5B | 0x7B => {
+        b'"' => skip_string(s, at + 1),
+        b'[' | b'{' => {
             let end = value_within(s, at, depth);
-            if end == 0 {
-                return Next::Bad;
-            }
-            Next::At(end)
+            if end == 0 { None } else { Some(end) }
         }
         _ => skip_bare(s, at),
     }
@@ -258,12 +249,8 @@ pub fn value(s: &[u8], at: usize, depth: usize) -> Next
 pub fn is_json(s: &[u8], depth: usize) -> bool
     ensures { result ≡ is_json depth s.now }
 {
-    let Next::At(i) = value(s, skip_ws(s, 0), depth) else {
+    let Some(i) = value(s, skip_ws(s, 0), depth) else {
         return false;
     };
-    if s.len() <= skip_ws(s, i) {
-        true
-    } else {
-        false
-    }
+    skip_ws(s, i) == s.len()
 }

@@ -1,7 +1,8 @@
 -- An action from the fields of its object: where one of them is malformed the action is, and else it has them all.
 use mathlib.Core.Path.{◌≡◌, refl, sym, ap, ◌∙◌}
 use mathlib.Core.Bool.{Bool, true, false}
-use mathlib.Core.Option.{Option, none, some}
+use Rattle.std.specs.Prelude.{Option, None, Some}
+use Rattle.std.specs.Option.{unwrap_or}
 use mathlib.Core.List.{List, [], ◌∷◌}
 use Prim.Native.Nat.{ℕ, zero, suc, ◌+◌, ◌-◌, ◌≤◌}
 use native.Mathlib.Omega.{arith}
@@ -25,7 +26,6 @@ use Rattle.rules.proofs.Json.Shadows.{behind-some}
 use Rattle.rules.proofs.Json.StringReads.{string-reads}
 use Rattle.rules.proofs.Json.Places.{unquoted-place}
 use Rattle.rules.proofs.PathPlaces.{path_left-by}
-use Rattle.bytes_values.specs.Answers.{truth_is}
 use Rattle.json_strings.specs.Decoded.{decoded}
 use Rattle.json_strings.proofs.Decoding.{decoded-some}
 use Rattle.field_names.specs.Kinds.{names_of}
@@ -33,19 +33,15 @@ use Rattle.field_objects.specs.Slots.{text_in}
 use Rattle.field_objects.specs.declared.notes.Slot.{Slot}
 use Rattle.field_objects.proofs.Slots.{slot-once}
 use Rattle.line_actions.specs.Begun.{Lined}
-use Rattle.field_scalars.specs.Counts.{records_is, is_known, is_bool, count_in}
+use Rattle.field_scalars.specs.Counts.{count_in}
 use Rattle.field_scalars.specs.Inside.{Inside, whole_in, bool_in, string_in, optional_whole_in}
 use Rattle.field_containers.specs.Nested.{Pairing, values_in, columns_of, columns_in, ColumnsIs, UsualIs}
 use Rattle.field_containers.specs.declared.nested.Usual.{Usual}
 use Rattle.field_containers.specs.Featured.{features_in, Known}
 use Rattle.line_actions.specs.Line.{ActionIs}
-use Rattle.field_scalars.specs.Texts.{Read, path_of, id_of, Told, PathIs}
-use Rattle.field_scalars.specs.declared.Path.TheVariants.{Spelled}
+use Rattle.field_scalars.specs.Texts.{Read, path_of, id_of, PathIs}
 use Rattle.field_scalars.specs.Versions.{version_of}
 use Rattle.line_actions.specs.declared.line.Action.TheVariants.{Add, Remove, Protocol, MetaData, Mergeskip}
-use Rattle.field_containers.specs.declared.nested.Columns.TheVariants.{Within}
-use Rattle.field_scalars.specs.declared.Records.{Records}
-use Rattle.field_scalars.specs.declared.Records.TheVariants.{Number, Missing, Bad}
 use Rattle.line_actions.proofs.Lines.{lined-action}
 use Rattle.line_actions.proofs.Slotted.{lined-inside}
 use Rattle.field_scalars.proofs.Single.{inside-single}
@@ -57,30 +53,30 @@ use Rattle.field_scalars.proofs.Strings.{byte-text, string-behind}
 -- ---- a path that is spelled in its place
 
 -- the field of a string that is there stands once
-string-single : (s : Text) (x : Slot) {y : Bytes} → string_in s x ≡ some y → (x.seen ≡ 1) × (string_of (take (x.end - x.start) (drop x.start s)) ≡ some y)
+string-single : (s : Text) (x : Slot) {y : Bytes} → string_in s x ≡ Some y → (x.seen ≡ 1) × (string_of (take (x.end - x.start) (drop x.start s)) ≡ Some y)
 string-single s x {y} e = go x.seen refl e
   where
-    go : (n : ℕ) → x.seen ≡ n → (text_in s n x.start x.end >>= string_of) ≡ some y
-        → (x.seen ≡ 1) × (string_of (take (x.end - x.start) (drop x.start s)) ≡ some y)
+    go : (n : ℕ) → x.seen ≡ n → (text_in s n x.start x.end >>= string_of) ≡ Some y
+        → (x.seen ≡ 1) × (string_of (take (x.end - x.start) (drop x.start s)) ≡ Some y)
     go zero p f = apart (cc)
     go (suc zero) p f = (p, f)
     go (suc (suc n)) p f = apart (cc)
 
-path-string : (o : Option Bytes) {y : Bytes} → path_of o ≡ some y → o ≡ some y
-path-string none e = apart (cc)
-path-string (some z) {y} e = go (among 1 512 (length z)) e
+path-string : (o : Option Bytes) {y : Bytes} → path_of o ≡ Some y → o ≡ Some y
+path-string None e = apart (cc)
+path-string (Some z) {y} e = go (among 1 512 (length z)) e
   where
-    go : (test : Bool) → (guard test >>= (λ _. some z)) ≡ some y → some z ≡ some y
+    go : (test : Bool) → (guard test >>= (λ _. Some z)) ≡ Some y → Some z ≡ Some y
     go true f = f
     go false f = apart (cc)
 
 pub record Placed (s : Text) (v e : ℕ) (y : Bytes) : Type 0 where
   pub quote : drop v s ≡ 0x22 ∷ drop (v + 1) s
-  pub read : string (drop (v + 1) s) ≡ some (y, drop e s)
+  pub read : string (drop (v + 1) s) ≡ Some (y, drop e s)
   pub further : v + 2 ≤ e
   pub within : e ≤ length s
 
-placed : (s : Text) (v e : ℕ) (y : Bytes) → v ≤ e → e ≤ length s → string_of (take (e - v) (drop v s)) ≡ some y → Placed s v e y
+placed : (s : Text) (v e : ℕ) (y : Bytes) → v ≤ e → e ≤ length s → string_of (take (e - v) (drop v s)) ≡ Some y → Placed s v e y
 unfolding part
 placed s v e y h k f =
     bound (byte 0x22 (drop v s)) string
@@ -100,7 +96,7 @@ placed s v e y h k f =
     rest-is : (t : Text) → drop v s ≡ 0x22 ∷ t → t ≡ drop (v + 1) s
     rest-is t q = sym (ap (drop 1) q) ∙ drop-drop 1 v s
 
-path-placed : (s : Text) (x : Slot) (y : Bytes) → Inside s x → path_of (string_in s x) ≡ some y → Placed s x.start x.end y
+path-placed : (s : Text) (x : Slot) (y : Bytes) → Inside s x → path_of (string_in s x) ≡ Some y → Placed s x.start x.end y
 path-placed s x y i e =
     let (sole, f) = string-single s x (path-string (string_in s x) e) in
     let (h, k) = inside-single s x sole i in
@@ -108,7 +104,7 @@ path-placed s x y i e =
 
 -- and where it begins, by the places of the fields
 path-left : (s : Text) (k : ℕ) {slots : List Slot} (l : Lined s k slots) (x : Slot) {y : Bytes} → Placed s x.start x.end y
-    → once "path" l.lefts ≡ some (drop x.start s) → path_left s ≡ some (drop (x.start + 1) s)
+    → once "path" l.lefts ≡ Some (drop x.start s) → path_left s ≡ Some (drop (x.start + 1) s)
 unfolding only_one byte
 path-left s k l x p e = path_left-by s l.line-left refl l.object-left e (ap (byte 0x22) p.quote)
 
@@ -116,7 +112,7 @@ path-left s k l x p e = path_left-by s l.line-left refl l.object-left e (ap (byt
 
 abbrev facts : Option Bytes → Option ℕ → Option ℕ → Option Bool → Option Pairs → Option (Option ℕ) → Option Facts
 facts p s t c v n = p >>= (λ p. s >>= (λ s. t >>= (λ t. c >>= (λ _. v >>= (λ ps. n >>= (λ n.
-    some (record { path = p; size = s; modification_time = t; num_records = n; partition_values = ps })))))))
+    Some (record { path = p; size = s; modification_time = t; num_records = n; partition_values = ps })))))))
 
 add-facts : (ms : List Member)
     → add_of ms
@@ -127,56 +123,56 @@ add-facts ms = go (path_at ms) (whole_at "size" ms) (whole_at "modificationTime"
   where
     go : (p : Option Bytes) (s t : Option ℕ) (c : Option Text) (v : Option Pairs) (n : Option (Option Text))
         → (p >>= (λ p. s >>= (λ s. t >>= (λ t. c >>= (λ c. bool_of c >>= (λ _. v >>= (λ ps. n >>= (λ v. if_there whole v >>= (λ n.
-        some (record { path = p; size = s; modification_time = t; num_records = n; partition_values = ps }))))))))))
+        Some (record { path = p; size = s; modification_time = t; num_records = n; partition_values = ps }))))))))))
         ≡ facts p s t (c >>= bool_of) v (n >>= if_there whole)
-    go none s t c v n = refl
-    go (some p) none t c v n = refl
-    go (some p) (some s) none c v n = refl
-    go (some p) (some s) (some t) none v n = refl
-    go (some p) (some s) (some t) (some c) v none = refl
-    go (some p) (some s) (some t) (some c) v (some n) = refl
+    go None s t c v n = refl
+    go (Some p) None t c v n = refl
+    go (Some p) (Some s) None c v n = refl
+    go (Some p) (Some s) (Some t) None v n = refl
+    go (Some p) (Some s) (Some t) (Some c) v None = refl
+    go (Some p) (Some s) (Some t) (Some c) v (Some n) = refl
 
 added : Option Bytes → Option ℕ → Option ℕ → Option Bool → Option Pairs → Option (Option ℕ) → Option Action
-added p s t c v n = facts p s t c v n >>= (λ a. some (add a))
+added p s t c v n = facts p s t c v n >>= (λ a. Some (add a))
 
-no-path : (p : Option Bytes) (s t : Option ℕ) (c : Option Bool) (v : Option Pairs) (n : Option (Option ℕ)) → p ≡ none → added p s t c v n ≡ none
+no-path : (p : Option Bytes) (s t : Option ℕ) (c : Option Bool) (v : Option Pairs) (n : Option (Option ℕ)) → p ≡ None → added p s t c v n ≡ None
 unfolding added
 no-path p s t c v n e = rw e
 
-no_size : (p : Option Bytes) (s t : Option ℕ) (c : Option Bool) (v : Option Pairs) (n : Option (Option ℕ)) → s ≡ none → added p s t c v n ≡ none
+no_size : (p : Option Bytes) (s t : Option ℕ) (c : Option Bool) (v : Option Pairs) (n : Option (Option ℕ)) → s ≡ None → added p s t c v n ≡ None
 unfolding added
-no_size none s t c v n e = refl
-no_size (some p) s t c v n e = rw e
+no_size None s t c v n e = refl
+no_size (Some p) s t c v n e = rw e
 
-no-time : (p : Option Bytes) (s t : Option ℕ) (c : Option Bool) (v : Option Pairs) (n : Option (Option ℕ)) → t ≡ none → added p s t c v n ≡ none
+no-time : (p : Option Bytes) (s t : Option ℕ) (c : Option Bool) (v : Option Pairs) (n : Option (Option ℕ)) → t ≡ None → added p s t c v n ≡ None
 unfolding added
-no-time none s t c v n e = refl
-no-time (some p) none t c v n e = refl
-no-time (some p) (some s) t c v n e = rw e
+no-time None s t c v n e = refl
+no-time (Some p) None t c v n e = refl
+no-time (Some p) (Some s) t c v n e = rw e
 
-no_change : (p : Option Bytes) (s t : Option ℕ) (c : Option Bool) (v : Option Pairs) (n : Option (Option ℕ)) → c ≡ none → added p s t c v n ≡ none
+no_change : (p : Option Bytes) (s t : Option ℕ) (c : Option Bool) (v : Option Pairs) (n : Option (Option ℕ)) → c ≡ None → added p s t c v n ≡ None
 unfolding added
-no_change none s t c v n e = refl
-no_change (some p) none t c v n e = refl
-no_change (some p) (some s) none c v n e = refl
-no_change (some p) (some s) (some t) c v n e = rw e
+no_change None s t c v n e = refl
+no_change (Some p) None t c v n e = refl
+no_change (Some p) (Some s) None c v n e = refl
+no_change (Some p) (Some s) (Some t) c v n e = rw e
 
-no-values : (p : Option Bytes) (s t : Option ℕ) (c : Option Bool) (v : Option Pairs) (n : Option (Option ℕ)) → v ≡ none → added p s t c v n ≡ none
+no-values : (p : Option Bytes) (s t : Option ℕ) (c : Option Bool) (v : Option Pairs) (n : Option (Option ℕ)) → v ≡ None → added p s t c v n ≡ None
 unfolding added
-no-values none s t c v n e = refl
-no-values (some p) none t c v n e = refl
-no-values (some p) (some s) none c v n e = refl
-no-values (some p) (some s) (some t) none v n e = refl
-no-values (some p) (some s) (some t) (some c) v n e = rw e
+no-values None s t c v n e = refl
+no-values (Some p) None t c v n e = refl
+no-values (Some p) (Some s) None c v n e = refl
+no-values (Some p) (Some s) (Some t) None v n e = refl
+no-values (Some p) (Some s) (Some t) (Some c) v n e = rw e
 
-no-records : (p : Option Bytes) (s t : Option ℕ) (c : Option Bool) (v : Option Pairs) (n : Option (Option ℕ)) → n ≡ none → added p s t c v n ≡ none
+no-records : (p : Option Bytes) (s t : Option ℕ) (c : Option Bool) (v : Option Pairs) (n : Option (Option ℕ)) → n ≡ None → added p s t c v n ≡ None
 unfolding added
-no-records none s t c v n e = refl
-no-records (some p) none t c v n e = refl
-no-records (some p) (some s) none c v n e = refl
-no-records (some p) (some s) (some t) none v n e = refl
-no-records (some p) (some s) (some t) (some c) none n e = refl
-no-records (some p) (some s) (some t) (some c) (some v) n e = rw e
+no-records None s t c v n e = refl
+no-records (Some p) None t c v n e = refl
+no-records (Some p) (Some s) None c v n e = refl
+no-records (Some p) (Some s) (Some t) None v n e = refl
+no-records (Some p) (Some s) (Some t) (Some c) None n e = refl
+no-records (Some p) (Some s) (Some t) (Some c) (Some v) n e = rw e
 
 module _ (s : Text) {path size time change values records : Slot} (l : Lined s 0 (path ∷ size ∷ time ∷ change ∷ values ∷ records ∷ [])) where
   lined-add : action s
@@ -189,71 +185,70 @@ module _ (s : Text) {path size time change values records : Slot} (l : Lined s 0
       let d = field-bool s change "dataChange" l.ms (l.each 3 (omega arith)) in
       let e = field-values s values l.ms (l.each 4 (omega arith)) in
       let g = field-optional s records "numRecords" l.ms (l.each 5 (omega arith)) in
-      lined-action s 0 l ∙ ap (λ o. o >>= (λ ms. add_of ms >>= (λ a. some (add a)))) l.object
-      ∙ ap (λ o. o >>= (λ a. some (add a))) (add-facts l.ms) ∙ rw (a, b, c, d, e, g)
+      lined-action s 0 l ∙ ap (λ o. o >>= (λ ms. add_of ms >>= (λ a. Some (add a)))) l.object
+      ∙ ap (λ o. o >>= (λ a. Some (add a))) (add-facts l.ms) ∙ rw (a, b, c, d, e, g)
 
-  pub add-no-path : path_of (string_in s path) ≡ none → action s ≡ none
+  pub add-no-path : path_of (string_in s path) ≡ None → action s ≡ None
   add-no-path e =
       lined-add
       ∙ no-path (path_of (string_in s path)) (whole_in s size) (whole_in s time) (bool_in s change) (values_in s values) (optional_whole_in s records) e
 
-  pub add-no-size : whole_in s size ≡ none → action s ≡ none
+  pub add-no-size : whole_in s size ≡ None → action s ≡ None
   add-no-size e =
       lined-add
       ∙ no_size (path_of (string_in s path)) (whole_in s size) (whole_in s time) (bool_in s change) (values_in s values) (optional_whole_in s records) e
 
-  pub add-no-time : whole_in s time ≡ none → action s ≡ none
+  pub add-no-time : whole_in s time ≡ None → action s ≡ None
   add-no-time e =
       lined-add
       ∙ no-time (path_of (string_in s path)) (whole_in s size) (whole_in s time) (bool_in s change) (values_in s values) (optional_whole_in s records) e
 
-  pub add-no-change : bool_in s change ≡ none → action s ≡ none
+  pub add-no-change : bool_in s change ≡ None → action s ≡ None
   add-no-change e =
       lined-add
       ∙ no_change (path_of (string_in s path)) (whole_in s size) (whole_in s time) (bool_in s change) (values_in s values) (optional_whole_in s records) e
 
-  pub add-no-values : values_in s values ≡ none → action s ≡ none
+  pub add-no-values : values_in s values ≡ None → action s ≡ None
   add-no-values e =
       lined-add
       ∙ no-values (path_of (string_in s path)) (whole_in s size) (whole_in s time) (bool_in s change) (values_in s values) (optional_whole_in s records) e
 
-  pub add-no-records : optional_whole_in s records ≡ none → action s ≡ none
+  pub add-no-records : optional_whole_in s records ≡ None → action s ≡ None
   add-no-records e =
       lined-add
       ∙ no-records (path_of (string_in s path)) (whole_in s size) (whole_in s time) (bool_in s change) (values_in s values) (optional_whole_in s records) e
 
-  pub add-placed : (y : Bytes) → path_of (string_in s path) ≡ some y → Placed s path.start path.end y
+  pub add-placed : (y : Bytes) → path_of (string_in s path) ≡ Some y → Placed s path.start path.end y
   unfolding names_of
   add-placed y e = path-placed s path y (lined-inside s 0 l 0 (omega arith)) e
 
   -- the path as the line writes it
-  path-written : (y : Bytes) → path_of (string_in s path) ≡ some y → path_written s ≡ some (part s (path.start + 1) (path.end - 1))
+  path-written : (y : Bytes) → path_of (string_in s path) ≡ Some y → path_written s ≡ Some (part s (path.start + 1) (path.end - 1))
   unfolding path_written names_of part
   path-written y e =
       let v = path.start in
       let k = path.end in
       let p = add-placed y e in
       let (sole, g) = string-single s path (path-string (string_in s path) e) in
-      let o : once "path" l.ms ≡ some (take (k - v) (drop v s)) =
+      let o : once "path" l.ms ≡ Some (take (k - v) (drop v s)) =
       slot-once s "path" l.ms path.seen v k (l.each 0 (omega arith)) ∙ ap (λ (n : ℕ). text_in s n v k) sole in
       let far : v + 2 ≤ k = p.further in
       let count : k - v - 2 ≡ k - 1 - (v + 1) = omega arith in
-      ap (λ o. o >>= (λ m. object_of in_action m.1 >>= (λ ms. once "path" ms >>= (λ v. some (unquoted v))))) l.line
-      ∙ ap (λ o. o >>= (λ ms. once "path" ms >>= (λ v. some (unquoted v)))) l.object
-      ∙ ap (λ o. o >>= (λ v. some (unquoted v))) o
-      ∙ ap some (unquoted-place s v k (omega arith) p.within 0x22 p.quote ∙ ap (λ (n : ℕ). take n (drop (v + 1) s)) count)
+      ap (λ o. o >>= (λ m. object_of in_action m.1 >>= (λ ms. once "path" ms >>= (λ v. Some (unquoted v))))) l.line
+      ∙ ap (λ o. o >>= (λ ms. once "path" ms >>= (λ v. Some (unquoted v)))) l.object
+      ∙ ap (λ o. o >>= (λ v. Some (unquoted v))) o
+      ∙ ap Some (unquoted-place s v k (omega arith) p.within 0x22 p.quote ∙ ap (λ (n : ℕ). take n (drop (v + 1) s)) count)
 
-  add-starts : path.seen ≡ 1 → once "path" l.lefts ≡ some (drop path.start s)
+  add-starts : path.seen ≡ 1 → once "path" l.lefts ≡ Some (drop path.start s)
   unfolding once names_of
   add-starts o = l.starts 0 (omega arith) o
 
-  pub add-there : (y : Bytes) (a t at : ℕ) (u : Usual) (b : Bool) (ps : Pairs) (n : Option ℕ) (r : Records)
-      → path_of (string_in s path) ≡ some y → whole_in s size ≡ some a → whole_in s time ≡ some t
-      → bool_in s change ≡ some b → values_in s values ≡ some ps → Pairing s at ps → UsualIs s at u → optional_whole_in s records ≡ some n
-      → r ≡ records_is (some n)
-      → ActionIs (action s) s (Add (record { path = path.start + 1; end = path.end - 1; size = a; time = t; records = r; values = at; usual = u }))
+  pub add-there : (y : Bytes) (a t at : ℕ) (u : Usual) (b : Bool) (ps : Pairs) (n : Option ℕ)
+      → path_of (string_in s path) ≡ Some y → whole_in s size ≡ Some a → whole_in s time ≡ Some t
+      → bool_in s change ≡ Some b → values_in s values ≡ Some ps → Pairing s at ps → UsualIs s at u → optional_whole_in s records ≡ Some n
+      → ActionIs (action s) s (Some (Add (record { path = path.start + 1; end = path.end - 1; size = a; time = t; records = n; values = at; usual = u })))
   unfolding added
-  add-there y a t at u b ps n r e1 e2 e3 e4 e5 q told e6 e7 =
+  add-there y a t at u b ps n e1 e2 e3 e4 e5 q told e6 =
       let p = add-placed y e1 in
       let far : path.start + 2 ≤ path.end = p.further in
       let fits : path.end ≤ length s = p.within in (
@@ -268,47 +263,28 @@ module _ (s : Text) {path size time change values records : Slot} (l : Lined s 0
           within = omega arith;
           size = refl;
           time = refl;
-          records = e7;
+          records = refl;
           values = q;
           usual = told;
         },
       )
 
--- a boolean, and a number of records, that is not malformed
-pub truth-told : (o : Option Bool) (r : Bool) → r ≡ is_bool (truth_is o) → Told o r
-unfolding truth_is
-truth-told none true e = apart (cc)
-truth-told none false e = refl
-truth-told (some true) true e = (true, refl)
-truth-told (some true) false e = apart (cc)
-truth-told (some false) true e = (false, refl)
-truth-told (some false) false e = apart (cc)
-
-pub records-told : (o : Option (Option ℕ)) (r : Bool) → r ≡ is_known (records_is o) → Told o r
-unfolding records_is
-records-told none true e = apart (cc)
-records-told none false e = refl
-records-told (some none) true e = (none, refl)
-records-told (some none) false e = apart (cc)
-records-told (some (some n)) true e = (some n, refl)
-records-told (some (some n)) false e = apart (cc)
-
 -- ---- remove
 
 module _ (s : Text) {path : Slot} (l : Lined s 1 (path ∷ [])) where
-  lined-remove : action s ≡ (path_of (string_in s path) >>= (λ p. some (remove p)))
+  lined-remove : action s ≡ (path_of (string_in s path) >>= (λ p. Some (remove p)))
   unfolding action_by names_of
-  lined-remove = lined-action s 1 l ∙ ap (λ o. o >>= (λ ms. path_at ms >>= (λ p. some (remove p)))) l.object
-      ∙ ap (λ o. o >>= (λ p. some (remove p))) (field-path s path l.ms (l.each 0 (omega arith)))
+  lined-remove = lined-action s 1 l ∙ ap (λ o. o >>= (λ ms. path_at ms >>= (λ p. Some (remove p)))) l.object
+      ∙ ap (λ o. o >>= (λ p. Some (remove p))) (field-path s path l.ms (l.each 0 (omega arith)))
 
-  pub remove-no-path : path_of (string_in s path) ≡ none → action s ≡ none
+  pub remove-no-path : path_of (string_in s path) ≡ None → action s ≡ None
   remove-no-path e = lined-remove ∙ rw e
 
-  remove-starts : path.seen ≡ 1 → once "path" l.lefts ≡ some (drop path.start s)
+  remove-starts : path.seen ≡ 1 → once "path" l.lefts ≡ Some (drop path.start s)
   unfolding once names_of
   remove-starts o = l.starts 0 (omega arith) o
 
-  pub remove-there : (p : ℕ) → PathIs (path_of (string_in s path)) s path.start (Spelled p) → ActionIs (action s) s (Remove p)
+  pub remove-there : (p : ℕ) → PathIs (path_of (string_in s path)) s path.start (Some p) → ActionIs (action s) s (Some (Remove p))
   unfolding names_of
   remove-there p (r, place) =
       let (y, g) = behind-some (string (drop p s)) r.spelled.closed in
@@ -316,35 +292,35 @@ module _ (s : Text) {path : Slot} (l : Lined s 1 (path ∷ [])) where
       let n : length (drop p s) ≡ length s - p = length-drop p s in
       let single = (string-single s path (path-string (string_in s path) r.says)).0 in
       let left = path-left s 1 l path (path-placed s path _ (lined-inside s 1 l 0 (omega arith)) r.says) (remove-starts single) in
-      (lined-remove ∙ ap (λ o. o >>= (λ p. some (remove p))) r.says, r.spelled, omega arith, left ∙ ap (λ (i : ℕ). some (drop i s)) (sym place))
+      (lined-remove ∙ ap (λ o. o >>= (λ p. Some (remove p))) r.says, r.spelled, omega arith, left ∙ ap (λ (i : ℕ). Some (drop i s)) (sym place))
 
 -- ---- protocol
 
 stated : Option ℕ → Option ℕ → Option (List Bytes) → Option (List Bytes) → Option Action
 stated r w rs ws = (r >>= (λ r. w >>= (λ w. rs >>= (λ rs. ws >>= (λ ws.
-    some (record { min_reader_version = r; min_writer_version = w; reader_features = rs; writer_features = ws })))))) >>= (λ p. some (protocol p))
+    Some (record { min_reader_version = r; min_writer_version = w; reader_features = rs; writer_features = ws })))))) >>= (λ p. Some (protocol p))
 
-no_reader : (r w : Option ℕ) (rs ws : Option (List Bytes)) → r ≡ none → stated r w rs ws ≡ none
+no_reader : (r w : Option ℕ) (rs ws : Option (List Bytes)) → r ≡ None → stated r w rs ws ≡ None
 unfolding stated
 no_reader r w rs ws e = rw e
 
-no-writer : (r w : Option ℕ) (rs ws : Option (List Bytes)) → w ≡ none → stated r w rs ws ≡ none
+no-writer : (r w : Option ℕ) (rs ws : Option (List Bytes)) → w ≡ None → stated r w rs ws ≡ None
 unfolding stated
-no-writer none w rs ws e = refl
-no-writer (some r) w rs ws e = rw e
+no-writer None w rs ws e = refl
+no-writer (Some r) w rs ws e = rw e
 
-no-reader-features : (r w : Option ℕ) (rs ws : Option (List Bytes)) → rs ≡ none → stated r w rs ws ≡ none
+no-reader-features : (r w : Option ℕ) (rs ws : Option (List Bytes)) → rs ≡ None → stated r w rs ws ≡ None
 unfolding stated
-no-reader-features none w rs ws e = refl
-no-reader-features (some r) none rs ws e = refl
-no-reader-features (some r) (some w) rs ws e = rw e
+no-reader-features None w rs ws e = refl
+no-reader-features (Some r) None rs ws e = refl
+no-reader-features (Some r) (Some w) rs ws e = rw e
 
-no-writer-features : (r w : Option ℕ) (rs ws : Option (List Bytes)) → ws ≡ none → stated r w rs ws ≡ none
+no-writer-features : (r w : Option ℕ) (rs ws : Option (List Bytes)) → ws ≡ None → stated r w rs ws ≡ None
 unfolding stated
-no-writer-features none w rs ws e = refl
-no-writer-features (some r) none rs ws e = refl
-no-writer-features (some r) (some w) none ws e = refl
-no-writer-features (some r) (some w) (some rs) ws e = rw e
+no-writer-features None w rs ws e = refl
+no-writer-features (Some r) None rs ws e = refl
+no-writer-features (Some r) (Some w) None ws e = refl
+no-writer-features (Some r) (Some w) (Some rs) ws e = rw e
 
 module _ (s : Text) {reader writer readers writers : Slot} (l : Lined s 2 (reader ∷ writer ∷ readers ∷ writers ∷ [])) where
   lined-protocol : action s ≡ stated (version_of (whole_in s reader)) (version_of (whole_in s writer)) (features_in s readers) (features_in s writers)
@@ -354,30 +330,30 @@ module _ (s : Text) {reader writer readers writers : Slot} (l : Lined s 2 (reade
       let b = field-version s writer "minWriterVersion" l.ms (l.each 1 (omega arith)) in
       let c = field-features s readers "readerFeatures" l.ms (l.each 2 (omega arith)) in
       let d = field-features s writers "writerFeatures" l.ms (l.each 3 (omega arith)) in
-      lined-action s 2 l ∙ ap (λ o. o >>= (λ ms. protocol_of ms >>= (λ p. some (protocol p)))) l.object ∙ rw (protocol_of, a, b, c, d)
+      lined-action s 2 l ∙ ap (λ o. o >>= (λ ms. protocol_of ms >>= (λ p. Some (protocol p)))) l.object ∙ rw (protocol_of, a, b, c, d)
 
-  pub protocol-no-reader : version_of (whole_in s reader) ≡ none → action s ≡ none
+  pub protocol-no-reader : version_of (whole_in s reader) ≡ None → action s ≡ None
   protocol-no-reader e =
       lined-protocol ∙ no_reader (version_of (whole_in s reader)) (version_of (whole_in s writer)) (features_in s readers) (features_in s writers) e
 
-  pub protocol-no-writer : version_of (whole_in s writer) ≡ none → action s ≡ none
+  pub protocol-no-writer : version_of (whole_in s writer) ≡ None → action s ≡ None
   protocol-no-writer e =
       lined-protocol ∙ no-writer (version_of (whole_in s reader)) (version_of (whole_in s writer)) (features_in s readers) (features_in s writers) e
 
-  pub protocol-no-reader-features : features_in s readers ≡ none → action s ≡ none
+  pub protocol-no-reader-features : features_in s readers ≡ None → action s ≡ None
   protocol-no-reader-features e =
       lined-protocol
       ∙ no-reader-features (version_of (whole_in s reader)) (version_of (whole_in s writer)) (features_in s readers) (features_in s writers) e
 
-  pub protocol-no-writer-features : features_in s writers ≡ none → action s ≡ none
+  pub protocol-no-writer-features : features_in s writers ≡ None → action s ≡ None
   protocol-no-writer-features e =
       lined-protocol
       ∙ no-writer-features (version_of (whole_in s reader)) (version_of (whole_in s writer)) (features_in s readers) (features_in s writers) e
 
-  pub protocol-there : (a b i j : ℕ) (c d : Bool) → version_of (whole_in s reader) ≡ some a → version_of (whole_in s writer) ≡ some b
+  pub protocol-there : (a b i j : ℕ) (c d : Bool) → version_of (whole_in s reader) ≡ Some a → version_of (whole_in s writer) ≡ Some b
       → Known (features_in s readers) s false i c → Known (features_in s writers) s true j d
       → ActionIs (action s) s
-      (Protocol (record { reader = a; writer = b; reader_known = c; writer_known = d; reader_features = i; writer_features = j }))
+      (Some (Protocol (record { reader = a; writer = b; reader_known = c; writer_known = d; reader_features = i; writer_features = j })))
   unfolding stated
   protocol-there a b i j c d e1 e2 k1 k2 = (
     record { min_reader_version = a; min_writer_version = b; reader_features = k1.xs; writer_features = k2.xs },
@@ -388,22 +364,22 @@ module _ (s : Text) {reader writer readers writers : Slot} (l : Lined s 2 (reade
 -- ---- metaData
 
 abbrev described : Option Bytes → Option (List Bytes) → Option Action
-described i c = (i >>= (λ i. c >>= (λ cs. some (record { id = i; partition_columns = cs })))) >>= (λ m. some (meta_data m))
+described i c = (i >>= (λ i. c >>= (λ cs. Some (record { id = i; partition_columns = cs })))) >>= (λ m. Some (meta_data m))
 
 meta-fields : (ms : List Member)
-    → (meta_data_of ms >>= (λ m. some (meta_data m))) ≡ described (id_of (string_at "id" ms)) (once "partitionColumns" ms >>= columns_of)
+    → (meta_data_of ms >>= (λ m. Some (meta_data m))) ≡ described (id_of (string_at "id" ms)) (once "partitionColumns" ms >>= columns_of)
 unfolding meta_data_of id_at
 meta-fields ms = go (id_at ms)
   where
     columns : (i : Bytes) (v : Text) (o : Option (List Bytes))
-        → ((o >>= (λ cs. guard (leb (length cs) most_columns) >>= (λ _. guard (distinct cs) >>= (λ _. some (record { id = i; partition_columns = cs })))))
-        >>= (λ m. some (meta_data m)))
-        ≡ described (some i) (o >>= (λ cs. guard (leb (length cs) most_columns) >>= (λ _. guard (distinct cs) >>= (λ _. some cs))))
-    columns i v none = refl
-    columns i v (some cs) = few (leb (length cs) most_columns) (distinct cs)
+        → ((o >>= (λ cs. guard (leb (length cs) most_columns) >>= (λ _. guard (distinct cs) >>= (λ _. Some (record { id = i; partition_columns = cs })))))
+        >>= (λ m. Some (meta_data m)))
+        ≡ described (Some i) (o >>= (λ cs. guard (leb (length cs) most_columns) >>= (λ _. guard (distinct cs) >>= (λ _. Some cs))))
+    columns i v None = refl
+    columns i v (Some cs) = few (leb (length cs) most_columns) (distinct cs)
       where
-        few : (a b : Bool) → ((guard a >>= (λ _. guard b >>= (λ _. some (record { id = i; partition_columns = cs })))) >>= (λ m. some (meta_data m)))
-            ≡ described (some i) (guard a >>= (λ _. guard b >>= (λ _. some cs)))
+        few : (a b : Bool) → ((guard a >>= (λ _. guard b >>= (λ _. Some (record { id = i; partition_columns = cs })))) >>= (λ m. Some (meta_data m)))
+            ≡ described (Some i) (guard a >>= (λ _. guard b >>= (λ _. Some cs)))
         few true true = refl
         few true false = refl
         few false b = refl
@@ -411,11 +387,11 @@ meta-fields ms = go (id_at ms)
     field : (i : Bytes) (o : Option Text)
         → ((o
         >>= (λ v. strings_of in_field v
-        >>= (λ cs. guard (leb (length cs) most_columns) >>= (λ _. guard (distinct cs) >>= (λ _. some (record { id = i; partition_columns = cs }))))))
-        >>= (λ m. some (meta_data m)))
-        ≡ described (some i) (o >>= columns_of)
-    field i none = refl
-    field i (some v) = columns i v (strings_of in_field v)
+        >>= (λ cs. guard (leb (length cs) most_columns) >>= (λ _. guard (distinct cs) >>= (λ _. Some (record { id = i; partition_columns = cs }))))))
+        >>= (λ m. Some (meta_data m)))
+        ≡ described (Some i) (o >>= columns_of)
+    field i None = refl
+    field i (Some v) = columns i v (strings_of in_field v)
 
     described-by : Bytes → Option RuleMetaData
     described-by i = do
@@ -423,89 +399,65 @@ meta-fields ms = go (id_at ms)
       cs ← strings_of in_field v
       _ ← guard (leb (length cs) most_columns)
       _ ← guard (distinct cs)
-      some (record { id = i; partition_columns = cs })
+      Some (record { id = i; partition_columns = cs })
 
-    go : (o : Option Bytes) → ((o >>= described-by) >>= (λ m. some (meta_data m))) ≡ described o (once "partitionColumns" ms >>= columns_of)
-    go none = refl
-    go (some i) = field i (once "partitionColumns" ms)
+    go : (o : Option Bytes) → ((o >>= described-by) >>= (λ m. Some (meta_data m))) ≡ described o (once "partitionColumns" ms >>= columns_of)
+    go None = refl
+    go (Some i) = field i (once "partitionColumns" ms)
 
 module _ (s : Text) {id columns : Slot} (l : Lined s 3 (id ∷ columns ∷ [])) where
   lined-meta : action s ≡ described (id_of (string_in s id)) (columns_in s columns)
   unfolding action_by names_of
-  lined-meta = lined-action s 3 l ∙ ap (λ o. o >>= (λ ms. meta_data_of ms >>= (λ m. some (meta_data m)))) l.object ∙ meta-fields l.ms
+  lined-meta = lined-action s 3 l ∙ ap (λ o. o >>= (λ ms. meta_data_of ms >>= (λ m. Some (meta_data m)))) l.object ∙ meta-fields l.ms
       ∙ ap (λ o. described (id_of o) (once "partitionColumns" l.ms >>= columns_of)) (field-string s id "id" l.ms (l.each 0 (omega arith)))
       ∙ ap (described (id_of (string_in s id))) (field-columns s columns "partitionColumns" l.ms (l.each 1 (omega arith)))
 
-  pub meta-no-id : id_of (string_in s id) ≡ none → action s ≡ none
+  pub meta-no-id : id_of (string_in s id) ≡ None → action s ≡ None
   meta-no-id e = lined-meta ∙ ap (λ o. described o (columns_in s columns)) e
 
-  pub meta-no-columns : columns_in s columns ≡ none → action s ≡ none
+  pub meta-no-columns : columns_in s columns ≡ None → action s ≡ None
   meta-no-columns e = lined-meta ∙ ap (described (id_of (string_in s id))) e ∙ go (id_of (string_in s id))
     where
-      go : (i : Option Bytes) → described i none ≡ none
-      go none = refl
-      go (some i) = refl
+      go : (i : Option Bytes) → described i None ≡ None
+      go None = refl
+      go (Some i) = refl
 
-  pub meta-there : (place at : ℕ) → Read (id_of (string_in s id)) s place → ColumnsIs (columns_in s columns) s (Within at)
-      → ActionIs (action s) s (MetaData (record { id = place; columns = at }))
+  pub meta-there : (place at : ℕ) → Read (id_of (string_in s id)) s place → ColumnsIs (columns_in s columns) s (Some at)
+      → ActionIs (action s) s (Some (MetaData (record { id = place; columns = at })))
   meta-there place at t c = (
     record { id = decoded (drop place s); partition_columns = c.0 },
-    lined-meta ∙ ap (λ o. described o (columns_in s columns)) t.says ∙ ap (described (some (decoded (drop place s)))) c.1,
+    lined-meta ∙ ap (λ o. described o (columns_in s columns)) t.says ∙ ap (described (Some (decoded (drop place s)))) c.1,
     record { spelled = t.spelled; id = refl; within = c.2; columns = c.3 },
   )
 
 -- ---- mergeskip
 
--- a number that may be missing or null, by what was read
-module _ (o : Option (Option ℕ)) where
-  pub retry-number : (t : ℕ) → Number t ≡ records_is o → o ≡ some (some t)
-  unfolding records_is
-  retry-number t e = go o e
-    where
-      go : (o : Option (Option ℕ)) → Number t ≡ records_is o → o ≡ some (some t)
-      go none e = apart (cc)
-      go (some none) e = apart (cc)
-      go (some (some n)) e = let q : n ≡ t = cc in ap (λ (m : ℕ). some (some m)) q
-
-  pub retry-missing : Missing ≡ records_is o → o ≡ some none
-  unfolding records_is
-  retry-missing e = go o e
-    where
-      go : (o : Option (Option ℕ)) → Missing ≡ records_is o → o ≡ some none
-      go none e = apart (cc)
-      go (some none) e = refl
-      go (some (some n)) e = apart (cc)
-
-  pub retry-bad : Bad ≡ records_is o → o ≡ none
-  unfolding records_is
-  retry-bad e = go o e
-    where
-      go : (o : Option (Option ℕ)) → Bad ≡ records_is o → o ≡ none
-      go none e = refl
-      go (some none) e = apart (cc)
-      go (some (some n)) e = apart (cc)
+pub at_once-is : (t : Option ℕ) → or_at_once t ≡ unwrap_or t 0
+unfolding or_at_once
+at_once-is None = refl
+at_once-is (Some t) = refl
 
 abbrev skipping : Option Bytes → Option ℕ → Option (Option ℕ) → Option Action
-skipping p n t = p >>= (λ p. n >>= (λ n. t >>= (λ t. some (mergeskip p (record { count = n; retry_after = or_at_once t })))))
+skipping p n t = p >>= (λ p. n >>= (λ n. t >>= (λ t. Some (mergeskip p (record { count = n; retry_after = or_at_once t })))))
 
-skip-fields : (ms : List Member) → (path_at ms >>= (λ p. skip_of ms >>= (λ k. some (mergeskip p k))))
+skip-fields : (ms : List Member) → (path_at ms >>= (λ p. skip_of ms >>= (λ k. Some (mergeskip p k))))
     ≡ skipping (path_at ms) (skip_count_in (under (ascii "skipCount") ms)) (optional "retryAfter" ms >>= if_there whole)
 unfolding skip_of
 skip-fields ms = go (path_at ms) (skip_count_in (under (ascii "skipCount") ms)) (optional "retryAfter" ms)
   where
     retried : (p : Bytes) (n : ℕ) (t : Option (Option ℕ))
-        → ((t >>= (λ t. some (record { count = n; retry_after = or_at_once t }))) >>= (λ k. some (mergeskip p k))) ≡ skipping (some p) (some n) t
-    retried p n none = refl
-    retried p n (some t) = refl
+        → ((t >>= (λ t. Some (record { count = n; retry_after = or_at_once t }))) >>= (λ k. Some (mergeskip p k))) ≡ skipping (Some p) (Some n) t
+    retried p n None = refl
+    retried p n (Some t) = refl
 
     go : (p : Option Bytes) (n : Option ℕ) (v : Option (Option Text))
-        → (p >>= (λ p. (n >>= (λ n. v >>= (λ v. if_there whole v >>= (λ t. some (record { count = n; retry_after = or_at_once t })))))
-        >>= (λ k. some (mergeskip p k))))
+        → (p >>= (λ p. (n >>= (λ n. v >>= (λ v. if_there whole v >>= (λ t. Some (record { count = n; retry_after = or_at_once t })))))
+        >>= (λ k. Some (mergeskip p k))))
         ≡ skipping p n (v >>= if_there whole)
-    go none n v = refl
-    go (some p) none v = refl
-    go (some p) (some n) none = refl
-    go (some p) (some n) (some v) = retried p n (if_there whole v)
+    go None n v = refl
+    go (Some p) None v = refl
+    go (Some p) (Some n) None = refl
+    go (Some p) (Some n) (Some v) = retried p n (if_there whole v)
 
 module _ (s : Text) {path count retry : Slot} (l : Lined s 4 (path ∷ count ∷ retry ∷ [])) where
   lined-mergeskip : action s ≡ skipping (path_of (string_in s path)) (count_in s count) (optional_whole_in s retry)
@@ -514,34 +466,34 @@ module _ (s : Text) {path count retry : Slot} (l : Lined s 4 (path ∷ count ∷
       let a = field-path s path l.ms (l.each 0 (omega arith)) in
       let b = field-count s count l.ms (l.each 1 (omega arith)) in
       let c = field-optional s retry "retryAfter" l.ms (l.each 2 (omega arith)) in
-      lined-action s 4 l ∙ ap (λ o. o >>= (λ ms. path_at ms >>= (λ p. skip_of ms >>= (λ k. some (mergeskip p k))))) l.object
+      lined-action s 4 l ∙ ap (λ o. o >>= (λ ms. path_at ms >>= (λ p. skip_of ms >>= (λ k. Some (mergeskip p k))))) l.object
       ∙ skip-fields l.ms ∙ rw (a, b, c)
 
-  pub mergeskip-no-path : path_of (string_in s path) ≡ none → action s ≡ none
+  pub mergeskip-no-path : path_of (string_in s path) ≡ None → action s ≡ None
   mergeskip-no-path e = lined-mergeskip ∙ ap (λ o. skipping o (count_in s count) (optional_whole_in s retry)) e
 
-  pub mergeskip-no-count : count_in s count ≡ none → action s ≡ none
+  pub mergeskip-no-count : count_in s count ≡ None → action s ≡ None
   mergeskip-no-count e = lined-mergeskip ∙ ap (λ o. skipping (path_of (string_in s path)) o (optional_whole_in s retry)) e ∙ go (path_of (string_in s path))
     where
-      go : (p : Option Bytes) → skipping p none (optional_whole_in s retry) ≡ none
-      go none = refl
-      go (some p) = refl
+      go : (p : Option Bytes) → skipping p None (optional_whole_in s retry) ≡ None
+      go None = refl
+      go (Some p) = refl
 
-  pub mergeskip-no-retry : optional_whole_in s retry ≡ none → action s ≡ none
+  pub mergeskip-no-retry : optional_whole_in s retry ≡ None → action s ≡ None
   mergeskip-no-retry e =
       lined-mergeskip ∙ ap (skipping (path_of (string_in s path)) (count_in s count)) e ∙ go (path_of (string_in s path)) (count_in s count)
     where
-      go : (p : Option Bytes) (n : Option ℕ) → skipping p n none ≡ none
-      go none n = refl
-      go (some p) none = refl
-      go (some p) (some n) = refl
+      go : (p : Option Bytes) (n : Option ℕ) → skipping p n None ≡ None
+      go None n = refl
+      go (Some p) None = refl
+      go (Some p) (Some n) = refl
 
-  mergeskip-starts : path.seen ≡ 1 → once "path" l.lefts ≡ some (drop path.start s)
+  mergeskip-starts : path.seen ≡ 1 → once "path" l.lefts ≡ Some (drop path.start s)
   unfolding once names_of
   mergeskip-starts o = l.starts 0 (omega arith) o
 
-  pub mergeskip-there : (p n t : ℕ) (r : Option ℕ) → PathIs (path_of (string_in s path)) s path.start (Spelled p) → count_in s count ≡ some n
-      → optional_whole_in s retry ≡ some r → or_at_once r ≡ t → ActionIs (action s) s (Mergeskip (record { path = p; count = n; retry = t }))
+  pub mergeskip-there : (p n t : ℕ) (r : Option ℕ) → PathIs (path_of (string_in s path)) s path.start (Some p) → count_in s count ≡ Some n
+      → optional_whole_in s retry ≡ Some r → or_at_once r ≡ t → ActionIs (action s) s (Some (Mergeskip (record { path = p; count = n; retry = t })))
   unfolding names_of
   mergeskip-there p n t r (q, place) e f g =
       let (y, h) = behind-some (string (drop p s)) q.spelled.closed in
@@ -553,5 +505,5 @@ module _ (s : Text) {path count retry : Slot} (l : Lined s 4 (path ∷ count ∷
         says = lined-mergeskip ∙ rw (q.says, e, f, g);
         spelled = q.spelled;
         within = omega arith;
-        left = left ∙ ap (λ (i : ℕ). some (drop i s)) (sym place);
+        left = left ∙ ap (λ (i : ℕ). Some (drop i s)) (sym place);
       }

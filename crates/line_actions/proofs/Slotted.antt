@@ -1,6 +1,6 @@
 -- The slots of an action's fields: each stands within the line, and those of the names that its kind has say all.
 use mathlib.Core.Path.{◌≡◌, ap, ◌∙◌, subst}
-use mathlib.Core.Option.{some}
+use Rattle.std.specs.Prelude.{Some}
 use mathlib.Core.List.{List, [], ◌∷◌}
 use Prim.Native.Nat.{ℕ, zero, suc, ◌+◌, ◌<◌}
 use native.Mathlib.Omega.{arith}
@@ -49,7 +49,7 @@ lined-slots s slots {k} {n} e l = subst (λ (n : ℕ). Lined s n (slots_from 0 (
   lefts = l.lefts;
   line-left = l.line-left;
   object-left = l.object-left;
-  starts = λ i h. subst (λ (x : Slot). x.seen ≡ 1 → sole (under (get_or names i []) l.lefts) ≡ some (drop x.start s)) (here i h) (l.starts i h);
+  starts = λ i h. subst (λ (x : Slot). x.seen ≡ 1 → sole (under (get_or names i []) l.lefts) ≡ Some (drop x.start s)) (here i h) (l.starts i h);
 })
   where
     names : List Bytes

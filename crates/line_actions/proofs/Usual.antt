@@ -1,15 +1,19 @@
 -- Lines that begin as most do, with the key of an add or a remove and no white space: by computing over the bytes that are there.
 use mathlib.Core.Path.{◌≡◌, refl, sym, ap, ◌∙◌}
 use mathlib.Core.Bool.{true}
-use mathlib.Core.Option.{some}
-use mathlib.Core.List.{◌∷◌}
+use Rattle.std.specs.Prelude.{Option, None, Some}
+use Rattle.std.specs.Option.{is_some}
+use Rattle.std.proofs.lemmas.Bool.{false≢true}
+use mathlib.Core.List.{◌∷◌, ◌++◌}
 use Prim.Native.Nat.{ℕ, ◌+◌, ◌-◌, ◌≤◌}
 use native.Mathlib.Omega.{arith}
 use lib.ListN.{length, take, drop, get_or}
 use Rattle.rules.specs.Bytes.{Bytes}
-use Rattle.rules.specs.Json.Text.{Text, ws, byte}
+use Rattle.rules.specs.Json.Text.{Text, ws, byte, word}
 use Rattle.rules.specs.Json.Values.{onward, opening, colon}
 use Rattle.rules.proofs.Opened.{rules}
+use Rattle.rules.proofs.Json.TextReads.{word-text}
+use Rattle.json_tokens.specs.Answers.{Answer}
 use Rattle.json_characters.specs.Runs.{Plains}
 use Rattle.json_characters.proofs.Runs.{plains-joined, plains-one}
 use Rattle.json_strings.proofs.Decoding.{decoded-some}
@@ -23,9 +27,9 @@ use Rattle.line_actions.specs.Begun.{Begun}
 use Rattle.line_actions.proofs.Lines.{line-braced, line-begun}
 
 -- a brace, a plain name in quotes up to the one at e, and a colon
-begun : (s : Text) (e k : ℕ) → 2 ≤ e → e + 2 ≤ length s → byte 0x7B (ws s) ≡ some (drop 1 s) → opening 0x7D (drop 1 s) ≡ onward (drop 1 s)
-    → byte 0x22 (drop 1 s) ≡ some (drop 2 s)
-    → Plains s 2 e → get_or s e 0 ≡ 0x22 → colon (drop (e + 1) s) ≡ some (drop (e + 2) s) → k ≡ seek (take (e - 2) (drop 2 s)) (names_of Line)
+begun : (s : Text) (e k : ℕ) → 2 ≤ e → e + 2 ≤ length s → byte 0x7B (ws s) ≡ Some (drop 1 s) → opening 0x7D (drop 1 s) ≡ onward (drop 1 s)
+    → byte 0x22 (drop 1 s) ≡ Some (drop 2 s)
+    → Plains s 2 e → get_or s e 0 ≡ 0x22 → colon (drop (e + 1) s) ≡ Some (drop (e + 2) s) → k ≡ seek (take (e - 2) (drop 2 s)) (names_of Line)
     → Begun s k (e + 2)
 begun s e k low long brace first quote plain close after place =
     let run : Scanning s 2 e = scanning-run (scanning-start (omega arith)) (low, omega arith, plain) in
@@ -81,3 +85,8 @@ remove-plain r =
 pub remove-begun : (r : Text) → Begun (remove-line r) 1 10
 unfolding rules names_of seek
 remove-begun r = begun (remove-line r) 8 1 (omega arith) (omega (arith, remove-long r)) refl refl refl (remove-plain r) refl refl refl
+
+-- a text at whose start a word was read
+pub begun-by : (w s : Text) (o : Option ℕ) → Answer (word w s) s 0 o → is_some o ≡ true → (r : Text) × (s ≡ w ++ r)
+begun-by w s None a e = absurd (false≢true e)
+begun-by w s (Some i) a e = (drop i s, word-text w s (drop i s) a.0)

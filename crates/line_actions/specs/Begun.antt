@@ -1,6 +1,6 @@
 -- A line by its one member: its key, where its value begins, and what the rest of the line says.
 use Rattle.std.specs.Prelude.{◌≡◌, Bool, true, false, List, [], ◌∷◌, ℕ, zero, suc, ◌≤◌, length, drop}
-use Rattle.std.proofs.Math.Option.{Option, none, some}
+use Rattle.std.specs.Prelude.{Option, None, Some}
 use Rattle.rules.specs.Actions.{in_line, in_action, Key, key_add, key_remove, key_protocol}
 use Rattle.rules.specs.Actions.{key_meta_data, key_mergeskip, key_other, key_of, only_one, line_member}
 use Rattle.rules.specs.Bytes.{Bytes, ◌>>=◌, guard, is_empty}
@@ -12,8 +12,6 @@ use Rattle.field_names.specs.declared.kinds.Kind.{Kind}
 use Rattle.field_names.specs.declared.kinds.Kind.TheVariants.{Add, Remove, Protocol, MetaData, Mergeskip}
 use Rattle.field_objects.specs.declared.notes.Slot.{Slot}
 use Rattle.field_containers.specs.Valued.{Valued}
-use Rattle.line_actions.specs.declared.line.Keyed.{Keyed}
-use Rattle.line_actions.specs.declared.line.Keyed.TheVariants.{Value, NoKey}
 
 -- behind the value of a line's member: the brace that closes the line's object, white space, and nothing more
 abbrev pub ends_by : Behind → Bool
@@ -26,12 +24,12 @@ ends r = ends_by (closing 0x7D r)
 
 -- the text of the value that t begins with, where the line ends behind it
 abbrev pub line_value : Text → Option Text
-line_value t = spelled (value in_line) t >>= (λ p. guard (ends p.1) >>= (λ _. some p.0))
+line_value t = spelled (value in_line) t >>= (λ p. guard (ends p.1) >>= (λ _. Some p.0))
 
 -- a member of the name
 abbrev pub keyed : Bytes → Option Text → Option Member
-keyed name none = none
-keyed name (some x) = some (name, x)
+keyed name None = None
+keyed name (Some x) = Some (name, x)
 
 -- keys by their places among the names of a line, and the kinds of their objects
 abbrev pub key_at : ℕ → Key
@@ -53,7 +51,7 @@ kind_at (suc (suc (suc (suc n)))) = Mergeskip
 pub record Braced (s : Text) (j : ℕ) : Type 0 where
   pub within : j ≤ length s
   pub line : line_member s ≡ (alone (items (member (value in_line)) 0x7D (suc (length (drop j s))) (drop j s)) >>= only_one)
-  pub lefts : members_left in_line s ≡ (items (member_left (value in_line)) 0x7D (suc (length (drop j s))) (drop j s) >>= (λ p. some p.0))
+  pub lefts : members_left in_line s ≡ (items (member_left (value in_line)) 0x7D (suc (length (drop j s))) (drop j s) >>= (λ p. Some p.0))
 
 -- its key is that of place k, and its value begins at v
 pub record Begun (s : Text) (k v : ℕ) : Type 0 where
@@ -61,16 +59,16 @@ pub record Begun (s : Text) (k v : ℕ) : Type 0 where
   pub key : key_of name ≡ key_at k
   pub within : v ≤ length s
   pub line : line_member s ≡ keyed name (line_value (drop v s))
-  pub left : (r : Text) → value in_line (drop v s) ≡ some r → ends r ≡ true → members_left in_line s ≡ some ((name, drop v s) ∷ [])
+  pub left : (r : Text) → value in_line (drop v s) ≡ Some r → ends r ≡ true → members_left in_line s ≡ Some ((name, drop v s) ∷ [])
 
-abbrev pub KeyedIs : Text → Keyed → Type 0
-KeyedIs s (Value k v) = Begun s k v
-KeyedIs s NoKey = line_member s ≡ none
+abbrev pub KeyedIs : Text → Option (ℕ × ℕ) → Type 0
+KeyedIs s (Some (k, v)) = Begun s k v
+KeyedIs s None = line_member s ≡ None
 
 -- the same where a key was found; nothing is said where none was
-abbrev pub FoundIs : Text → Keyed → Type 0
-FoundIs s (Value k v) = Begun s k v
-FoundIs s NoKey = Unit {0}
+abbrev pub FoundIs : Text → Option (ℕ × ℕ) → Type 0
+FoundIs s (Some (k, v)) = Begun s k v
+FoundIs s None = Unit {0}
 
 -- its value is an object, whose members are in the slots
 pub record Lined (s : Text) (k : ℕ) (slots : List Slot) : Type 0 where
@@ -78,13 +76,13 @@ pub record Lined (s : Text) (k : ℕ) (slots : List Slot) : Type 0 where
   pub text : Text
   pub ms : List Member
   pub key : key_of name ≡ key_at k
-  pub line : line_member s ≡ some (name, text)
-  pub object : object_of in_action text ≡ some ms
+  pub line : line_member s ≡ Some (name, text)
+  pub object : object_of in_action text ≡ Some ms
   pub valued : Valued in_action ms
   pub each : Each s (names_of (kind_at k)) ms slots
   -- and by their places
   pub left : Text
   pub lefts : List Member
-  pub line-left : members_left in_line s ≡ some ((name, left) ∷ [])
-  pub object-left : members_left in_action left ≡ some lefts
+  pub line-left : members_left in_line s ≡ Some ((name, left) ∷ [])
+  pub object-left : members_left in_action left ≡ Some lefts
   pub starts : EachLeft s (names_of (kind_at k)) lefts slots

@@ -1,6 +1,6 @@
 -- What a line says, by the action that the code answers, in the rules' terms.
 use Rattle.std.specs.Prelude.{◌≡◌, ◌≤◌, length, drop}
-use Rattle.std.proofs.Math.Option.{Option, none, some}
+use Rattle.std.specs.Prelude.{Option, None, Some}
 use Rattle.facts.specs.Parts.{part}
 use Rattle.rules.specs.Actions.{Facts, MetaData as RuleMetaData, Protocol as RuleProtocol}
 use Rattle.rules.specs.Actions.{Action as RuleAction, add, remove, protocol, meta_data, mergeskip, other}
@@ -12,24 +12,23 @@ use Rattle.json_strings.specs.Decoded.{decoded, WellSpelled}
 use Rattle.field_containers.specs.Strung.{Listed}
 use Rattle.field_containers.specs.Nested.{UsualIs, Pairing}
 use Rattle.field_containers.specs.Featured.{FeaturesAt}
-use Rattle.field_scalars.specs.Counts.{records_is}
 use Rattle.line_actions.specs.declared.line.Added.{Added}
 use Rattle.line_actions.specs.declared.line.Stated.{Stated}
 use Rattle.line_actions.specs.declared.line.Tabled.{Tabled}
 use Rattle.line_actions.specs.declared.line.Skipped.{Skipped}
 use Rattle.line_actions.specs.declared.line.Action.{Action}
-use Rattle.line_actions.specs.declared.line.Action.TheVariants.{Add, Remove, Protocol, MetaData, Mergeskip, Other, Malformed}
+use Rattle.line_actions.specs.declared.line.Action.TheVariants.{Add, Remove, Protocol, MetaData, Mergeskip, Other}
 
 pub record AddIs (s : Text) (f : Facts) (a : Added) : Type 0 where
   pub spelled : WellSpelled s a.path
   pub path : decoded (drop a.path s) ≡ f.path
-  pub written : path_written s ≡ some (part s a.path a.end)
-  pub left : path_left s ≡ some (drop a.path s)
+  pub written : path_written s ≡ Some (part s a.path a.end)
+  pub left : path_left s ≡ Some (drop a.path s)
   pub ordered : a.path ≤ a.end
   pub within : a.end ≤ length s
   pub size : a.size ≡ f.size
   pub time : a.time ≡ f.modification_time
-  pub records : a.records ≡ records_is (some f.num_records)
+  pub records : a.records ≡ f.num_records
   pub values : Pairing s a.values f.partition_values
   pub usual : UsualIs s a.values a.usual
 
@@ -50,16 +49,16 @@ pub record TableIs (s : Text) (m : RuleMetaData) (r : Tabled) : Type 0 where
 
 -- the place of the path, and the two numbers
 pub record SkipIs (o : Option RuleAction) (s : Text) (k : Skipped) : Type 0 where
-  pub says : o ≡ some (mergeskip (decoded (drop k.path s)) (record { count = k.count; retry_after = k.retry }))
+  pub says : o ≡ Some (mergeskip (decoded (drop k.path s)) (record { count = k.count; retry_after = k.retry }))
   pub spelled : WellSpelled s k.path
   pub within : k.path ≤ length s
-  pub left : path_left s ≡ some (drop k.path s)
+  pub left : path_left s ≡ Some (drop k.path s)
 
-abbrev pub ActionIs : Option RuleAction → Text → Action → Type 0
-ActionIs o s (Add a) = (f : Facts) × (o ≡ some (add f)) × AddIs s f a
-ActionIs o s (Remove p) = (o ≡ some (remove (decoded (drop p s)))) × WellSpelled s p × (p ≤ length s) × (path_left s ≡ some (drop p s))
-ActionIs o s (Protocol r) = (p : RuleProtocol) × (o ≡ some (protocol p)) × ProtocolIs s p r
-ActionIs o s (MetaData r) = (m : RuleMetaData) × (o ≡ some (meta_data m)) × TableIs s m r
-ActionIs o s (Mergeskip k) = SkipIs o s k
-ActionIs o s Other = o ≡ some other
-ActionIs o s Malformed = o ≡ none
+abbrev pub ActionIs : Option RuleAction → Text → Option Action → Type 0
+ActionIs o s (Some (Add a)) = (f : Facts) × (o ≡ Some (add f)) × AddIs s f a
+ActionIs o s (Some (Remove p)) = (o ≡ Some (remove (decoded (drop p s)))) × WellSpelled s p × (p ≤ length s) × (path_left s ≡ Some (drop p s))
+ActionIs o s (Some (Protocol r)) = (p : RuleProtocol) × (o ≡ Some (protocol p)) × ProtocolIs s p r
+ActionIs o s (Some (MetaData r)) = (m : RuleMetaData) × (o ≡ Some (meta_data m)) × TableIs s m r
+ActionIs o s (Some (Mergeskip k)) = SkipIs o s k
+ActionIs o s (Some Other) = o ≡ Some other
+ActionIs o s None = o ≡ None

@@ -5,5 +5,5 @@ mod acts;
 mod asked;
 mod line;
 
-pub use asked::{SaidAdd, SaidProtocol, SaidTable, Spoken, add_of, protocol_of, speaks, table_of};
+pub use asked::{add_of, protocol_of, speaks, table_of};
 pub use line::{Action, Added, IN_LINE, Skipped, Stated, Tabled, classify};

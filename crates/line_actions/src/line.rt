@@ -6,10 +6,9 @@ ghost use Rattle.line_actions.specs.Line.{ActionIs};
 
 use crate::acts::{add_in, mergeskip_in, meta_data_in, protocol_in, remove_in};
 use field_containers::Usual;
-use field_names::{Kind, Name};
+use field_names::Kind;
 use field_objects::Fields;
-use field_scalars::Records;
-use json_tokens::{CLOSE_BRACE, Next, OPEN_BRACE};
+use json_tokens::{CLOSE_BRACE, OPEN_BRACE};
 use json_values::Tail;
 
 // How deep values may nest inside of a line's object, or of the marker's.
@@ -37,7 +36,7 @@ pub struct Added {
     pub end: usize,
     pub size: u64,
     pub time: u64,
-    pub records: Records,
+    pub records: Option<u64>,
     pub values: usize,
     pub usual: Usual,
 }
@@ -78,73 +77,53 @@ pub enum Action {
     MetaData(Tabled),
     Mergeskip(Skipped),
     Other,
-    Malformed,
 }
 
 // ---- the line
 
-// The key of a line's one member, by its place among the names of a line, and where its value begins; or none.
-#[derive(Clone, Copy)]
-pub enum Keyed {
-    Value(usize, usize),
-    NoKey,
-}
-
 // The key of the member that begins at j, and where its value begins.
-fn key_at(line: &[u8], j: usize) -> Keyed
+fn key_at(line: &[u8], j: usize) -> Option<(usize, usize)>
     requires { Braced line.now j }
     ensures { KeyedIs line.now result }
 {
-    let Name::Of(n) = field_names::read_name(line, j) else {
-        return Keyed::NoKey;
-    };
+    let n = field_names::read_name(line, j)?;
     let end = n.end;
-    let Next::At(v) = json_values::skip_colon(line, end) else {
-        return Keyed::NoKey;
-    };
+    let v = json_values::skip_colon(line, end)?;
     let k = field_names::which(line, n, Kind::Line);
-    Keyed::Value(k, v)
+    Some((k, v))
 }
 
 // The line up to the value of its first member, where it begins as most lines do, with no white space; none is also answered where it begins
 // otherwise.
-fn usual_head(line: &[u8]) -> Keyed
+fn usual_head(line: &[u8]) -> Option<(usize, usize)>
     ensures { FoundIs line.now result }
 {
-    match json_tokens::skip_word(line, 0, b"{\"add\":{") {
-        Next::At(_) => return Keyed::Value(ADD, 7),
-        Next::Bad => {}
+    if json_tokens::skip_word(line, 0, b"{\"add\":{").is_some() {
+        return Some((ADD, 7));
     }
-    match json_tokens::skip_word(line, 0, b"{\"remove\":{") {
-        Next::At(_) => return Keyed::Value(REMOVE, 10),
-        Next::Bad => {}
+    if json_tokens::skip_word(line, 0, b"{\"remove\":{").is_some() {
+        return Some((REMOVE, 10));
     }
-    Keyed::NoKey
+    None
 }
 
 // The line up to the value of its first member, however it begins.
-fn any_head(line: &[u8]) -> Keyed
+fn any_head(line: &[u8]) -> Option<(usize, usize)>
     ensures { KeyedIs line.now result }
 {
     let first = json_tokens::skip_ws(line, 0);
-    let Next::At(i) = json_tokens::skip_byte(line, first, OPEN_BRACE) else {
-        return Keyed::NoKey;
-    };
+    let i = json_tokens::skip_byte(line, first, OPEN_BRACE)?;
     match json_values::opening(line, i, CLOSE_BRACE) {
-        Tail::Neither => Keyed::NoKey,
-        Tail::Closed(_) => Keyed::NoKey,
         Tail::More(j) => key_at(line, j),
+        _ => None,
     }
 }
 
 // The line up to the value of its first member.
-fn head(line: &[u8]) -> Keyed
+fn head(line: &[u8]) -> Option<(usize, usize)>
     ensures { KeyedIs line.now result }
 {
-    let Keyed::Value(k, v) = usual_head(line) else {
-        return any_head(line);
-    };
-    Keyed::Value(k, v)
+    usual_head(line).or_else(|| any_head(line))
 }
 
 // Whether the line ends behind the value that ends at `at`.
@@ -153,15 +132,8 @@ fn line_ends(line: &[u8], at: usize) -> bool
     ensures { result ≡ ends (drop at line.now) }
 {
     match json_values::closing(line, at, CLOSE_BRACE) {
-        Tail::Neither => false,
-        Tail::More(_) => false,
-        Tail::Closed(i) => {
-            if line.len() <= json_tokens::skip_ws(line, i) {
-                true
-            } else {
-                false
-            }
-        }
+        Tail::Closed(i) => line.len() <= json_tokens::skip_ws(line, i),
+        _ => false,
     }
 }
 
@@ -187,7 +159,7 @@ fn kind_at(k: usize) -> Kind
 }
 
 // The action of the key of place k by the fields of its object.
-fn action_in(line: &[u8], k: usize, f: Fields) -> Action
+fn action_in(line: &[u8], k: usize, f: Fields) -> Option<Action>
     requires { (k ≤ 4) × Lined line.now k f.slots }
     ensures { ActionIs (action line.now) line.now result }
 {
@@ -209,46 +181,37 @@ fn action_in(line: &[u8], k: usize, f: Fields) -> Action
 }
 
 // The action of a key that needs an object, whose value begins at v.
-fn object_at(line: &[u8], k: usize, v: usize) -> Action
+fn object_at(line: &[u8], k: usize, v: usize) -> Option<Action>
     requires { (k ≤ 4) × Begun line.now k v }
     ensures { ActionIs (action line.now) line.now result }
 {
-    let Next::At(i) = json_tokens::skip_byte(line, v, OPEN_BRACE) else {
-        return Action::Malformed;
-    };
+    let i = json_tokens::skip_byte(line, v, OPEN_BRACE)?;
     let kind = kind_at(k);
-    let f = field_objects::scan(line, i, kind, IN_ACTION);
+    let f = field_objects::scan(line, i, kind, IN_ACTION)?;
     let end = f.end;
-    if f.good {
-        if line_ends(line, end) {
-            return action_in(line, k, f);
-        }
-        return Action::Malformed;
+    if line_ends(line, end) {
+        return action_in(line, k, f);
     }
-    Action::Malformed
+    None
 }
 
 // The action of a key that any value may stand under, which begins at v.
-fn other_at(line: &[u8], k: usize, v: usize) -> Action
+fn other_at(line: &[u8], k: usize, v: usize) -> Option<Action>
     requires { (4 < k) × Begun line.now k v }
     ensures { ActionIs (action line.now) line.now result }
 {
-    let Next::At(e) = json_values::value(line, v, IN_LINE) else {
-        return Action::Malformed;
-    };
+    let e = json_values::value(line, v, IN_LINE)?;
     if line_ends(line, e) {
-        return Action::Other;
+        return Some(Action::Other);
     }
-    Action::Malformed
+    None
 }
 
 // What the line says, read in one pass for each of its objects.
-pub fn classify(line: &[u8]) -> Action
+pub fn classify(line: &[u8]) -> Option<Action>
     ensures { ActionIs (action line.now) line.now result }
 {
-    let Keyed::Value(k, v) = head(line) else {
-        return Action::Malformed;
-    };
+    let (k, v) = head(line)?;
     if MERGESKIP < k {
         return other_at(line, k, v);
     }

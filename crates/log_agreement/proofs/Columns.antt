@@ -2,7 +2,7 @@
 -- and then the other.
 use mathlib.Core.Path.{◌≡◌, refl, sym, ap, ap₂, ◌∙◌}
 use mathlib.Core.Bool.{Bool, true, false, ◌&&◌}
-use mathlib.Core.Option.{Option, some}
+use Rattle.std.specs.Prelude.{Option, Some}
 use mathlib.Core.List.{[], ◌∷◌}
 use Prim.Native.Nat.{ℕ}
 use Rattle.facts.specs.Lists.{All}
@@ -23,7 +23,7 @@ use Rattle.log_agreement.specs.OneWay.{held_in}
 
 -- each of `these` has its value in ps
 abbrev Own : (these ps : Pairs) → Type 0
-Own these ps = All (λ (c : Bytes × Option Bytes). value_at c.0 ps ≡ some c.1) these
+Own these ps = All (λ (c : Bytes × Option Bytes). value_at c.0 ps ≡ Some c.1) these
 
 own-past : (p : Bytes × Option Bytes) (ps these : Pairs) → holds p.0 (firsts these) ≡ false → Own these ps → Own these (p ∷ ps)
 unfolding All firsts

@@ -1,7 +1,7 @@
 -- One value of partition values with another: strings by their bytes, null with null alone.
 use mathlib.Core.Path.{◌≡◌, refl, sym, ap, ◌∙◌}
 use mathlib.Core.Bool.{Bool, true, false}
-use mathlib.Core.Option.{Option, none, some}
+use Rattle.std.specs.Prelude.{Option, None, Some}
 use mathlib.Core.List.{List, [], ◌∷◌}
 use Rattle.rules.specs.Bytes.{Bytes, ◌>>=◌, same}
 use Rattle.rules.specs.Json.Text.{Text}
@@ -18,48 +18,48 @@ use Rattle.field_containers.proofs.Pairs.{value_at-lookup}
 
 -- ---- two values
 
-module _ (v w : Text) {x y : Option Bytes} (f : string_or_null v ≡ some x) (g : string_or_null w ≡ some y) where
-  pub strings-agree : {a b : Bytes} → string_of v ≡ some a → string_of w ≡ some b → agree_value x y ≡ same a b
+module _ (v w : Text) {x y : Option Bytes} (f : string_or_null v ≡ Some x) (g : string_or_null w ≡ Some y) where
+  pub strings-agree : {a b : Bytes} → string_of v ≡ Some a → string_of w ≡ Some b → agree_value x y ≡ same a b
   unfolding agree_value
   strings-agree d e = let p : x ≡ _ = string_or_null-string v f d in let q : y ≡ _ = string_or_null-string w g e in rw (p, q)
 
-  pub string-null-differ : {a : Bytes} → string_of v ≡ some a → string_of w ≡ none → agree_value x y ≡ false
+  pub string-null-differ : {a : Bytes} → string_of v ≡ Some a → string_of w ≡ None → agree_value x y ≡ false
   unfolding agree_value
-  string-null-differ d e = let p : x ≡ _ = string_or_null-string v f d in let q : y ≡ none = string_or_null-no-string w g e in rw (p, q)
+  string-null-differ d e = let p : x ≡ _ = string_or_null-string v f d in let q : y ≡ None = string_or_null-no-string w g e in rw (p, q)
 
-  pub null-string-differ : {b : Bytes} → string_of v ≡ none → string_of w ≡ some b → agree_value x y ≡ false
+  pub null-string-differ : {b : Bytes} → string_of v ≡ None → string_of w ≡ Some b → agree_value x y ≡ false
   unfolding agree_value
-  null-string-differ d e = let p : x ≡ none = string_or_null-no-string v f d in let q : y ≡ _ = string_or_null-string w g e in rw (p, q)
+  null-string-differ d e = let p : x ≡ None = string_or_null-no-string v f d in let q : y ≡ _ = string_or_null-string w g e in rw (p, q)
 
-  pub nulls-agree : string_of v ≡ none → string_of w ≡ none → agree_value x y ≡ true
+  pub nulls-agree : string_of v ≡ None → string_of w ≡ None → agree_value x y ≡ true
   unfolding agree_value
-  nulls-agree d e = let p : x ≡ none = string_or_null-no-string v f d in let q : y ≡ none = string_or_null-no-string w g e in rw (p, q)
+  nulls-agree d e = let p : x ≡ None = string_or_null-no-string v f d in let q : y ≡ None = string_or_null-no-string w g e in rw (p, q)
 
 -- ---- a value and that of the same column elsewhere
 
 -- what is found is a string or null
-found-stated : (column : Bytes) (ms : List Member) {qs : Pairs} {v : Text} → pairs ms ≡ some qs → lookup column ms ≡ some v
-    → (y : Option Bytes) × (string_or_null v ≡ some y)
+found-stated : (column : Bytes) (ms : List Member) {qs : Pairs} {v : Text} → pairs ms ≡ Some qs → lookup column ms ≡ Some v
+    → (y : Option Bytes) × (string_or_null v ≡ Some y)
 unfolding lookup
 found-stated column [] e f = answered-none f refl
 found-stated column (m ∷ ms) {v = v} e f =
     let (x, qs, g, h, k) = pairs-cons m ms e in
     go (x, g) (λ l. found-stated column ms h l) (same column m.0) f
   where
-    go : (x : Option Bytes) × (string_or_null m.1 ≡ some x) → (lookup column ms ≡ some v → (y : Option Bytes) × (string_or_null v ≡ some y)) → (b : Bool)
-        → elim b [ true ↦ some m.1 | false ↦ lookup column ms ] ≡ some v → (y : Option Bytes) × (string_or_null v ≡ some y)
+    go : (x : Option Bytes) × (string_or_null m.1 ≡ Some x) → (lookup column ms ≡ Some v → (y : Option Bytes) × (string_or_null v ≡ Some y)) → (b : Bool)
+        → elim b [ true ↦ Some m.1 | false ↦ lookup column ms ] ≡ Some v → (y : Option Bytes) × (string_or_null v ≡ Some y)
     go here later true l = (here.0, ap string_or_null (sym (some_same l)) ∙ here.1)
     go here later false l = later l
 
-module _ (column : Bytes) (x : Option Bytes) (ms : List Member) {qs : Pairs} (e : pairs ms ≡ some qs) where
-  pub missing-differs : lookup column ms ≡ none → agree_found (some x) (value_at column qs) ≡ false
+module _ (column : Bytes) (x : Option Bytes) (ms : List Member) {qs : Pairs} (e : pairs ms ≡ Some qs) where
+  pub missing-differs : lookup column ms ≡ None → agree_found (Some x) (value_at column qs) ≡ false
   unfolding agree_found
-  missing-differs f = ap (agree_found (some x)) (value_at-lookup column ms e ∙ ap (λ o. o >>= string_or_null) f)
+  missing-differs f = ap (agree_found (Some x)) (value_at-lookup column ms e ∙ ap (λ o. o >>= string_or_null) f)
 
   -- r says whether x agrees with the value that is found
-  pub found-agrees : (v : Text) → lookup column ms ≡ some v → {r : Bool} → ((y : Option Bytes) → string_or_null v ≡ some y → r ≡ agree_value x y)
-      → r ≡ agree_found (some x) (value_at column qs)
+  pub found-agrees : (v : Text) → lookup column ms ≡ Some v → {r : Bool} → ((y : Option Bytes) → string_or_null v ≡ Some y → r ≡ agree_value x y)
+      → r ≡ agree_found (Some x) (value_at column qs)
   unfolding agree_found
   found-agrees v f h =
       let (y, g) = found-stated column ms e f in
-      h y g ∙ sym (ap (agree_found (some x)) (value_at-lookup column ms e ∙ ap (λ o. o >>= string_or_null) f ∙ g))
+      h y g ∙ sym (ap (agree_found (Some x)) (value_at-lookup column ms e ∙ ap (λ o. o >>= string_or_null) f ∙ g))

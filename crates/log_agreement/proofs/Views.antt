@@ -4,7 +4,7 @@ use mathlib.Core.Bool.{Bool, true, false, ◌&&◌}
 use mathlib.Core.List.{List, [], ◌∷◌, map}
 use Prim.Native.Nat.{ℕ, ◌+◌, ◌≤◌, ◌<◌}
 use native.Mathlib.Omega.{arith}
-use borrow.Author.Tests.{ne_eqb}
+use Rattle.std.proofs.lemmas.Bool.{eqb-true, eqb-false}
 use lib.Dec.{eqb}
 use lib.ListN.{length, drop, length-map, drop_of_length-le}
 use Rattle.facts.proofs.Lists.{drop-is, get_d_map, All-at}
@@ -14,14 +14,13 @@ use Rattle.rules.specs.Live.{Row}
 use Rattle.rules.specs.History.{or_unstated}
 use Rattle.rules.specs.Agreement.{agree_facts, agree_skip, agree_row, agree_rows, agree_protocols, agree_tables, agree}
 use Rattle.rules.proofs.Sameness.{length-same-rows}
-use Rattle.rules.proofs.Tests.{false_of, and-fails-left, and-fails-right}
+use Rattle.rules.proofs.Tests.{false_of}
 use Rattle.rules.proofs.Agreement.{agree_rows-true}
 use Rattle.row_table.specs.Table.{wide, row, rows, row_at, behind}
 use Rattle.row_table.specs.declared.Cells.{Cells}
 use Rattle.log_replay.specs.Views.{table_at, or_no_table, protocol_at, facts_at, skip_of, row_of, state_of, Stands}
 use Rattle.log_replay.specs.declared.State.{State}
 use Rattle.log_agreement.specs.Held.{HeldRows}
-use Rattle.log_agreement.proofs.Stated.{and-past}
 
 -- ---- the rule
 
@@ -51,23 +50,19 @@ row-stands src n t k h w = All-at (Stands src) (rows n t) k (row []) (omega (ari
 
 -- ---- two rows
 
-and-true : (a : Bool) → (a && true) ≡ a
-and-true true = refl
-and-true false = refl
+and-turned : (a b c : Bool) → (a && (b && c)) ≡ ((b && c) && a)
+and-turned true true true = refl
+and-turned true true false = refl
+and-turned true false c = refl
+and-turned false true true = refl
+and-turned false true false = refl
+and-turned false false c = refl
 
-module _ (src : Text) (c d : Cells) where
-  pub rows-by : eqb c.skips d.skips ≡ true → eqb c.retry d.retry ≡ true
-      → agree_row (row_of src c) (row_of src d) ≡ agree_facts (facts_at src c) (facts_at src d)
-  unfolding agree_row agree_skip row_of skip_of
-  rows-by e f = rw (agree_row, agree_skip, e, f) (and-true (agree_facts (facts_at src c) (facts_at src d)))
-
-  pub skips-differ : (c.skips ≡ d.skips → ⊥) → agree_row (row_of src c) (row_of src d) ≡ false
-  unfolding agree_row agree_skip row_of skip_of
-  skips-differ n = and-fails-right (agree_facts (facts_at src c) (facts_at src d)) (and-fails-left (eqb c.retry d.retry) (ne_eqb c.skips d.skips n))
-
-  pub retries-differ : (c.retry ≡ d.retry → ⊥) → agree_row (row_of src c) (row_of src d) ≡ false
-  unfolding agree_row agree_skip row_of skip_of
-  retries-differ n = and-fails-right (agree_facts (facts_at src c) (facts_at src d)) (and-fails-right (eqb c.skips d.skips) (ne_eqb c.retry d.retry n))
+-- in the order of the code
+pub row-by : (src : Text) (c d : Cells) → agree_row (row_of src c) (row_of src d)
+    ≡ ((eqb c.skips d.skips && eqb c.retry d.retry) && agree_facts (facts_at src c) (facts_at src d))
+unfolding agree_row agree_skip row_of skip_of
+row-by src c d = and-turned (agree_facts (facts_at src c) (facts_at src d)) (eqb c.skips d.skips) (eqb c.retry d.retry)
 
 pub counts-differ : (src : Text) (n m : ℕ) (t u : List ℕ) → (n ≡ m → ⊥) → agree_rows (viewed src n t) (viewed src m u) ≡ false
 counts-differ src n m t u h =
@@ -106,34 +101,22 @@ module _ (src : Text) (n : ℕ) (t u : List ℕ) where
 
 -- ---- two states
 
-module _ (src : Text) (a b : State) (ta tb : List ℕ) where
-  abbrev tables : Bool
-  tables = agree_tables (or_no_table (table_at src a.table)) (or_no_table (table_at src b.table))
+-- where l fails, f does; where it holds, f is g
+and-led : (l t p f g : Bool) → (l ≡ true → f ≡ g) → (l ≡ false → f ≡ false) → (t && (p && f)) ≡ (((l && t) && p) && g)
+and-led true true true f g h k = h refl
+and-led true true false f g h k = refl
+and-led true false p f g h k = refl
+and-led false true true f g h k = k refl
+and-led false true false f g h k = refl
+and-led false false p f g h k = refl
 
-  abbrev protocols : Bool
-  protocols = agree_protocols (or_unstated (protocol_at src a.protocol)) (or_unstated (protocol_at src b.protocol))
-
-  abbrev files : Bool
-  files = agree_rows (viewed src a.live (behind a.base ta)) (viewed src b.live (behind b.base tb))
-
-  pub counts-decide : (a.live ≡ b.live → ⊥) → agree (state_of src a ta) (state_of src b tb) ≡ false
-  unfolding agree state_of
-  counts-decide h =
-      and-fails-right tables
-      (and-fails-right protocols (counts-differ src a.live b.live (behind a.base ta) (behind b.base tb) h))
-
-  pub tables-decide : tables ≡ false → agree (state_of src a ta) (state_of src b tb) ≡ false
-  unfolding agree state_of
-  tables-decide h = and-fails-left (protocols && files) h
-
-  pub protocols-decide : protocols ≡ false → agree (state_of src a ta) (state_of src b tb) ≡ false
-  unfolding agree state_of
-  protocols-decide h = and-fails-right tables (and-fails-left files h)
-
-  pub rows-decide : a.live ≡ b.live → tables ≡ true → protocols ≡ true
-      → agree (state_of src a ta) (state_of src b tb) ≡ agree_rows (viewed src a.live (behind a.base ta)) (viewed src a.live (behind b.base tb))
-  unfolding agree state_of
-  rows-decide e m h =
-      and-past (protocols && files) m
-      ∙ and-past files h
-      ∙ ap (λ (n : ℕ). agree_rows (viewed src a.live (behind a.base ta)) (viewed src n (behind b.base tb))) (sym e)
+-- in the order of the code
+pub states-by : (src : Text) (a b : State) (ta tb : List ℕ) → agree (state_of src a ta) (state_of src b tb)
+    ≡ (((eqb a.live b.live && agree_tables (or_no_table (table_at src a.table)) (or_no_table (table_at src b.table)))
+    && agree_protocols (or_unstated (protocol_at src a.protocol)) (or_unstated (protocol_at src b.protocol)))
+    && agree_rows (viewed src a.live (behind a.base ta)) (viewed src a.live (behind b.base tb)))
+unfolding agree state_of
+states-by src a b ta tb =
+    and-led (eqb a.live b.live) _ _ (agree_rows (viewed src a.live (behind a.base ta)) (viewed src b.live (behind b.base tb))) _
+    (λ e. ap (λ (n : ℕ). agree_rows (viewed src a.live (behind a.base ta)) (viewed src n (behind b.base tb))) (sym (eqb-true a.live b.live e)))
+    (λ e. counts-differ src a.live b.live (behind a.base ta) (behind b.base tb) (eqb-false a.live b.live e))

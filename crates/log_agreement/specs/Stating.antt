@@ -1,5 +1,4 @@
 -- What the lines of two states state: an add, a protocol, features, the metadata.
-use Rattle.std.proofs.Math.Option.{Option, none, some}
 use Rattle.std.specs.Prelude.{List, ℕ}
 use Rattle.rules.specs.Bytes.{Bytes}
 use Rattle.rules.specs.Json.Text.{Text}
@@ -9,14 +8,6 @@ use Rattle.field_containers.specs.Featured.{FeaturesAt}
 use Rattle.line_actions.specs.declared.line.Added.{Added}
 use Rattle.line_actions.specs.declared.line.Stated.{Stated}
 use Rattle.line_actions.specs.declared.line.Tabled.{Tabled}
-use Rattle.field_scalars.specs.declared.Records.{Records}
-use Rattle.field_scalars.specs.declared.Records.TheVariants.{Number, Missing, Bad}
-
--- the number of records of an add
-abbrev pub records_of : Records → Option ℕ
-records_of (Number n) = some n
-records_of Missing = none
-records_of Bad = none
 
 -- s is an add, as a says
 pub record Adding (s : Text) (a : Added) : Type 0 where

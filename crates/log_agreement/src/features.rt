@@ -11,10 +11,9 @@ ghost use Rattle.line_actions.specs.Line.{ProtocolIs};
 ghost use Rattle.log_replay.specs.Views.{line_at, protocol_at, Inside};
 ghost use Rattle.log_agreement.specs.Stating.{Featured, Protocolled};
 
-use field_names::Name;
 use json_tokens::CLOSE_BRACKET;
 use json_values::Tail;
-use line_actions::{SaidProtocol, Stated};
+use line_actions::Stated;
 use log_replay::Span;
 
 // `j` is just after a string's opening quote in s, `from` just after the bracket of t's features, or 0 where t states none. Whether that
@@ -23,10 +22,7 @@ fn feature_held(t: &[u8], from: usize, s: &[u8], j: usize) -> bool
     requires { Featured t.now from × WellSpelled s.now j }
     ensures { (ys : List Bytes) → FeaturesAt t.now from ys → result ≡ holds (decoded (drop j s.now)) ys }
 {
-    if from == 0 {
-        return false;
-    }
-    field_containers::holds_string(t, from, s, j)
+    from != 0 && field_containers::holds_string(t, from, s, j)
 }
 
 // Whether each string of the array of s, from the element at `at` on, is a feature of t.
@@ -35,22 +31,16 @@ fn features_from(s: &[u8], at: usize, t: &[u8], from: usize) -> bool
     ensures { (xs ys : List Bytes) → Onward s.now at xs → FeaturesAt t.now from ys → result ≡ all_among ys xs }
 {
     let mut i = at;
-    loop {
-        let Name::Of(n) = field_names::read_name(s, i) else {
-            return true;
-        };
-        let begin = n.at;
-        if feature_held(t, from, s, begin) {
-            let end = n.end;
-            match json_values::closing(s, end, CLOSE_BRACKET) {
-                Tail::Neither => return true,
-                Tail::Closed(_) => return true,
-                Tail::More(k) => i = k,
-            }
-        } else {
+    while let Some(n) = field_names::read_name(s, i) {
+        if !feature_held(t, from, s, n.at) {
             return false;
         }
+        let Tail::More(k) = json_values::closing(s, n.end, CLOSE_BRACKET) else {
+            return true;
+        };
+        i = k;
     }
+    true
 }
 
 // `at` and `from` are just after the brackets of the features of s and of t, or 0 where none are stated. Whether each feature of s is one of t.
@@ -62,9 +52,8 @@ fn features_held(s: &[u8], at: usize, t: &[u8], from: usize) -> bool
         return true;
     }
     match json_values::opening(s, at, CLOSE_BRACKET) {
-        Tail::Neither => true,
-        Tail::Closed(_) => true,
         Tail::More(first) => features_from(s, first, t, from),
+        _ => true,
     }
 }
 
@@ -73,10 +62,7 @@ fn same_features(s: &[u8], at: usize, t: &[u8], from: usize) -> bool
     requires { Featured s.now at × Featured t.now from }
     ensures { (xs ys : List Bytes) → FeaturesAt s.now at xs → FeaturesAt t.now from ys → result ≡ same_set xs ys }
 {
-    if features_held(s, at, t, from) {
-        return features_held(t, from, s, at);
-    }
-    false
+    features_held(s, at, t, from) && features_held(t, from, s, at)
 }
 
 // Whether the protocols x of the line s and y of the line t are the same.
@@ -84,18 +70,10 @@ fn same_stated(s: &[u8], x: Stated, t: &[u8], y: Stated) -> bool
     requires { Protocolled s.now x × Protocolled t.now y }
     ensures { (p q : RuleProtocol) → ProtocolIs s.now p x → ProtocolIs t.now q y → result ≡ agree_protocols p q }
 {
-    if x.reader != y.reader {
-        return false;
-    }
-    if x.writer != y.writer {
-        return false;
-    }
-    let readers = same_features(s, x.reader_features, t, y.reader_features);
-    let writers = same_features(s, x.writer_features, t, y.writer_features);
-    if readers {
-        return writers;
-    }
-    false
+    let numbers = x.reader == y.reader && x.writer == y.writer;
+    numbers
+        && same_features(s, x.reader_features, t, y.reader_features)
+        && same_features(s, x.writer_features, t, y.writer_features)
 }
 
 // The protocol that a line states: (1, 1) and no features where it is no protocol.
@@ -103,8 +81,6 @@ fn stated_at(src: &[u8], line: Span) -> Stated
     requires { Inside src.now line }
     ensures { ProtocolIs (line_at src.now line) (or_unstated (protocol_at src.now line)) result }
 {
-    let at = line.at;
-    let end = at + line.size;
     let unstated = Stated {
         reader: 1,
         writer: 1,
@@ -113,10 +89,7 @@ fn stated_at(src: &[u8], line: Span) -> Stated
         reader_features: 0,
         writer_features: 0,
     };
-    match line_actions::protocol_of(&src[at..end]) {
-        SaidProtocol::Protocol(p) => p,
-        SaidProtocol::NoProtocol => unstated,
-    }
+    line_actions::protocol_of(&src[line.at..line.at + line.size]).unwrap_or(unstated)
 }
 
 // Whether the protocols in force by two lines are the same.
@@ -126,9 +99,5 @@ pub fn same_protocols(src: &[u8], a: Span, b: Span) -> bool
 {
     let x = stated_at(src, a);
     let y = stated_at(src, b);
-    let at = a.at;
-    let end = at + a.size;
-    let from = b.at;
-    let to = from + b.size;
-    same_stated(&src[at..end], x, &src[from..to], y)
+    same_stated(&src[a.at..a.at + a.size], x, &src[b.at..b.at + b.size], y)
 }

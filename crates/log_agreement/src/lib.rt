@@ -15,12 +15,11 @@ ghost use Rattle.row_table.specs.Table.{rows};
 ghost use Rattle.row_live.specs.Live.{place_of};
 ghost use Rattle.log_replay.specs.Views.{facts_at, row_of, state_of, Stands};
 ghost use Rattle.log_agreement.specs.Held.{Held, HeldRows};
-ghost use Rattle.log_agreement.specs.Stating.{records_of, Adding};
+ghost use Rattle.log_agreement.specs.Stating.{Adding};
 
 use features::same_protocols;
 use field_containers::Usual;
-use field_scalars::Records;
-use line_actions::{Added, SaidAdd};
+use line_actions::Added;
 use log_replay::State;
 use partitions::same_pairs;
 use row_table::Cells;
@@ -29,26 +28,10 @@ use tables::same_tables;
 // ---- one file
 
 // Whether two adds state the same number of records: null is as missing.
-fn same_records(a: Records, b: Records) -> bool
-    ensures { result ≡ agree_records (records_of a) (records_of b) }
+fn same_records(a: Option<u64>, b: Option<u64>) -> bool
+    ensures { result ≡ agree_records a b }
 {
-    match a {
-        Records::Number(x) => match b {
-            Records::Number(y) => x == y,
-            Records::Missing => false,
-            Records::Bad => false,
-        },
-        Records::Missing => match b {
-            Records::Number(_) => false,
-            Records::Missing => true,
-            Records::Bad => true,
-        },
-        Records::Bad => match b {
-            Records::Number(_) => false,
-            Records::Missing => true,
-            Records::Bad => true,
-        },
-    }
+    a == b
 }
 
 // Whether the adds x of the line s and y of the line t state the same facts.
@@ -56,23 +39,11 @@ fn same_adds(s: &[u8], x: Added, t: &[u8], y: Added) -> bool
     requires { Adding s.now x × Adding t.now y }
     ensures { (f g : Facts) → AddIs s.now f x → AddIs t.now g y → result ≡ agree_facts f g }
 {
-    if x.size != y.size {
-        return false;
-    }
-    if x.time != y.time {
-        return false;
-    }
-    let these = x.records;
-    let those = y.records;
-    let records = same_records(these, those);
-    let paths = json_strings::same_strings(s, x.path, t, y.path);
-    if records {
-        if paths {
-            return same_pairs(s, x.values, t, y.values);
-        }
-        return false;
-    }
-    false
+    let numbers = x.size == y.size && x.time == y.time;
+    numbers
+        && same_records(x.records, y.records)
+        && json_strings::same_strings(s, x.path, t, y.path)
+        && same_pairs(s, x.values, t, y.values)
 }
 
 // The add of a row's line.
@@ -92,13 +63,13 @@ fn add_of(src: &[u8], c: Cells) -> Added
         end: 0,
         size: 0,
         time: 0,
-        records: Records::Missing,
+        records: None,
         values: 0,
         usual,
     };
     match line_actions::add_of(&src[at..end]) {
-        SaidAdd::Add(a) => a,
-        SaidAdd::NoAdd => none, // never: the line of a row is an add
+        Some(a) => a,
+        None => none, // never: the line of a row is an add
     }
 }
 
@@ -121,13 +92,8 @@ fn same_files(src: &[u8], c: Cells, d: Cells) -> bool
     requires { Stands src.now c × Stands src.now d }
     ensures { result ≡ agree_row (row_of src.now c) (row_of src.now d) }
 {
-    if c.skips != d.skips {
-        return false;
-    }
-    if c.retry != d.retry {
-        return false;
-    }
-    same_facts(src, c, d)
+    let skips = c.skips == d.skips && c.retry == d.retry;
+    skips && same_facts(src, c, d)
 }
 
 // ---- all files
@@ -137,13 +103,10 @@ fn same_rows(src: &[u8], ta: &[u64], tb: &[u64], n: usize) -> bool
     requires { HeldRows src.now n ta.now × HeldRows src.now n tb.now }
     ensures { result ≡ agree_rows (map (row_of src.now) (rows n ta.now)) (map (row_of src.now) (rows n tb.now)) }
 {
-    let mut k = 0;
-    while k < n {
+    for k in 0..n {
         let c = row_table::row_at(ta, k);
         let d = row_table::row_at(tb, k);
-        if same_files(src, c, d) {
-            k += 1;
-        } else {
+        if !same_files(src, c, d) {
             return false;
         }
     }
@@ -156,16 +119,10 @@ pub fn agree(src: &[u8], a: State, ta: &[u64], b: State, tb: &[u64]) -> bool
     ensures { result ≡ rule_agree (state_of src.now a ta.now) (state_of src.now b tb.now) }
 {
     let n = a.live;
-    if n != b.live {
-        return false;
-    }
-    if same_tables(src, a.table, b.table) {
-        if same_protocols(src, a.protocol, b.protocol) {
-            let here = a.base * row_table::ROW;
-            let there = b.base * row_table::ROW;
-            return same_rows(src, &ta[here..], &tb[there..], n);
-        }
-        return false;
-    }
-    false
+    let here = a.base * row_table::ROW;
+    let there = b.base * row_table::ROW;
+    n == b.live
+        && same_tables(src, a.table, b.table)
+        && same_protocols(src, a.protocol, b.protocol)
+        && same_rows(src, &ta[here..], &tb[there..], n)
 }

@@ -6,7 +6,7 @@ ghost use Rattle.line_actions.specs.Line.{TableIs};
 ghost use Rattle.log_replay.specs.Views.{or_no_table, table_at, Inside};
 ghost use Rattle.log_agreement.specs.Stating.{Tabling};
 
-use line_actions::{SaidTable, Tabled};
+use line_actions::Tabled;
 use log_replay::Span;
 
 // Whether the metadata x of the line s and y of the line t are the same.
@@ -14,10 +14,8 @@ fn same_tabled(s: &[u8], x: Tabled, t: &[u8], y: Tabled) -> bool
     requires { Tabling s.now x × Tabling t.now y }
     ensures { (m n : MetaData) → TableIs s.now m x → TableIs t.now n y → result ≡ agree_tables m n }
 {
-    if json_strings::same_strings(s, x.id, t, y.id) {
-        return field_containers::same_lists(s, x.columns, t, y.columns);
-    }
-    false
+    json_strings::same_strings(s, x.id, t, y.id)
+        && field_containers::same_lists(s, x.columns, t, y.columns)
 }
 
 // Whether the metadata in force by two lines is the same. Where neither says any it is; no id is empty, so where one alone does it is not.
@@ -25,18 +23,11 @@ pub fn same_tables(src: &[u8], a: Span, b: Span) -> bool
     requires { Inside src.now a × Inside src.now b }
     ensures { result ≡ agree_tables (or_no_table (table_at src.now a)) (or_no_table (table_at src.now b)) }
 {
-    let at = a.at;
-    let end = at + a.size;
-    let from = b.at;
-    let to = from + b.size;
-    match line_actions::table_of(&src[at..end]) {
-        SaidTable::Table(x) => match line_actions::table_of(&src[from..to]) {
-            SaidTable::Table(y) => same_tabled(&src[at..end], x, &src[from..to], y),
-            SaidTable::NoTable => false,
-        },
-        SaidTable::NoTable => match line_actions::table_of(&src[from..to]) {
-            SaidTable::Table(_) => false,
-            SaidTable::NoTable => true,
-        },
+    let s = &src[a.at..a.at + a.size];
+    let t = &src[b.at..b.at + b.size];
+    match (line_actions::table_of(s), line_actions::table_of(t)) {
+        (Some(x), Some(y)) => same_tabled(s, x, t, y),
+        (None, None) => true,
+        _ => false,
     }
 }

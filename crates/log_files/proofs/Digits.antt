@@ -1,7 +1,7 @@
 -- Decimal digits with zeros in front: of so many digits, only one spelling stands for a number.
 use mathlib.Core.Path.{◌≡◌, refl, sym, ap, ◌∙◌}
 use mathlib.Core.Bool.{Bool, true, false}
-use mathlib.Core.Option.{none, some}
+use Rattle.std.specs.Prelude.{None, Some}
 use mathlib.Core.List.{[], ◌∷◌, ◌++◌}
 use Prim.Native.Nat.{ℕ, zero, suc, ◌+◌, ◌*◌, ◌-◌, ◌/◌, ◌%◌, ◌^◌, ◌<◌}
 use native.Mathlib.Nat.{pow-suc}
@@ -29,16 +29,16 @@ decimal-append a [] ys = refl
 decimal-append a (x ∷ xs) ys = go (decimal-append (a * 10 + (x - 48)) xs ys) (is_digit x)
   where
     go : decimal_from (a * 10 + (x - 48)) (xs ++ ys) ≡ (decimal_from (a * 10 + (x - 48)) xs >>= λ w. decimal_from w ys)
-        → (d : Bool) → elim d [ true ↦ decimal_from (a * 10 + (x - 48)) (xs ++ ys) | false ↦ none ]
-        ≡ (elim d [ true ↦ decimal_from (a * 10 + (x - 48)) xs | false ↦ none ] >>= λ w. decimal_from w ys)
+        → (d : Bool) → elim d [ true ↦ decimal_from (a * 10 + (x - 48)) (xs ++ ys) | false ↦ None ]
+        ≡ (elim d [ true ↦ decimal_from (a * 10 + (x - 48)) xs | false ↦ None ] >>= λ w. decimal_from w ys)
     go ih true = ih
     go ih false = refl
 
 -- ---- the spelling stands for the number
 
-pub digits_decimal : (n v : ℕ) → v < 10 ^ n → decimal_from 0 (digits n v) ≡ some v
+pub digits_decimal : (n v : ℕ) → v < 10 ^ n → decimal_from 0 (digits n v) ≡ Some v
 unfolding digits decimal_from
-digits_decimal zero v h = let e : 0 ≡ v = omega arith in ap some e
+digits_decimal zero v h = let e : 0 ≡ v = omega arith in ap Some e
 digits_decimal (suc n) v h =
     let d : ℕ = v % 10 in
     let m : d < 10 = omega arith in
@@ -47,12 +47,12 @@ digits_decimal (suc n) v h =
     let q : v / 10 * 10 + d ≡ v = omega arith in
     rw
     (decimal-append 0 (digits n (v / 10)) ((48 + d) ∷ []), digits_decimal n (v / 10) l)
-    (decimal_digit (48 + d) [] (v / 10) (digit-between (48 + d) (omega arith) (omega arith)) ∙ ap some (rw (s, q)))
+    (decimal_digit (48 + d) [] (v / 10) (digit-between (48 + d) (omega arith) (omega arith)) ∙ ap Some (rw (s, q)))
 
 -- ---- and no other does
 
 -- the last digit of n more than one
-decimal-last : (w b v : ℕ) → decimal_from w (b ∷ []) ≡ some v → (w ≡ v / 10) × (b ≡ 48 + v % 10)
+decimal-last : (w b v : ℕ) → decimal_from w (b ∷ []) ≡ Some v → (w ≡ v / 10) × (b ≡ 48 + v % 10)
 unfolding decimal_from is_digit
 decimal-last w b v h = by (is_digit b) digit (λ e. apart (cc (decimal-other b [] w e)))
   where
@@ -62,7 +62,7 @@ decimal-last w b v h = by (is_digit b) digit (λ e. apart (cc (decimal-other b [
         let q : w * 10 + (b - 48) ≡ v = some_same (sym (decimal_digit b [] w e) ∙ h) in
         (omega (arith, r.0, r.1), omega (arith, r.0, r.1))
 
-pub decimal-digits : (n : ℕ) (ds : Bytes) (v : ℕ) → length ds ≡ n → decimal_from 0 ds ≡ some v → ds ≡ digits n v
+pub decimal-digits : (n : ℕ) (ds : Bytes) (v : ℕ) → length ds ≡ n → decimal_from 0 ds ≡ Some v → ds ≡ digits n v
 unfolding digits
 decimal-digits zero [] v l h = refl
 decimal-digits zero (d ∷ ds) v l h = absurd (omega arith)

@@ -5,12 +5,12 @@ use Rattle.rules.specs.Bytes.{Bytes, Order, less, equal, more, order}
 use Rattle.rules.specs.Keyed.{lookup, Bracket}
 use Rattle.rules.proofs.Searching.{bracket-up, bracket-down, bracket-hit, lookup-found}
 use Rattle.bytes_values.specs.Answers.{order_is, order_of}
-use Rattle.bytes_values.specs.declared.Order.TheVariants.{Less, Equal, More}
+use Rattle.std.specs.Prelude.{Some}
 use Rattle.bytes_values.proofs.Back.{order-back}
 use Rattle.file_bundle.specs.Files.{files_in, file_in, no_file}
 use Rattle.file_bundle.proofs.Titles.{files-ascend}
 use Rattle.log_files.specs.Logs.{title, PlaceIs}
-use Rattle.log_files.specs.declared.Place.TheVariants.{At}
+use Rattle.std.specs.declared.cmp.Ordering.TheVariants.{Less, Equal, Greater}
 
 -- what is left to look at: from file lo up to file hi
 abbrev pub Halving : (s name : Bytes) (lo hi : ℕ) → Type 0
@@ -25,11 +25,11 @@ module _ (s : Bytes) {name : Bytes} {lo hi : ℕ} (g : Halving s name lo hi) (m 
   unfolding order_is file_in
   halving-up a = bracket-up title name (files_in s) no_file (files-ascend s) lo hi g m lm mh (told less a)
 
-  pub halving-down : More ≡ order_is (order n name) → Halving s name lo m
+  pub halving-down : Greater ≡ order_is (order n name) → Halving s name lo m
   unfolding order_is file_in
   halving-down a = bracket-down title name (files_in s) no_file (files-ascend s) lo hi g m lm mh (told more a)
 
-  pub halving-hit : Equal ≡ order_is (order n name) → PlaceIs s (lookup title name (files_in s)) (At m)
+  pub halving-hit : Equal ≡ order_is (order n name) → PlaceIs s (lookup title name (files_in s)) (Some m)
   unfolding order_is file_in
   halving-hit a =
       let h = bracket-hit title name (files_in s) no_file (files-ascend s) lo hi g m lm mh (told equal a) in

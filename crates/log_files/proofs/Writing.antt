@@ -8,7 +8,7 @@ use native.Mathlib.Omega.{arith}
 use lib.ListN.{length, take, drop, set}
 use lib.Seq.{take-take, take_all, take-append-le, append_snoc}
 use Rattle.facts.specs.Moves.{put_at}
-use Rattle.facts.proofs.Moves.{length-put_at, put_at-cons, put_at-none}
+use Rattle.facts.proofs.Moves.{put_at-cons, put_at-none}
 use Rattle.rules.specs.Bytes.{Bytes}
 use Rattle.log_files.specs.Logs.{digits}
 use Rattle.log_files.proofs.Digits.{length_digits}
@@ -25,9 +25,6 @@ module _ {v : ℕ} {t₀ : Bytes} (room : 20 ≤ length t₀) where
   writing_start = record { behind = []; size = refl; written = sym (put_at-none 20 t₀); all = append-nil (digits 20 v) }
 
   module _ {t : Bytes} {i left : ℕ} (w : Writing v t₀ t i left) where
-    pub writing-length : length t ≡ length t₀
-    writing-length = ap length w.written ∙ length-put_at i w.behind t₀ (omega (arith, w.size))
-
     pub writing-next : 0 < i → Writing v t₀ (set t (i - 1) (48 + left % 10)) (i - 1) (left / 10)
     unfolding digits
     writing-next h =

@@ -1,16 +1,14 @@
 -- A file among the entries of a bundle, and the names that say a version.
 use Rattle.std.specs.Prelude.{◌≡◌, [], ◌∷◌, ◌++◌, ℕ, zero, suc, ◌+◌, ◌/◌, ◌%◌, ◌<◌, length}
-use Rattle.std.proofs.Math.Option.{Option, none, some}
+use Rattle.std.specs.Prelude.{Option, None, Some}
 use Rattle.rules.specs.Bytes.{Bytes}
 use Rattle.rules.specs.Bundle.{File}
 use Rattle.file_bundle.specs.Files.{files_in, file_in}
-use Rattle.log_files.specs.declared.Place.{Place}
-use Rattle.log_files.specs.declared.Place.TheVariants.{At, Nowhere}
 
 -- of the file that is looked for in the bundle s: it is that of entry k; or there is none
-abbrev pub PlaceIs : Bytes → Option File → Place → Type 0
-PlaceIs s o (At k) = (k < length (files_in s)) × (o ≡ some (file_in s k))
-PlaceIs s o Nowhere = o ≡ none
+abbrev pub PlaceIs : Bytes → Option File → Option ℕ → Type 0
+PlaceIs s o (Some k) = (k < length (files_in s)) × (o ≡ Some (file_in s k))
+PlaceIs s o None = o ≡ None
 
 -- a file's name
 abbrev pub title : File → Bytes

@@ -2,10 +2,11 @@
 use Rattle.std.specs.Prelude.{◌≡◌}
 use Rattle.rules.specs.Actions.{Protocol}
 use Rattle.rules.specs.Gate.{gate as rule_gate, writable}
-use Rattle.rules.specs.Refusals.{accepted, refused, reader_too_high, unknown_feature}
+use Rattle.rules.specs.Refusals.{accepted, refused}
+use Rattle.refusals.specs.Numbered.{numbered}
 use Rattle.log_gate.specs.declared.Numbers.{Numbers}
-use Rattle.log_gate.specs.declared.Verdict.{Verdict}
-use Rattle.log_gate.specs.declared.Verdict.TheVariants.{TooHigh, Unknown, Passed}
+use Rattle.std.specs.Prelude.{Result, Err, Ok}
+use Rattle.refusals.specs.declared.Refusal.{Refusal}
 
 pub record Passes (p : Protocol) (n : Numbers) : Type 0 where
   pub accepts : rule_gate p ≡ accepted tt
@@ -13,7 +14,6 @@ pub record Passes (p : Protocol) (n : Numbers) : Type 0 where
   pub writer : n.writer ≡ p.min_writer_version
   pub writable : n.writable ≡ writable p
 
-abbrev pub VerdictIs : Protocol → Verdict → Type 0
-VerdictIs p TooHigh = rule_gate p ≡ refused reader_too_high
-VerdictIs p Unknown = rule_gate p ≡ refused unknown_feature
-VerdictIs p (Passed n) = Passes p n
+abbrev pub VerdictIs : Protocol → Result Numbers Refusal → Type 0
+VerdictIs p (Err x) = (rule_gate p ≡ refused (numbered x)) × ((numbered x).number ≡ 1 → ⊥)
+VerdictIs p (Ok n) = Passes p n

@@ -10,8 +10,9 @@ ghost use Rattle.line_actions.specs.Line.{ProtocolIs};
 ghost use Rattle.log_replay.specs.Views.{protocol_at, Inside};
 ghost use Rattle.log_gate.specs.Judged.{VerdictIs};
 
-use line_actions::{SaidProtocol, Stated};
+use line_actions::Stated;
 use log_replay::Span;
+use refusals::Refusal;
 
 // The highest number of a protocol that readers know.
 const KNOWN_READER: u64 = 3;
@@ -30,49 +31,38 @@ pub struct Numbers {
     pub writable: bool,
 }
 
-// A protocol is refused, for its number or for a feature; or it is readable.
-#[derive(Clone, Copy)]
-pub enum Verdict {
-    TooHigh,
-    Unknown,
-    Passed(Numbers),
-}
-
 // Whether the protocol p is writable.
 fn can_write(p: Stated) -> bool
     ensures { result ≡ (leb p.writer known_writer && p.writer_known) }
 {
-    if p.writer <= KNOWN_WRITER {
-        return p.writer_known;
-    }
-    false
+    p.writer <= KNOWN_WRITER && p.writer_known
 }
 
 // What the gate says of the protocol p. Its number is judged before its features.
-fn judge_stated(p: Stated) -> Verdict
+fn judge_stated(p: Stated) -> Result<Numbers, Refusal>
     ensures { (s : Text) (q : RuleProtocol) → ProtocolIs s q p → VerdictIs q result }
 {
     let reader = p.reader;
     let writer = p.writer;
     if KNOWN_READER < reader {
-        return Verdict::TooHigh;
+        return Err(Refusal::ReaderTooHigh);
     }
     if p.reader_known {
         let writable = can_write(p);
-        return Verdict::Passed(Numbers {
+        return Ok(Numbers {
             reader,
             writer,
             writable,
         });
     }
-    Verdict::Unknown
+    Err(Refusal::UnknownFeature)
 }
 
 // What the gate says where no protocol is stated.
-fn judge_unstated() -> Verdict
+fn judge_unstated() -> Result<Numbers, Refusal>
     ensures { VerdictIs rule_unstated result }
 {
-    Verdict::Passed(Numbers {
+    Ok(Numbers {
         reader: UNSTATED,
         writer: UNSTATED,
         writable: true,
@@ -80,14 +70,14 @@ fn judge_unstated() -> Verdict
 }
 
 // What the gate says of the protocol whose line stands at `at`; of the unstated one, where that line states none.
-pub fn judge(src: &[u8], at: Span) -> Verdict
+pub fn judge(src: &[u8], at: Span) -> Result<Numbers, Refusal>
     requires { Inside src.now at }
     ensures { VerdictIs (or_unstated (protocol_at src.now at)) result }
 {
     let from = at.at;
     let to = from + at.size;
     match line_actions::protocol_of(&src[from..to]) {
-        SaidProtocol::Protocol(p) => judge_stated(p),
-        SaidProtocol::NoProtocol => judge_unstated(),
+        Some(p) => judge_stated(p),
+        None => judge_unstated(),
     }
 }

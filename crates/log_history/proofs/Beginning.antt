@@ -1,7 +1,7 @@
 -- The checkpoint that the marker names, once its lines are read: the latest version is above it, and the way there may go on from it.
 use mathlib.Core.Path.{◌≡◌, sym, ap, ◌∙◌, subst}
 use mathlib.Core.List.{List}
-use mathlib.Core.Option.{some}
+use Rattle.std.specs.Prelude.{Some}
 use Prim.Native.Nat.{ℕ, ◌<◌}
 use Rattle.rules.specs.Bytes.{Bytes}
 use Rattle.rules.specs.Numbers.{most}
@@ -20,8 +20,8 @@ use Rattle.log_starts.proofs.Passing.{Through}
 use Rattle.log_replay.specs.Views.{state_of}
 use Rattle.log_replay.specs.Answers.{Left, OutcomeIs, ZeroIs, Renewed}
 use Rattle.log_replay.specs.declared.State.{State}
-use Rattle.log_replay.specs.declared.Outcome.{Outcome}
-use Rattle.log_replay.specs.declared.Outcome.TheVariants.{Done}
+use Rattle.std.specs.Prelude.{Result, Ok}
+use Rattle.refusals.specs.declared.Refusal.{Refusal}
 use Rattle.log_history.specs.Ends.{GoesOn, OnwardIs}
 use Rattle.log_history.specs.Answers.{Begun, LatestIs}
 use Rattle.log_history.specs.declared.latest.Latest.{Latest}
@@ -31,9 +31,9 @@ use Rattle.log_replay.proofs.Tabled.{carries-id}
 use Rattle.log_history.proofs.Reaching.{outcome-join}
 
 pub begun : {src : Bytes} {zero : File} {z : State} {k n : ℕ} (t t₁ : List ℕ) (empty st : State)
-    → (log_of (files_in src)).version_file 0 ≡ some zero → ZeroIs src (read_zero zero) (Done z)
-    → named_by (log_of (files_in src)) ≡ some n → (log_of (files_in src)).checkpoint_file n ≡ some (file_in src k)
-    → Renewed z empty → OutcomeIs src most_live (read_file most_live of_checkpoint (file_in src k) (state_of src empty t)) t t₁ (Done st) → 0 < st.table.size
+    → (log_of (files_in src)).version_file 0 ≡ Some zero → ZeroIs src (read_zero zero) (Ok z)
+    → named_by (log_of (files_in src)) ≡ Some n → (log_of (files_in src)).checkpoint_file n ≡ Some (file_in src k)
+    → Renewed z empty → OutcomeIs src most_live (read_file most_live of_checkpoint (file_in src k) (state_of src empty t)) t t₁ (Ok st) → 0 < st.table.size
     → Begun src k n st t₁
 begun {src} {zero} {z} {k} t t₁ empty st first says marker checkpoint renewed d told = record {
   zero = zero;
@@ -49,7 +49,7 @@ begun {src} {zero} {z} {k} t t₁ empty st first says marker checkpoint renewed 
 
 module _ {src : Bytes} {k n : ℕ} {st : State} {t : List ℕ} (b : Begun src k n st t) where
   -- it is a start
-  begun-start : start_at (log_of (files_in src)) n ≡ some (file_in src k)
+  begun-start : start_at (log_of (files_in src)) n ≡ Some (file_in src k)
   begun-start =
       start-good (log_of (files_in src)) n (file_in src k) b.checkpoint
       (is_start-both (file_in src k).body (read_file-readable most_live of_checkpoint (file_in src k) _ _ b.gives)
@@ -64,7 +64,7 @@ module _ {src : Bytes} {k n : ℕ} {st : State} {t : List ℕ} (b : Begun src k 
       (from_checkpoint (file_in src k), q.0, q.2)
 
   -- where the way to v goes through n, it goes on from here
-  pub begun-onward : (v : ℕ) (t' : List ℕ) (x : Outcome) → Through (log_of (files_in src)) n v → OnwardIs src most_live n v st t t' x
+  pub begun-onward : (v : ℕ) (t' : List ℕ) (x : Result State Refusal) → Through (log_of (files_in src)) n v → OnwardIs src most_live n v st t t' x
       → OutcomeIs src most_live (state_by (log_of (files_in src)) (way_to (log_of (files_in src)) v)) t t' x
   unfolding state_within follow
   begun-onward v t' x p on =

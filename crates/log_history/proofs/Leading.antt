@@ -1,7 +1,7 @@
 -- Ways by version files: cut in two, their last file, and that what is refused on the way is refused at its end.
 use mathlib.Core.Path.{◌≡◌, refl, sym, ap, ◌∙◌, subst}
 use mathlib.Core.Logic.{◌⊎◌, inl, inr}
-use mathlib.Core.Option.{Option, none, some}
+use Rattle.std.specs.Prelude.{Option, None, Some}
 use Prim.Native.Nat.{ℕ, suc, ◌≤◌, ◌<◌}
 use native.Mathlib.Nat.{eq-or-lt_of_le}
 use native.Mathlib.Omega.{arith}
@@ -31,11 +31,11 @@ module _ {log : Log} {w₀ : Way} {s : ℕ} where
 
   -- the last file of a way is the version file there
   pub leads-last : {u : ℕ} {x : Way} → s ≤ u → Leads log w₀ s (suc u) x
-      → (y : Way) × (g : File) × (x ≡ and_then y g) × (log.version_file (suc u) ≡ some g) × Leads log w₀ s u y
+      → (y : Way) × (g : File) × (x ≡ and_then y g) × (log.version_file (suc u) ≡ Some g) × Leads log w₀ s u y
   leads-last {u} h l = go l refl
     where
       go : {n : ℕ} {x : Way} → Leads log w₀ s n x → n ≡ suc u
-          → (y : Way) × (g : File) × (x ≡ and_then y g) × (log.version_file (suc u) ≡ some g) × Leads log w₀ s u y
+          → (y : Way) × (g : File) × (x ≡ and_then y g) × (log.version_file (suc u) ≡ Some g) × Leads log w₀ s u y
       go here q = absurd (omega arith)
       go (next {v} {w} {g} m e) q =
           let k : v ≡ u = omega arith in
@@ -48,20 +48,20 @@ module _ {log : Log} {w₀ : Way} {s : ℕ} where
   leads-refused limit z (next {v} {w} {g} l f) e = ap (λ (a : Answer State). a >>= (λ st. read_file limit of_version g st)) (leads-refused limit z l e)
 
   -- one version file more: where it is g, it is read after what came before it
-  pub leads-file : {u : ℕ} {x : Way} {g : File} → s ≤ u → log.version_file (suc u) ≡ some g → Leads log w₀ s (suc u) x
+  pub leads-file : {u : ℕ} {x : Way} {g : File} → s ≤ u → log.version_file (suc u) ≡ Some g → Leads log w₀ s (suc u) x
       → (y : Way) × (x ≡ and_then y g) × Leads log w₀ s u y
   leads-file h f l =
       let r = leads-last h l in
-      let same : some r.1 ≡ some _ = sym r.3 ∙ f in
+      let same : Some r.1 ≡ Some _ = sym r.3 ∙ f in
       let e = some_same same in
       (r.0, r.2 ∙ ap (and_then r.0) e, r.4)
     where
-      some_same : {a b : File} → ◌≡◌ {A = Option File} (some a) (some b) → a ≡ b
+      some_same : {a b : File} → ◌≡◌ {A = Option File} (Some a) (Some b) → a ≡ b
       some_same p = cc
 
-  pub leads-gap : {u v : ℕ} {w : Way} {B : Type 0} → s ≤ u → u < v → log.version_file (suc u) ≡ none → Leads log w₀ s v w → B
+  pub leads-gap : {u v : ℕ} {w : Way} {B : Type 0} → s ≤ u → u < v → log.version_file (suc u) ≡ None → Leads log w₀ s v w → B
   leads-gap {u} h k f l =
       let r = leads-cut (suc u) (omega arith) (omega arith) l in
       let p = leads-last h r.1 in
-      let q : some p.1 ≡ none = sym p.3 ∙ f in
+      let q : Some p.1 ≡ None = sym p.3 ∙ f in
       apart (cc)

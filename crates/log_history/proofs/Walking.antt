@@ -1,6 +1,6 @@
 -- The loop over the version files behind a start: what holds before each, and what each way out of a turn gives.
 use mathlib.Core.Path.{◌≡◌, refl, sym, ap, ◌∙◌, subst}
-use mathlib.Core.Option.{none, some}
+use Rattle.std.specs.Prelude.{None, Some}
 use mathlib.Core.List.{List}
 use Prim.Native.Nat.{ℕ, suc, ◌+◌, ◌≤◌, ◌<◌}
 use native.Mathlib.Numerals.{add-one}
@@ -17,7 +17,7 @@ use Rattle.refusals.specs.declared.Refusal.{Refusal as LineRefusal}
 use Rattle.log_replay.specs.Views.{state_of, Carries}
 use Rattle.log_replay.specs.Answers.{Left, Carried, OutcomeIs}
 use Rattle.log_replay.specs.declared.State.{State}
-use Rattle.log_replay.specs.declared.Outcome.TheVariants.{Done, Refused}
+use Rattle.std.specs.Prelude.{Ok, Err}
 use Rattle.log_history.specs.Ends.{OnwardIs}
 use Rattle.log_history.proofs.Leading.{leads-up, leads-cut, leads-refused, leads-file, leads-gap}
 
@@ -60,16 +60,16 @@ module _ (src : Bytes) (limit s v : ℕ) (t₀ : List ℕ) (st₀ : State) where
       stays z (next l f) q e = absurd (omega (arith, leads-up l))
 
   module _ (t : List ℕ) (at : ℕ) (st : State) (g : Onward src limit s v t₀ st₀ t at st) where
-    pub onward-done : v ≤ at → OnwardIs src limit s v st₀ t₀ t (Done st)
+    pub onward-done : v ≤ at → OnwardIs src limit s v st₀ t₀ t (Ok st)
     onward-done h z w₀ w l e =
         let q : v ≡ at = omega (arith, g.upto) in
         (g.follows z w₀ w (subst (λ (n : ℕ). Leads (log_of (files_in src)) w₀ s n w) q l) e, g.carried)
 
     module _ (h : at < v) where
-      pub onward-gap : (log_of (files_in src)).version_file (at + 1) ≡ none → OnwardIs src limit s v st₀ t₀ t (Done st)
+      pub onward-gap : (log_of (files_in src)).version_file (at + 1) ≡ None → OnwardIs src limit s v st₀ t₀ t (Ok st)
       onward-gap f z w₀ w l e = leads-gap g.behind h (ap (log_of (files_in src)).version_file (sym (add-one at)) ∙ f) l
 
-      module _ {f : File} (e : (log_of (files_in src)).version_file (at + 1) ≡ some f) (t' : List ℕ) where
+      module _ {f : File} (e : (log_of (files_in src)).version_file (at + 1) ≡ Some f) (t' : List ℕ) where
         step : (z : RuleState) (w₀ x : Way) → Leads (log_of (files_in src)) w₀ s (at + 1) x → follow limit z w₀ ≡ accepted (state_of src st₀ t₀)
             → follow limit z x ≡ read_file limit of_version f (state_of src st t)
         unfolding follow
@@ -85,7 +85,7 @@ module _ (src : Bytes) (limit s v : ℕ) (t₀ : List ℕ) (st₀ : State) where
             let c = leads-cut (at + 1) (omega (arith, g.behind)) (omega arith) l in
             leads-refused limit z c.2 (step z w₀ c.0 c.1 b ∙ q)
 
-        pub onward-next : (m : State) → OutcomeIs src limit (read_file limit of_version f (state_of src st t)) t t' (Done m)
+        pub onward-next : (m : State) → OutcomeIs src limit (read_file limit of_version f (state_of src st t)) t t' (Ok m)
             → Onward src limit s v t₀ st₀ t' (at + 1) m
         onward-next m d = record {
           behind = omega (arith, g.behind);
@@ -94,6 +94,6 @@ module _ (src : Bytes) (limit s v : ℕ) (t₀ : List ℕ) (st₀ : State) where
           follows = λ z w₀ x l b. step z w₀ x l b ∙ d.0;
         }
 
-        pub onward-refused : (y : LineRefusal) → OutcomeIs src limit (read_file limit of_version f (state_of src st t)) t t' (Refused y)
-            → OnwardIs src limit s v st₀ t₀ t' (Refused y)
+        pub onward-refused : (y : LineRefusal) → OutcomeIs src limit (read_file limit of_version f (state_of src st t)) t t' (Err y)
+            → OnwardIs src limit s v st₀ t₀ t' (Err y)
         onward-refused y d z w₀ w l b = (faulty d.0 z w₀ w l b, left_join g.carried.left d.1)

@@ -12,8 +12,7 @@ ghost use Rattle.log_replay.specs.Answers.{OutcomeIs};
 ghost use Rattle.log_history.specs.Ends.{Reaches, GoesOn, OnwardIs, FollowIs, ReadIs};
 
 use file_names::Version;
-use log_files::Place;
-use log_replay::{Outcome, State};
+use log_replay::State;
 use log_starts::Start;
 use refusals::Refusal;
 use rooms::MOST_LIVE;
@@ -29,28 +28,20 @@ pub fn onward(
     near: usize,
     t: &mut [u64],
     limit: usize,
-) -> Outcome
+) -> Result<State, Refusal>
     requires { IsBundle src.now × Carries src.now limit st t.old × GoesOn src.now s.0 v.0 }
     ensures { OnwardIs src.now limit s.0 v.0 st t.old t.new result }
 {
-    let mut w = s.0;
     let mut state = st;
     let mut place = near;
-    while w < v.0 {
-        let next = w + 1;
-        let Place::At(k) = log_files::version_file(src, Version(next), place) else {
-            return Outcome::Done(state); // never: they are all there
+    for w in s.0..v.0 {
+        let Some(k) = log_files::version_file(src, Version(w + 1), place) else {
+            return Ok(state); // never: they are all there
         };
-        match log_replay::read_file(src, k, state, t, limit, true) {
-            Outcome::Done(after) => {
-                state = after;
-                w = next;
-                place = k + 1;
-            }
-            Outcome::Refused(x) => return Outcome::Refused(x),
-        }
+        state = log_replay::read_file(src, k, state, t, limit, true)?;
+        place = k + 1;
     }
-    Outcome::Done(state)
+    Ok(state)
 }
 
 // The state at the end of the way from `start` to version v, read into the table t from what version 0 gave.
@@ -61,7 +52,7 @@ pub fn follow(
     v: Version,
     t: &mut [u64],
     limit: usize,
-) -> Outcome
+) -> Result<State, Refusal>
     requires { IsBundle src.now × Carries src.now limit z t.old × Reaches src.now v.0 start }
     ensures { FollowIs src.now limit v.0 z start t.old t.new result }
 {
@@ -69,31 +60,32 @@ pub fn follow(
         Start::Zero => onward(src, z, Version(0), v, 0, t, limit),
         Start::Checkpoint(k, s) => {
             let empty = log_replay::nothing_live(z);
-            match log_replay::read_file(src, k, empty, t, limit, false) {
-                Outcome::Done(st) => onward(src, st, s, v, k, t, limit),
-                Outcome::Refused(x) => Outcome::Refused(x),
-            }
+            let st = log_replay::read_file(src, k, empty, t, limit, false)?;
+            onward(src, st, s, v, k, t, limit)
         }
-        Start::NoStart => Outcome::Done(z), // never: this start reaches v
     }
 }
 
 // ---- at a version
 
 // Reads file k as version 0, and then the way from `start` to version v.
-fn from_zero(src: &[u8], k: usize, start: Start, v: Version, t: &mut [u64]) -> Outcome
+fn from_zero(
+    src: &[u8],
+    k: usize,
+    start: Start,
+    v: Version,
+    t: &mut [u64],
+) -> Result<State, Refusal>
     requires { IsBundle src.now × Room most_live t.old × (k < length (files_in src.now)) × Reaches src.now v.0 start }
     ensures { ReadIs src.now (file_in src.now k) v.0 start t.old t.new result }
 {
-    match log_replay::read_zero(src, k) {
-        Outcome::Done(z) => follow(src, z, start, v, t, MOST_LIVE),
-        Outcome::Refused(x) => Outcome::Refused(x),
-    }
+    let z = log_replay::read_zero(src, k)?;
+    follow(src, z, start, v, t, MOST_LIVE)
 }
 
 // The state at version v, read into the table t by way of the highest start that reaches it; or refusal 4, 5, 6, 21 or 7, after which the
 // first rows of the table may hold anything.
-pub fn state_at(src: &[u8], v: Version, t: &mut [u64]) -> Outcome
+pub fn state_at(src: &[u8], v: Version, t: &mut [u64]) -> Result<State, Refusal>
     requires { IsBundle src.now × Room most_live t.old }
     ensures { OutcomeIs
         src.now
@@ -103,12 +95,7 @@ pub fn state_at(src: &[u8], v: Version, t: &mut [u64]) -> Outcome
         t.new
         result }
 {
-    let Place::At(k) = log_files::version_file(src, Version(0), 0) else {
-        return Outcome::Refused(Refusal::NoVersionZero);
-    };
-    match log_starts::start_for(src, v, 0) {
-        Start::Zero => from_zero(src, k, Start::Zero, v, t),
-        Start::Checkpoint(c, s) => from_zero(src, k, Start::Checkpoint(c, s), v, t),
-        Start::NoStart => Outcome::Refused(Refusal::NotKept),
-    }
+    let zero = log_files::version_file(src, Version(0), 0).ok_or(Refusal::NoVersionZero)?;
+    let start = log_starts::start_for(src, v, 0).ok_or(Refusal::NotKept)?;
+    from_zero(src, zero, start, v, t)
 }

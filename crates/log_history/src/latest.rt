@@ -7,17 +7,16 @@ ghost use Rattle.row_table.specs.Table.{Room};
 ghost use Rattle.log_history.specs.Answers.{Begun, MarkedIs, LatestIs};
 
 use crate::history;
-use bytes_values::Whole;
 use file_names::Version;
-use log_files::Place;
-use log_replay::{Outcome, State};
+use log_replay::State;
+use refusals::Refusal;
 use rooms::MOST_LIVE;
 
 // The latest version, and the state there or a refusal.
 #[derive(Clone, Copy)]
 pub struct Latest {
     pub version: Version,
-    pub reached: Outcome,
+    pub reached: Result<State, Refusal>,
 }
 
 // By the start that a search from the latest version downward finds.
@@ -44,38 +43,25 @@ fn from_checkpoint(src: &[u8], k: usize, n: Version, st: State, t: &mut [u64]) -
     Latest { version, reached }
 }
 
-// What the checkpoint that the marker names gives.
-#[derive(Clone, Copy)]
-enum Marked {
-    Read(usize, Version, State), // its entry, its version, and the state that its lines give
-    NotRead, // none is named or found, its lines or those of version 0 are refused, or it says no metadata
-}
-
 // Reads version 0, and then the checkpoint that the marker names.
-fn read_marked(src: &[u8], t: &mut [u64]) -> Marked
+fn read_marked(src: &[u8], t: &mut [u64]) -> Option<(usize, Version, State)>
     requires { IsBundle src.now × Room most_live t.old }
     ensures { MarkedIs src.now t.old t.new result }
 {
-    let Whole::Number(n) = log_starts::named(src) else {
-        return Marked::NotRead;
-    };
-    let Place::At(k) = log_files::checkpoint_file(src, Version(n), 0) else {
-        return Marked::NotRead;
-    };
-    let Place::At(f) = log_files::version_file(src, Version(0), 0) else {
-        return Marked::NotRead;
-    };
-    let Outcome::Done(z) = log_replay::read_zero(src, f) else {
-        return Marked::NotRead;
+    let n = log_starts::named(src)?;
+    let k = log_files::checkpoint_file(src, Version(n), 0)?;
+    let f = log_files::version_file(src, Version(0), 0)?;
+    let Ok(z) = log_replay::read_zero(src, f) else {
+        return None;
     };
     let empty = log_replay::nothing_live(z);
-    let Outcome::Done(st) = log_replay::read_file(src, k, empty, t, MOST_LIVE, false) else {
-        return Marked::NotRead;
+    let Ok(st) = log_replay::read_file(src, k, empty, t, MOST_LIVE, false) else {
+        return None;
     };
     if st.table.size == 0 {
-        return Marked::NotRead; // it is no start
+        return None; // it is no start
     }
-    Marked::Read(k, Version(n), st)
+    Some((k, Version(n), st))
 }
 
 // The latest version of the well-formed bundle src, and the state there, read into the table t; or refusal 4, 5, 6, 21 or 7.
@@ -85,7 +71,7 @@ pub fn state_at_latest(src: &[u8], t: &mut [u64]) -> Latest
 {
     // `read_marked` returns before the rest is read, which goes deepest: the rest needs no more stack for it
     match read_marked(src, t) {
-        Marked::Read(k, n, st) => from_checkpoint(src, k, n, st, t),
-        Marked::NotRead => by_search(src, t),
+        Some((k, n, st)) => from_checkpoint(src, k, n, st, t),
+        None => by_search(src, t),
     }
 }

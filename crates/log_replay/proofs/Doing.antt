@@ -1,7 +1,7 @@
 -- What a line does, by what it says: to the rules' state, and to what is carried.
 use mathlib.Core.Path.{◌≡◌, refl, sym, ap, ◌∙◌, subst}
 use mathlib.Core.Bool.{Bool, true, false}
-use mathlib.Core.Option.{Option, none, some}
+use Rattle.std.specs.Prelude.{Option, None, Some}
 use mathlib.Core.List.{List, map}
 use Prim.Native.Nat.{ℕ, ◌+◌, ◌≤◌, ◌<◌}
 use native.Mathlib.Omega.{arith}
@@ -30,10 +30,9 @@ use Rattle.line_actions.specs.declared.line.Added.{Added}
 use Rattle.line_actions.specs.declared.line.Stated.{Stated}
 use Rattle.line_actions.specs.declared.line.Tabled.{Tabled}
 use Rattle.line_actions.specs.declared.line.Skipped.{Skipped}
-use Rattle.line_actions.specs.declared.line.Action.TheVariants.{Add, Remove, Protocol, MetaData, Mergeskip, Other, Malformed}
+use Rattle.std.specs.Prelude.{Ok, Err}
+use Rattle.line_actions.specs.declared.line.Action.TheVariants.{Add, Remove, Protocol, MetaData, Mergeskip, Other}
 use Rattle.log_replay.specs.declared.State.{State}
-use Rattle.log_replay.specs.declared.Put.TheVariants.{Rows, Full}
-use Rattle.log_replay.specs.declared.Outcome.TheVariants.{Done, Refused}
 use Rattle.log_replay.specs.Views.{Lies, line_at, protocol_at, facts_at, skip_of, row_of, or_no_table, table_at, state_of, Stands, Carries}
 use Rattle.log_replay.specs.Answers.{Carried, PutIs, origin, LineIs}
 use Rattle.rules.proofs.Applying.{within_limit-few, within_limit-many, read_line-none, read_line-some, read_line-foreign}
@@ -46,7 +45,7 @@ abbrev pub row_for : (head len : ℕ) → Added → Cells
 row_for head len a = record { head = head; len = len; size = a.size; time = a.time; skips = 0; retry = 0 }
 
 -- an action that is no add has no keys
-keyless : (held : Bool) (a : RuleAction) → add_in (some a) ≡ none → (m : RuleMetaData) → fits (origin held) a m ≡ true
+keyless : (held : Bool) (a : RuleAction) → add_in (Some a) ≡ None → (m : RuleMetaData) → fits (origin held) a m ≡ true
 unfolding fits add_in
 keyless true (add f) e m = apart (cc)
 keyless true (remove p) e m = refl
@@ -77,12 +76,12 @@ became-carried {src} {limit} {st} {t} {t'} {rs} r w all b = record {
 module _ (src line : Text) (limit from : ℕ) (st : State) (t : List ℕ) (w : Carries src limit st t) (z : Lies src from line) (h : 0 < length line) where
   -- ---- to the rules' state
 
-  acts : (held : Bool) (a : RuleAction) → action line ≡ some a → fits (origin held) a (state_of src st t).table ≡ true → (e k : ℕ)
+  acts : (held : Bool) (a : RuleAction) → action line ≡ Some a → fits (origin held) a (state_of src st t).table ≡ true → (e k : ℕ)
       → read_line limit (origin held) e k from line (state_of src st t) ≡ within_limit limit e k (effect from (length line) a (state_of src st t))
   acts held a q f e k =
       read_line-some limit (origin held) e k from line (state_of src st t) h a q f
 
-  leads : (held : Bool) (a : RuleAction) → action line ≡ some a → fits (origin held) a (state_of src st t).table ≡ true → (m : State) (t' : List ℕ)
+  leads : (held : Bool) (a : RuleAction) → action line ≡ Some a → fits (origin held) a (state_of src st t).table ≡ true → (m : State) (t' : List ℕ)
       → effect from (length line) a (state_of src st t) ≡ state_of src m t'
       → m.base + m.live ≤ limit
       → (e k : ℕ) → read_line limit (origin held) e k from line (state_of src st t) ≡ accepted (state_of src m t')
@@ -94,21 +93,21 @@ module _ (src line : Text) (limit from : ℕ) (st : State) (t : List ℕ) (w : C
   carried_same : Carried src limit t st t
   carried_same = record { left = record { rest = refl; length = refl }; carries = w }
 
-  pub did-other : (held : Bool) (e k : ℕ) → ActionIs (action line) line Other → LineIs src limit held from line e k st t t (Done st)
+  pub did-other : (held : Bool) (e k : ℕ) → ActionIs (action line) line (Some Other) → LineIs src limit held from line e k st t t (Ok st)
   unfolding effect add_in
   did-other held e k q = (leads held other q (keyless held other refl _) st t refl w.few e k, carried_same)
 
-  pub did-malformed : (held : Bool) (e k : ℕ) → ActionIs (action line) line Malformed → LineIs src limit held from line e k st t t (Refused (MalformedLine e k))
+  pub did-malformed : (held : Bool) (e k : ℕ) → ActionIs (action line) line None → LineIs src limit held from line e k st t t (Err (MalformedLine e k))
   unfolding numbered
   did-malformed held e k q = (read_line-none limit (origin held) e k from line (state_of src st t) h q, refl)
 
-  stated : (p : RuleProtocol) → action line ≡ some (protocol p) → p ≡ or_unstated (protocol_at src (record { at = from; size = length line }))
+  stated : (p : RuleProtocol) → action line ≡ Some (protocol p) → p ≡ or_unstated (protocol_at src (record { at = from; size = length line }))
   unfolding protocol_at protocol_in line_at or_unstated
   stated p q = sym (ap (λ o. or_unstated (protocol_in o)) (ap action z.same ∙ q))
 
-  pub did-meta_data : (held : Bool) (e k : ℕ) {r : Tabled} → ActionIs (action line) line (MetaData r)
+  pub did-meta_data : (held : Bool) (e k : ℕ) {r : Tabled} → ActionIs (action line) line (Some (MetaData r))
       → LineIs src limit held from line e k st t t
-      (Done (record { table = record { at = from; size = length line }; columns = r.columns; protocol = st.protocol; base = st.base; live = st.live }))
+      (Ok (record { table = record { at = from; size = length line }; columns = r.columns; protocol = st.protocol; base = st.base; live = st.live }))
   unfolding effect state_of or_no_table add_in
   did-meta_data held e k {r} q =
       let m : State =
@@ -136,9 +135,9 @@ module _ (src line : Text) (limit from : ℕ) (st : State) (t : List ℕ) (w : C
         },
       )
 
-  pub did-protocol : (held : Bool) (e k : ℕ) {r : Stated} → ActionIs (action line) line (Protocol r)
+  pub did-protocol : (held : Bool) (e k : ℕ) {r : Stated} → ActionIs (action line) line (Some (Protocol r))
       → LineIs src limit held from line e k st t t
-      (Done (record { table = st.table; columns = st.columns; protocol = record { at = from; size = length line }; base = st.base; live = st.live }))
+      (Ok (record { table = st.table; columns = st.columns; protocol = record { at = from; size = length line }; base = st.base; live = st.live }))
   unfolding effect state_of add_in
   did-protocol held e k q =
       let m : State =
@@ -175,16 +174,16 @@ module _ (src line : Text) (limit from : ℕ) (st : State) (t : List ℕ) (w : C
 
   -- ---- a remove
 
-  pub remove-placed : {p : ℕ} → ActionIs (action line) line (Remove p) → Placed src (from + p) (decoded (drop p line))
+  pub remove-placed : {p : ℕ} → ActionIs (action line) line (Some (Remove p)) → Placed src (from + p) (decoded (drop p line))
   remove-placed {p} q = placed p q.1
 
-  pub remove-fits : {p : ℕ} → ActionIs (action line) line (Remove p) → from + p ≤ length src
+  pub remove-fits : {p : ℕ} → ActionIs (action line) line (Some (Remove p)) → from + p ≤ length src
   remove-fits {p} q = let n : p ≤ length line = q.2 in omega (arith, z.within)
 
-  pub did-remove : (held : Bool) (entry number : ℕ) {p : ℕ} {t' : List ℕ} (r : Standing) → ActionIs (action line) line (Remove p)
+  pub did-remove : (held : Bool) (entry number : ℕ) {p : ℕ} {t' : List ℕ} (r : Standing) → ActionIs (action line) line (Some (Remove p))
       → Became src (take_out (key src) (decoded (drop (from + p) src)) (rows st.live (behind st.base t))) limit t r t'
       → LineIs src limit held from line entry number st t t'
-      (Done (record { table = st.table; columns = st.columns; protocol = st.protocol; base = r.base; live = r.live }))
+      (Ok (record { table = st.table; columns = st.columns; protocol = st.protocol; base = r.base; live = r.live }))
   unfolding effect state_of add_in
   did-remove held entry number {p} {t'} r q b =
       let rs : List Cells = rows st.live (behind st.base t) in
@@ -208,16 +207,16 @@ module _ (src line : Text) (limit from : ℕ) (st : State) (t : List ℕ) (w : C
 
   -- ---- a mergeskip
 
-  pub skip-placed : {k : Skipped} → ActionIs (action line) line (Mergeskip k) → Placed src (from + k.path) (decoded (drop k.path line))
+  pub skip-placed : {k : Skipped} → ActionIs (action line) line (Some (Mergeskip k)) → Placed src (from + k.path) (decoded (drop k.path line))
   skip-placed {k} q = placed k.path q.spelled
 
-  pub skip-fits : {k : Skipped} → ActionIs (action line) line (Mergeskip k) → from + k.path ≤ length src
+  pub skip-fits : {k : Skipped} → ActionIs (action line) line (Some (Mergeskip k)) → from + k.path ≤ length src
   skip-fits {k} q = let n : k.path ≤ length line = q.within in omega (arith, z.within)
 
-  pub did-mergeskip : (held : Bool) (entry number : ℕ) {k : Skipped} {t' : List ℕ} → ActionIs (action line) line (Mergeskip k)
+  pub did-mergeskip : (held : Bool) (entry number : ℕ) {k : Skipped} {t' : List ℕ} → ActionIs (action line) line (Some (Mergeskip k))
       → Became src (change (key src) (decoded (drop (from + k.path) src)) (marked k.count k.retry) (rows st.live (behind st.base t)))
       limit t (record { base = st.base; live = st.live }) t'
-      → LineIs src limit held from line entry number st t t' (Done st)
+      → LineIs src limit held from line entry number st t t' (Ok st)
   unfolding effect state_of add_in
   did-mergeskip held entry number {k} {t'} q b =
       let rs : List Cells = rows st.live (behind st.base t) in
@@ -242,7 +241,7 @@ module _ (src line : Text) (limit from : ℕ) (st : State) (t : List ℕ) (w : C
 
   -- ---- an add
 
-  module _ {a : Added} (q : ActionIs (action line) line (Add a)) where
+  module _ {a : Added} (q : ActionIs (action line) line (Some (Add a))) where
     pub add-placed : Placed src (from + a.path) (decoded (drop a.path line))
     add-placed = placed a.path q.2.spelled
 
@@ -250,12 +249,12 @@ module _ (src line : Text) (limit from : ℕ) (st : State) (t : List ℕ) (w : C
     add-fits = let n : a.path ≤ a.end = q.2.ordered in let k : a.end ≤ length line = q.2.within in omega (arith, z.within)
 
     pub did-foreign : (held : Bool) → fits (origin held) (add q.0) (or_no_table (table_at src st.table)) ≡ false → (e k : ℕ)
-        → LineIs src limit held from line e k st t t (Refused (ForeignKeys e k))
+        → LineIs src limit held from line e k st t t (Err (ForeignKeys e k))
     unfolding state_of numbered
     did-foreign held fit e k = (read_line-foreign limit (origin held) e k from line (state_of src st t) h (add q.0) q.1 fit, refl)
 
     module _ (head : ℕ) (packed : Packed from (from + a.path) head) where
-      line_of : action (part src (place_of (row_for head (length line) a)) (place_of (row_for head (length line) a) + length line)) ≡ some (add q.0)
+      line_of : action (part src (place_of (row_for head (length line) a)) (place_of (row_for head (length line) a) + length line)) ≡ Some (add q.0)
       line_of = ap (λ (n : ℕ). action (part src n (n + length line))) packed.place ∙ ap action z.same ∙ q.1
 
       stands-add : Stands src (row_for head (length line) a)
@@ -281,9 +280,9 @@ module _ (src line : Text) (limit from : ℕ) (st : State) (t : List ℕ) (w : C
           ∙ ap (λ (r : Row). put path_of r (map (row_of src) (rows st.live (behind st.base t)))) row-add
 
       pub did-add : (held : Bool) → fits (origin held) (add q.0) (or_no_table (table_at src st.table)) ≡ true → (e k : ℕ) {t' : List ℕ} (r : Standing)
-          → PutIs src (row_for head (length line) a) st.base st.live limit t t' (Rows r)
+          → PutIs src (row_for head (length line) a) st.base st.live limit t t' (Some r)
           → LineIs src limit held from line e k st t t'
-          (Done (record { table = st.table; columns = st.columns; protocol = st.protocol; base = r.base; live = r.live }))
+          (Ok (record { table = st.table; columns = st.columns; protocol = st.protocol; base = r.base; live = r.live }))
       unfolding effect state_of
       did-add held fit e k {t'} r b = (
         leads held (add q.0) q.1 fit (record { table = st.table; columns = st.columns; protocol = st.protocol; base = r.base; live = r.live }) t'
@@ -294,8 +293,8 @@ module _ (src line : Text) (limit from : ℕ) (st : State) (t : List ℕ) (w : C
       )
 
       pub did-full : (held : Bool) → fits (origin held) (add q.0) (or_no_table (table_at src st.table)) ≡ true → (e k : ℕ) {t' : List ℕ}
-          → PutIs src (row_for head (length line) a) st.base st.live limit t t' Full
-          → LineIs src limit held from line e k st t t' (Refused (TooManyLive e k))
+          → PutIs src (row_for head (length line) a) st.base st.live limit t t' None
+          → LineIs src limit held from line e k st t t' (Err (TooManyLive e k))
       unfolding effect state_of numbered
       did-full held fit e k {t'} b =
           let rs : List Cells = put (key src) (row_for head (length line) a) (rows st.live (behind st.base t)) in (

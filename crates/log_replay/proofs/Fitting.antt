@@ -1,7 +1,7 @@
 -- The keys of an add beside the partition columns in force, where adds are held to them.
 use mathlib.Core.Path.{◌≡◌, refl, ap}
 use mathlib.Core.Bool.{Bool, true, false}
-use mathlib.Core.Option.{Option}
+use Rattle.std.specs.Prelude.{Option}
 use mathlib.Core.List.{[], ◌∷◌}
 use Prim.Native.Nat.{ℕ}
 use Rattle.rules.specs.Bytes.{same_set, firsts, first}

@@ -21,7 +21,7 @@ use Rattle.rules.proofs.Replaying.{read_lines-part, read_lines-none}
 use Rattle.file_lines.specs.Ends.{EndsLine}
 use Rattle.file_lines.proofs.Laws.{ends-lines}
 use Rattle.log_replay.specs.declared.State.{State}
-use Rattle.log_replay.specs.declared.Outcome.TheVariants.{Done, Refused}
+use Rattle.std.specs.Prelude.{Ok, Err}
 use Rattle.log_replay.specs.Views.{state_of, Carries}
 use Rattle.log_replay.specs.Answers.{Left, Carried, origin, LineIs, body_as, OutcomeIs}
 use Rattle.rules.proofs.Applying.{read_line-empty, read_file-refused, read_file-ends}
@@ -65,11 +65,11 @@ module _ (src : Text) (entry from to limit : ℕ) (held : Bool) (t₀ : List ℕ
         or-none false = refl
 
     pub going-met : to ≤ at → met ≡ true
-        → OutcomeIs src limit (read_file limit (origin held) (body_as entry from (part src from to)) (state_of src st₀ t₀)) t₀ t (Done st)
+        → OutcomeIs src limit (read_file limit (origin held) (body_as entry from (part src from to)) (state_of src st₀ t₀)) t₀ t (Ok st)
     going-met h e = (ends h true e, g.carried)
 
     pub going-none : to ≤ at → met ≡ false
-        → OutcomeIs src limit (read_file limit (origin held) (body_as entry from (part src from to)) (state_of src st₀ t₀)) t₀ t (Refused (Malformed entry 0))
+        → OutcomeIs src limit (read_file limit (origin held) (body_as entry from (part src from to)) (state_of src st₀ t₀)) t₀ t (Err (Malformed entry 0))
     unfolding numbered
     going-none h e = (ends h false e, g.carried.left)
 
@@ -113,7 +113,7 @@ module _ (src : Text) (entry from to limit : ℕ) (held : Bool) (t₀ : List ℕ
           }
 
       module _ (n : at < end) (t' : List ℕ) where
-        pub going_next : (m : State) → LineIs src limit held at (part src at end) entry line st t t' (Done m)
+        pub going_next : (m : State) → LineIs src limit held at (part src at end) entry line st t t' (Ok m)
             → Going src entry from to limit held t₀ st₀ t' (end + 1) m true (line + 1)
         going_next m d =
             let e : 0 < length (part src at end) = omega (arith, size) in
@@ -134,6 +134,6 @@ module _ (src : Text) (entry from to limit : ℕ) (held : Bool) (t₀ : List ℕ
             or-true true = refl
             or-true false = refl
 
-        pub going-refused : (y : LineRefusal) → LineIs src limit held at (part src at end) entry line st t t' (Refused y)
-            → OutcomeIs src limit (read_file limit (origin held) (body_as entry from (part src from to)) (state_of src st₀ t₀)) t₀ t' (Refused y)
+        pub going-refused : (y : LineRefusal) → LineIs src limit held at (part src at end) entry line st t t' (Err y)
+            → OutcomeIs src limit (read_file limit (origin held) (body_as entry from (part src from to)) (state_of src st₀ t₀)) t₀ t' (Err y)
         going-refused y d = (faulty d.0, subst (Left limit t₀) (sym d.1) g.carried.left)

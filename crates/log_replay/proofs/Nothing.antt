@@ -1,6 +1,6 @@
 -- A state with nothing live: no row to be carried, and a line that is nowhere, which says nothing.
 use mathlib.Core.Path.{◌≡◌, refl, sym, ap, ◌∙◌, subst}
-use mathlib.Core.Option.{Option, none, some}
+use Rattle.std.specs.Prelude.{Option, None, Some}
 use mathlib.Core.List.{List, []}
 use Prim.Native.Nat.{ℕ, ◌+◌, ◌≤◌, ◌<◌}
 use native.Mathlib.Nat.{not-suc-le-zero}
@@ -32,20 +32,20 @@ pub action-here : {src line : Text} {from : ℕ} → Lies src from line → acti
 unfolding line_at
 action-here z = ap action z.same
 
-action-nowhere : (src : Text) (sp : Span) → sp.size ≡ 0 → action (line_at src sp) ≡ none
+action-nowhere : (src : Text) (sp : Span) → sp.size ≡ 0 → action (line_at src sp) ≡ None
 unfolding line_at
 action-nowhere src sp e = ap action (part_none src sp.at (sp.at + sp.size) (omega arith)) ∙ action-empty
 
-pub table-nowhere : (src : Text) (sp : Span) → sp.size ≡ 0 → table_at src sp ≡ none
+pub table-nowhere : (src : Text) (sp : Span) → sp.size ≡ 0 → table_at src sp ≡ None
 unfolding table_at meta_data_in
 table-nowhere src sp e = ap meta_data_in (action-nowhere src sp e)
 
-pub table_here : {src line : Text} {from : ℕ} {m : RuleMetaData} → Lies src from line → action line ≡ some (meta_data m)
-    → table_at src (record { at = from; size = length line }) ≡ some m
+pub table_here : {src line : Text} {from : ℕ} {m : RuleMetaData} → Lies src from line → action line ≡ Some (meta_data m)
+    → table_at src (record { at = from; size = length line }) ≡ Some m
 unfolding table_at meta_data_in
 table_here z q = ap meta_data_in (action-here z ∙ q)
 
-pub table-there : {src line : Text} {from : ℕ} {r : Tabled} → Lies src from line → ActionIs (action line) line (MetaData r)
+pub table-there : {src line : Text} {from : ℕ} {r : Tabled} → Lies src from line → ActionIs (action line) line (Some (MetaData r))
     → TableSaid src (record { at = from; size = length line }) r.columns
 unfolding line_at
 table-there {r = r} z q = record {
@@ -55,7 +55,7 @@ table-there {r = r} z q = record {
   listed = subst (λ (l : Text). Listed l r.columns q.0.partition_columns) (sym z.same) q.2.columns;
 }
 
-pub protocol-nowhere : (src : Text) (sp : Span) → sp.size ≡ 0 → protocol_at src sp ≡ none
+pub protocol-nowhere : (src : Text) (sp : Span) → sp.size ≡ 0 → protocol_at src sp ≡ None
 unfolding protocol_at protocol_in
 protocol-nowhere src sp e = ap protocol_in (action-nowhere src sp e)
 

@@ -9,13 +9,12 @@ use Rattle.rules.proofs.Live.{put-length-new}
 use Rattle.rules.proofs.Searching.{bracket-held}
 use Rattle.row_table.specs.Table.{wide, row, rows, behind}
 use Rattle.row_table.specs.declared.Cells.{Cells}
-use Rattle.row_live.specs.declared.Found.TheVariants.{Place}
+use Rattle.std.specs.Prelude.{Err, None}
 use Rattle.row_live.specs.Live.{key, Finds}
-use Rattle.log_replay.specs.declared.Put.TheVariants.{Full}
 use Rattle.log_replay.specs.Answers.{PutIs}
 
 pub put_full : (src : Text) (c : Cells) (base n limit : ℕ) (t : List ℕ) → base + n ≤ limit → limit ≤ n → (i : ℕ)
-    → Finds src (key src c) n (behind base t) (Place i) → PutIs src c base n limit t t Full
+    → Finds src (key src c) n (behind base t) (Err i) → PutIs src c base n limit t t None
 put_full src c base n limit t few most i f = (
   omega (
     arith,

@@ -1,6 +1,6 @@
 -- The metadata of what is carried: where there is a line, it says an id.
 use mathlib.Core.Path.{◌≡◌, sym, ap, subst}
-use mathlib.Core.Option.{Option, none, some}
+use Rattle.std.specs.Prelude.{Option, None, Some}
 use mathlib.Core.List.{List}
 use Prim.Native.Nat.{ℕ, ◌<◌}
 use Rattle.rules.specs.Json.Text.{Text}
@@ -12,15 +12,15 @@ use Rattle.line_actions.specs.Asked.{meta_data_in}
 use Rattle.log_replay.specs.declared.State.{State}
 use Rattle.log_replay.specs.Views.{line_at, table_at, or_no_table, state_of, Carries}
 
-said : (o : Option Action) (m : MetaData) → meta_data_in o ≡ some m → o ≡ some (meta_data m)
+said : (o : Option Action) (m : MetaData) → meta_data_in o ≡ Some m → o ≡ Some (meta_data m)
 unfolding meta_data_in
-said none m e = apart (cc)
-said (some (add f)) m e = apart (cc)
-said (some (remove p)) m e = apart (cc)
-said (some (protocol p)) m e = apart (cc)
-said (some (meta_data n)) m e = ap (λ (x : MetaData). some (meta_data x)) (some_same e)
-said (some (mergeskip p k)) m e = apart (cc)
-said (some other) m e = apart (cc)
+said None m e = apart (cc)
+said (Some (add f)) m e = apart (cc)
+said (Some (remove p)) m e = apart (cc)
+said (Some (protocol p)) m e = apart (cc)
+said (Some (meta_data n)) m e = ap (λ (x : MetaData). Some (meta_data x)) (some_same e)
+said (Some (mergeskip p k)) m e = apart (cc)
+said (Some other) m e = apart (cc)
 
 pub carries-id : {src : Text} {limit : ℕ} {st : State} {t : List ℕ} → Carries src limit st t → 0 < st.table.size → HasId (state_of src st t).table
 unfolding state_of or_no_table table_at

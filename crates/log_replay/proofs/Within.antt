@@ -12,10 +12,8 @@ use Rattle.file_lines.specs.Ends.{EndsLine}
 use Rattle.refusals.specs.declared.Refusal.{Refusal}
 use Rattle.refusals.specs.declared.Refusal.TheVariants.{Malformed}
 use Rattle.log_replay.specs.declared.State.{State}
-use Rattle.log_replay.specs.declared.Outcome.{Outcome}
-use Rattle.log_replay.specs.declared.Outcome.TheVariants.{Done, Refused}
+use Rattle.std.specs.Prelude.{Result, Ok, Err}
 use Rattle.log_replay.specs.declared.begin.Said.{Said}
-use Rattle.log_replay.specs.declared.begin.Saying.TheVariants.{Next, Refused as NotSaid}
 use Rattle.log_replay.specs.Views.{Lies, state_of, said_of, Carries}
 use Rattle.log_replay.specs.Answers.{origin, LineIs, body_as, OutcomeIs, says, SayingIs, ZeroIs, middle}
 use Rattle.log_replay.proofs.Lying.{part-here, ends-here}
@@ -30,10 +28,10 @@ abbrev pub Within : (src body : Text) (entry from limit : ℕ) (held : Bool) (t�
 Within src body entry from limit held t₀ st₀ t at st met line = Going src entry from (from + length body) limit held t₀ st₀ t (from + at) st met line
 
 module _ {src body : Text} (entry from limit : ℕ) (held : Bool) (z : Lies src from body) (t₀ : List ℕ) (st₀ : State) where
-  abbrev OfBody : List ℕ → Outcome → Type 0
+  abbrev OfBody : List ℕ → Result State Refusal → Type 0
   OfBody t r = OutcomeIs src limit (read_file limit (origin held) (body_as entry from body) (state_of src st₀ t₀)) t₀ t r
 
-  of-body : (t : List ℕ) (r : Outcome)
+  of-body : (t : List ℕ) (r : Result State Refusal)
       → OutcomeIs src limit (read_file limit (origin held) (body_as entry from (part src from (from + length body))) (state_of src st₀ t₀)) t₀ t r → OfBody t r
   of-body t r o = subst (λ (b : Text). OutcomeIs src limit (read_file limit (origin held) (body_as entry from b) (state_of src st₀ t₀)) t₀ t r) z.same o
 
@@ -44,12 +42,12 @@ module _ {src body : Text} (entry from limit : ℕ) (held : Bool) (z : Lies src 
       (going_start src entry from (from + length body) limit held t₀ st₀ (omega arith) w)
 
   module _ (t : List ℕ) (at : ℕ) (st : State) (met : Bool) (line : ℕ) (g : Within src body entry from limit held t₀ st₀ t at st met line) where
-    pub within-met : length body ≤ at → met ≡ true → OfBody t (Done st)
-    within-met h e = of-body t (Done st) (going-met src entry from (from + length body) limit held t₀ st₀ t (from + at) st met line g (omega arith) e)
+    pub within-met : length body ≤ at → met ≡ true → OfBody t (Ok st)
+    within-met h e = of-body t (Ok st) (going-met src entry from (from + length body) limit held t₀ st₀ t (from + at) st met line g (omega arith) e)
 
-    pub within_none : length body ≤ at → met ≡ false → OfBody t (Refused (Malformed entry 0))
+    pub within_none : length body ≤ at → met ≡ false → OfBody t (Err (Malformed entry 0))
     within_none h e =
-        of-body t (Refused (Malformed entry 0)) (going-none src entry from (from + length body) limit held t₀ st₀ t (from + at) st met line g (omega arith) e)
+        of-body t (Err (Malformed entry 0)) (going-none src entry from (from + length body) limit held t₀ st₀ t (from + at) st met line g (omega arith) e)
 
     module _ (end : ℕ) (h : at < length body) (x : EndsLine body at (length body) end) where
       behind : from + end + 1 ≡ from + (end + 1)
@@ -62,20 +60,20 @@ module _ {src body : Text} (entry from limit : ℕ) (held : Bool) (z : Lies src 
           (from + end) (omega arith) z.within (ends-here z at end x) (omega arith))
 
       module _ (n : at < end) (t' : List ℕ) where
-        pub within-next : (m : State) → LineIs src limit held (from + at) (part body at end) entry line st t t' (Done m)
+        pub within-next : (m : State) → LineIs src limit held (from + at) (part body at end) entry line st t t' (Ok m)
             → Within src body entry from limit held t₀ st₀ t' (end + 1) m true (line + 1)
         within-next m d =
             subst (λ (k : ℕ). Going src entry from (from + length body) limit held t₀ st₀ t' k m true (line + 1)) behind
             (going_next src entry from (from + length body) limit held t₀ st₀ t (from + at) st met line g
             (from + end) (omega arith) z.within (ends-here z at end x) (omega arith) t' m
-            (subst (λ (l : Text). LineIs src limit held (from + at) l entry line st t t' (Done m)) (part-here z at end x.within) d))
+            (subst (λ (l : Text). LineIs src limit held (from + at) l entry line st t t' (Ok m)) (part-here z at end x.within) d))
 
-        pub within-refused : (y : Refusal) → LineIs src limit held (from + at) (part body at end) entry line st t t' (Refused y) → OfBody t' (Refused y)
+        pub within-refused : (y : Refusal) → LineIs src limit held (from + at) (part body at end) entry line st t t' (Err y) → OfBody t' (Err y)
         within-refused y d =
-            of-body t' (Refused y)
+            of-body t' (Err y)
             (going-refused src entry from (from + length body) limit held t₀ st₀ t (from + at) st met line g
             (from + end) (omega arith) z.within (ends-here z at end x) (omega arith) t' y
-            (subst (λ (l : Text). LineIs src limit held (from + at) l entry line st t t' (Refused y)) (part-here z at end x.within) d))
+            (subst (λ (l : Text). LineIs src limit held (from + at) l entry line st t t' (Err y)) (part-here z at end x.within) d))
 
 -- ---- the lines of version 0
 
@@ -83,7 +81,7 @@ abbrev pub Tells : (src body : Text) (entry from at : ℕ) (x : Said) (line : �
 Tells src body entry from at x line = Telling src entry from (from + length body) (from + at) x line
 
 module _ {src body : Text} (entry from : ℕ) (z : Lies src from body) where
-  zero-of-body : (r : Outcome) → ZeroIs src (read_zero (body_as entry from (part src from (from + length body)))) r
+  zero-of-body : (r : Result State Refusal) → ZeroIs src (read_zero (body_as entry from (part src from (from + length body)))) r
       → ZeroIs src (read_zero (body_as entry from body)) r
   zero-of-body r o = subst (λ (b : Text). ZeroIs src (read_zero (body_as entry from b)) r) z.same o
 
@@ -94,15 +92,15 @@ module _ {src body : Text} (entry from : ℕ) (z : Lies src from body) where
       (telling-start src entry from (from + length body) (omega arith))
 
   module _ (at : ℕ) (x : Said) (line : ℕ) (g : Tells src body entry from at x line) where
-    pub tells_none : length body ≤ at → x.table.size ≡ 0 → ZeroIs src (read_zero (body_as entry from body)) (Refused (Malformed entry 0))
+    pub tells_none : length body ≤ at → x.table.size ≡ 0 → ZeroIs src (read_zero (body_as entry from body)) (Err (Malformed entry 0))
     tells_none h e =
-        zero-of-body (Refused (Malformed entry 0)) (telling-none src entry from (from + length body) (from + at) x line g (omega arith) e)
+        zero-of-body (Err (Malformed entry 0)) (telling-none src entry from (from + length body) (from + at) x line g (omega arith) e)
 
     pub tells_all : length body ≤ at → (x.table.size ≡ 0 → ⊥)
         → ZeroIs src (read_zero (body_as entry from body))
-        (Done (record { table = x.table; columns = x.columns; protocol = x.protocol; base = middle; live = 0 }))
+        (Ok (record { table = x.table; columns = x.columns; protocol = x.protocol; base = middle; live = 0 }))
     tells_all h n =
-        zero-of-body (Done (record { table = x.table; columns = x.columns; protocol = x.protocol; base = middle; live = 0 }))
+        zero-of-body (Ok (record { table = x.table; columns = x.columns; protocol = x.protocol; base = middle; live = 0 }))
         (telling-says src entry from (from + length body) (from + at) x line g (omega arith) n)
 
     module _ (end : ℕ) (h : at < length body) (y : EndsLine body at (length body) end) where
@@ -115,17 +113,17 @@ module _ {src body : Text} (entry from : ℕ) (z : Lies src from body) where
           (telling-empty src entry from (from + length body) (from + at) x line g (from + end) (omega arith) z.within (ends-here z at end y) (omega arith))
 
       module _ (n : at < end) where
-        pub tells-next : (w : Said) → SayingIs src (says entry line (part body at end) (said_of src x)) (Next w)
+        pub tells-next : (w : Said) → SayingIs src (says entry line (part body at end) (said_of src x)) (Ok w)
             → Tells src body entry from (end + 1) w (line + 1)
         tells-next w d =
             subst (λ (k : ℕ). Telling src entry from (from + length body) k w (line + 1)) onward
             (telling-next src entry from (from + length body) (from + at) x line g (from + end) (omega arith) z.within (ends-here z at end y) (omega arith) w
-            (subst (λ (l : Text). SayingIs src (says entry line l (said_of src x)) (Next w)) (part-here z at end y.within) d))
+            (subst (λ (l : Text). SayingIs src (says entry line l (said_of src x)) (Ok w)) (part-here z at end y.within) d))
 
-        pub tells-refused : (w : Refusal) → SayingIs src (says entry line (part body at end) (said_of src x)) (NotSaid w)
-            → ZeroIs src (read_zero (body_as entry from body)) (Refused w)
+        pub tells-refused : (w : Refusal) → SayingIs src (says entry line (part body at end) (said_of src x)) (Err w)
+            → ZeroIs src (read_zero (body_as entry from body)) (Err w)
         tells-refused w d =
-            zero-of-body (Refused w)
+            zero-of-body (Err w)
             (telling-refused src entry from (from + length body) (from + at) x line g (from + end) (omega arith) z.within (ends-here z at end y)
             (omega arith) w
-            (subst (λ (l : Text). SayingIs src (says entry line l (said_of src x)) (NotSaid w)) (part-here z at end y.within) d))
+            (subst (λ (l : Text). SayingIs src (says entry line l (said_of src x)) (Err w)) (part-here z at end y.within) d))

@@ -1,6 +1,6 @@
 -- Version 0: what a line adds to what was said, and the loop over its lines.
 use mathlib.Core.Path.{◌≡◌, refl, sym, ap, ◌∙◌}
-use mathlib.Core.Option.{Option, none, some}
+use Rattle.std.specs.Prelude.{Option, None, Some}
 use mathlib.Core.List.{List, [], ◌∷◌}
 use Prim.Native.Nat.{ℕ, suc, ◌+◌, ◌-◌, ◌≤◌, ◌<◌}
 use native.Mathlib.Nat.{not-suc-le-zero}
@@ -27,13 +27,17 @@ use Rattle.line_actions.specs.declared.line.Added.{Added}
 use Rattle.line_actions.specs.declared.line.Stated.{Stated as Stating}
 use Rattle.line_actions.specs.declared.line.Tabled.{Tabled}
 use Rattle.line_actions.specs.declared.line.Skipped.{Skipped}
-use Rattle.line_actions.specs.declared.line.Action.TheVariants.{Add, Remove, Protocol, MetaData, Mergeskip, Other, Malformed}
+use Rattle.std.specs.Prelude.{Ok, Err}
+use Rattle.line_actions.specs.declared.line.Action.TheVariants.{Add, Remove, Protocol, MetaData, Mergeskip, Other}
 use Rattle.log_replay.specs.declared.begin.Said.{Said}
+use Rattle.line_actions.specs.declared.line.Action.{Action}
+use Rattle.line_actions.specs.contracts.line.Action.{the_type}
+use denote.Enum.Declared.{tag_of}
+use mathlib.Core.Logic.{◌⊎◌, inl, inr}
+use Rattle.rules.proofs.Tests.{apart}
 use Rattle.refusals.specs.Numbered.{numbered}
 use Rattle.refusals.specs.declared.Refusal.{Refusal}
 use Rattle.refusals.specs.declared.Refusal.TheVariants.{Malformed as MalformedLine}
-use Rattle.log_replay.specs.declared.Outcome.TheVariants.{Done, Refused}
-use Rattle.log_replay.specs.declared.begin.Saying.TheVariants.{Next, Refused as NotSaid}
 use Rattle.log_replay.specs.Views.{Lies, table_at, protocol_at, or_no_table, state_of, said_of, Stated}
 use Rattle.log_replay.specs.Answers.{body_as, says, SayingIs, ZeroIs, middle}
 use Rattle.rules.proofs.Applying.{zero_lines-empty}
@@ -41,37 +45,40 @@ use Rattle.log_replay.proofs.Nothing.{nowhere, action-here, table_here, table-th
 
 -- ---- one line
 
+abbrev tag : Action → ℕ
+tag a = tag_of the_type a
+
 module _ (src line : Text) (from e k : ℕ) (x : Said) (w : Stated src x) (z : Lies src from line) (h : 0 < length line) where
-  told : (a : RuleAction) → action line ≡ some a → says e k line (said_of src x) ≡ or_refuse (malformed e k) (rule_say a (said_of src x))
+  told : (a : RuleAction) → action line ≡ Some a → says e k line (said_of src x) ≡ or_refuse (malformed e k) (rule_say a (said_of src x))
   unfolding says
   told a q = rw q
 
-  pub said-add : {a : Added} → ActionIs (action line) line (Add a) → SayingIs src (says e k line (said_of src x)) (NotSaid (MalformedLine e k))
+  said-add : {a : Added} → ActionIs (action line) line (Some (Add a)) → SayingIs src (says e k line (said_of src x)) (Err (MalformedLine e k))
   unfolding rule_say numbered
   said-add q = told _ q.1
 
-  pub said-remove : {p : ℕ} → ActionIs (action line) line (Remove p) → SayingIs src (says e k line (said_of src x)) (NotSaid (MalformedLine e k))
+  said-remove : {p : ℕ} → ActionIs (action line) line (Some (Remove p)) → SayingIs src (says e k line (said_of src x)) (Err (MalformedLine e k))
   unfolding rule_say numbered
   said-remove q = told _ q.0
 
-  pub said-mergeskip : {s : Skipped} → ActionIs (action line) line (Mergeskip s) → SayingIs src (says e k line (said_of src x)) (NotSaid (MalformedLine e k))
+  said-mergeskip : {s : Skipped} → ActionIs (action line) line (Some (Mergeskip s)) → SayingIs src (says e k line (said_of src x)) (Err (MalformedLine e k))
   unfolding rule_say numbered
   said-mergeskip q = told _ q.says
 
-  pub said-malformed : ActionIs (action line) line Malformed → SayingIs src (says e k line (said_of src x)) (NotSaid (MalformedLine e k))
+  pub said-malformed : ActionIs (action line) line None → SayingIs src (says e k line (said_of src x)) (Err (MalformedLine e k))
   unfolding says numbered
   said-malformed q = rw q
 
-  pub said-other : ActionIs (action line) line Other → SayingIs src (says e k line (said_of src x)) (Next x)
+  pub said-other : ActionIs (action line) line (Some Other) → SayingIs src (says e k line (said_of src x)) (Ok x)
   unfolding rule_say
   said-other q = (told _ q, w)
 
   -- a metaData where there is none yet, and another
 
-  module _ {r : Tabled} (q : ActionIs (action line) line (MetaData r)) where
+  module _ {r : Tabled} (q : ActionIs (action line) line (Some (MetaData r))) where
     pub said-table : x.table.size ≡ 0
         → SayingIs src (says e k line (said_of src x))
-        (Next (record { table = record { at = from; size = length line }; columns = r.columns; protocol = x.protocol }))
+        (Ok (record { table = record { at = from; size = length line }; columns = r.columns; protocol = x.protocol }))
     unfolding rule_say say_table said_of
     said-table n = (
       told (meta_data q.0) q.1
@@ -80,20 +87,20 @@ module _ (src line : Text) (from e k : ℕ) (x : Said) (w : Stated src x) (z : L
       record { meta_data = z.within; protocol = w.protocol; of_table = λ n. table-there z q; of_protocol = w.of_protocol },
     )
 
-    pub said-table-twice : (x.table.size ≡ 0 → ⊥) → SayingIs src (says e k line (said_of src x)) (NotSaid (MalformedLine e k))
+    pub said-table-twice : (x.table.size ≡ 0 → ⊥) → SayingIs src (says e k line (said_of src x)) (Err (MalformedLine e k))
     unfolding rule_say say_table said_of numbered
     said-table-twice n =
         told (meta_data q.0) q.1
         ∙ ap (λ (o : Option RuleMetaData). or_refuse (malformed e k) (say_table o q.0 (said_of src x))) (w.of_table (omega arith)).says
 
-  module _ {r : Stating} (q : ActionIs (action line) line (Protocol r)) where
-    protocol-here : protocol_at src (record { at = from; size = length line }) ≡ some q.0
+  module _ {r : Stating} (q : ActionIs (action line) line (Some (Protocol r))) where
+    protocol-here : protocol_at src (record { at = from; size = length line }) ≡ Some q.0
     unfolding protocol_at protocol_in
     protocol-here = ap protocol_in (action-here z ∙ q.1)
 
     pub said-protocol : x.protocol.size ≡ 0
         → SayingIs src (says e k line (said_of src x))
-        (Next (record { table = x.table; columns = x.columns; protocol = record { at = from; size = length line } }))
+        (Ok (record { table = x.table; columns = x.columns; protocol = record { at = from; size = length line } }))
     unfolding rule_say say_protocol said_of
     said-protocol n = (
       told (protocol q.0) q.1
@@ -102,11 +109,27 @@ module _ (src line : Text) (from e k : ℕ) (x : Said) (w : Stated src x) (z : L
       record { meta_data = w.meta_data; protocol = z.within; of_table = w.of_table; of_protocol = λ n. (q.0, protocol-here) },
     )
 
-    pub said-protocol-twice : (x.protocol.size ≡ 0 → ⊥) → SayingIs src (says e k line (said_of src x)) (NotSaid (MalformedLine e k))
+    pub said-protocol-twice : (x.protocol.size ≡ 0 → ⊥) → SayingIs src (says e k line (said_of src x)) (Err (MalformedLine e k))
     unfolding rule_say say_protocol said_of numbered
     said-protocol-twice n =
         told (protocol q.0) q.1
         ∙ ap (λ (o : Option RuleProtocol). or_refuse (malformed e k) (say_protocol o q.0 (said_of src x))) (w.of_protocol (omega arith)).1
+
+  -- an action that version 0 has no place for: an add, a remove or a mergeskip, by its place in the enum
+  pub said-else : (a : Action) → (tag a ≡ 0) ⊎ ((tag a ≡ 1) ⊎ (tag a ≡ 4)) → ActionIs (action line) line (Some a)
+      → SayingIs src (says e k line (said_of src x)) (Err (MalformedLine e k))
+  said-else (Add r) t q = said-add q
+  said-else (Remove p) t q = said-remove q
+  said-else (Protocol r) (inl t) q = apart (cc)
+  said-else (Protocol r) (inr (inl t)) q = apart (cc)
+  said-else (Protocol r) (inr (inr t)) q = apart (cc)
+  said-else (MetaData r) (inl t) q = apart (cc)
+  said-else (MetaData r) (inr (inl t)) q = apart (cc)
+  said-else (MetaData r) (inr (inr t)) q = apart (cc)
+  said-else (Mergeskip s) t q = said-mergeskip q
+  said-else Other (inl t) q = apart (cc)
+  said-else Other (inr (inl t)) q = apart (cc)
+  said-else Other (inr (inr t)) q = apart (cc)
 
 -- ---- the loop
 
@@ -121,8 +144,8 @@ zero_lines-says e k [] ls x h = absurd (not-suc-le-zero h)
 zero_lines-says e k (b ∷ bs) ls x h = split (action (b ∷ bs)) refl
   where
     split : (a : Option RuleAction) → action (b ∷ bs) ≡ a → zero_lines e k ((b ∷ bs) ∷ ls) x ≡ (says e k (b ∷ bs) x >>= (λ next. zero_lines e (suc k) ls next))
-    split none p = rw (p, zero_lines)
-    split (some a) p = rw (p, zero_lines)
+    split None p = rw (p, zero_lines)
+    split (Some a) p = rw (p, zero_lines)
 
 -- the lines before `at`, the next of which has number `line`, said x
 pub record Telling (src : Text) (entry from to at : ℕ) (x : Said) (line : ℕ) : Type 0 where
@@ -147,7 +170,7 @@ module _ (src : Text) (entry from to : ℕ) where
         ap
         (λ (o : Option RuleMetaData). zero_lines entry 1 (lines (part src from to)) (record { of_table = o; of_protocol = protocol_at src nowhere }))
         (table-nowhere src nowhere refl)
-        ∙ ap (λ (o : Option RuleProtocol). zero_lines entry 1 (lines (part src from to)) (record { of_table = none; of_protocol = o }))
+        ∙ ap (λ (o : Option RuleProtocol). zero_lines entry 1 (lines (part src from to)) (record { of_table = None; of_protocol = o }))
         (protocol-nowhere src nowhere refl);
   }
 
@@ -162,7 +185,7 @@ module _ (src : Text) (entry from to : ℕ) where
 
     pub telling-says : to ≤ at → (x.table.size ≡ 0 → ⊥)
         → ZeroIs src (read_zero (body_as entry from (part src from to)))
-        (Done (record { table = x.table; columns = x.columns; protocol = x.protocol; base = middle; live = 0 }))
+        (Ok (record { table = x.table; columns = x.columns; protocol = x.protocol; base = middle; live = 0 }))
     unfolding said_of state_of rows_of or_no_table
     telling-says h n =
         let q = (g.stated.of_table (omega arith)).says in (
@@ -180,7 +203,7 @@ module _ (src : Text) (entry from to : ℕ) where
               g.stated.protocol,
         )
 
-    pub telling-none : to ≤ at → x.table.size ≡ 0 → ZeroIs src (read_zero (body_as entry from (part src from to))) (Refused (MalformedLine entry 0))
+    pub telling-none : to ≤ at → x.table.size ≡ 0 → ZeroIs src (read_zero (body_as entry from (part src from to))) (Err (MalformedLine entry 0))
     unfolding said_of numbered
     telling-none h e =
         ends h
@@ -217,7 +240,7 @@ module _ (src : Text) (entry from to : ℕ) where
             step ∙ zero_lines-says entry line (part src at end) (lines (part src (end + 1) to)) (said_of src x) (omega (arith, size))
             ∙ ap (λ (a : Answer RuleSaid). a >>= (λ next. zero_lines entry (suc line) (lines (part src (end + 1) to)) next)) q
 
-        pub telling-next : (z : Said) → SayingIs src (says entry line (part src at end) (said_of src x)) (Next z)
+        pub telling-next : (z : Said) → SayingIs src (says entry line (part src at end) (said_of src x)) (Ok z)
             → Telling src entry from to (end + 1) z (line + 1)
         telling-next z d = record {
           upto = omega (arith, y.within);
@@ -226,7 +249,7 @@ module _ (src : Text) (entry from to : ℕ) where
           reads = next-number (said_of src z) ∙ sym (step-says d.0);
         }
 
-        pub telling-refused : (y : Refusal) → SayingIs src (says entry line (part src at end) (said_of src x)) (NotSaid y)
-            → ZeroIs src (read_zero (body_as entry from (part src from to))) (Refused y)
+        pub telling-refused : (y : Refusal) → SayingIs src (says entry line (part src at end) (said_of src x)) (Err y)
+            → ZeroIs src (read_zero (body_as entry from (part src from to))) (Err y)
         unfolding read_zero body_as
         telling-refused y d = ap (λ (a : Answer RuleSaid). a >>= ending entry) (step-says d)

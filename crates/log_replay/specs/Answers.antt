@@ -14,12 +14,10 @@ use Rattle.row_live.specs.Live.{places, key, Became}
 use Rattle.refusals.specs.Numbered.{numbered}
 use Rattle.log_replay.specs.Views.{state_of, said_of, Carries, Stated}
 use Rattle.log_replay.specs.declared.State.{State}
-use Rattle.log_replay.specs.declared.Put.{Put}
-use Rattle.log_replay.specs.declared.Put.TheVariants.{Rows, Full}
-use Rattle.log_replay.specs.declared.Outcome.{Outcome}
-use Rattle.log_replay.specs.declared.Outcome.TheVariants.{Done, Refused}
-use Rattle.log_replay.specs.declared.begin.Saying.{Saying}
-use Rattle.log_replay.specs.declared.begin.Saying.TheVariants.{Next, Refused as NotSaid}
+use Rattle.std.specs.Prelude.{Option, Some, None, Result, Ok, Err}
+use Rattle.row_live.specs.declared.Standing.{Standing}
+use Rattle.refusals.specs.declared.Refusal.{Refusal}
+use Rattle.log_replay.specs.declared.begin.Said.{Said}
 
 -- t became t', in its first `limit` rows alone
 pub record Left (limit : ℕ) (t t' : List ℕ) : Type 0 where
@@ -34,9 +32,9 @@ pub record Carried (src : Text) (limit : ℕ) (t : List ℕ) (st : State) (t' : 
 -- ---- one line
 
 -- of the row c put into the n rows of t behind `base` others
-abbrev pub PutIs : Text → Cells → (base n limit : ℕ) → List ℕ → List ℕ → Put → Type 0
-PutIs src c base n limit t t' (Rows r) = Became src (put (key src) c (rows n (behind base t))) limit t r t'
-PutIs src c base n limit t t' Full = (length (put (key src) c (rows n (behind base t))) ≡ limit + 1) × (t' ≡ t)
+abbrev pub PutIs : Text → Cells → (base n limit : ℕ) → List ℕ → List ℕ → Option Standing → Type 0
+PutIs src c base n limit t t' (Some r) = Became src (put (key src) c (rows n (behind base t))) limit t r t'
+PutIs src c base n limit t t' None = (length (put (key src) c (rows n (behind base t))) ≡ limit + 1) × (t' ≡ t)
 
 -- of which files the adds are held to the partition columns
 abbrev pub origin : (held : Bool) → Origin
@@ -44,10 +42,10 @@ origin true = of_version
 origin false = of_checkpoint
 
 -- of line k of entry e, which stands in src at `from`
-abbrev pub LineIs : Text → (limit : ℕ) → (held : Bool) → (from : ℕ) → (line : Text) → (e k : ℕ) → State → List ℕ → List ℕ → Outcome → Type 0
-LineIs src limit held from line e k st t t' (Done m) =
+abbrev pub LineIs : Text → (limit : ℕ) → (held : Bool) → (from : ℕ) → (line : Text) → (e k : ℕ) → State → List ℕ → List ℕ → Result State Refusal → Type 0
+LineIs src limit held from line e k st t t' (Ok m) =
     (read_line limit (origin held) e k from line (state_of src st t) ≡ accepted (state_of src m t')) × Carried src limit t m t'
-LineIs src limit held from line e k st t t' (Refused x) =
+LineIs src limit held from line e k st t t' (Err x) =
     (read_line limit (origin held) e k from line (state_of src st t) ≡ refused (numbered x)) × (t' ≡ t)
 
 -- ---- one file
@@ -57,9 +55,9 @@ unfoldable pub body_as : (entry from : ℕ) → Text → File
 body_as e from body = record { entry = e; name = []; start = from; time = 0; body = body }
 
 -- of a file, or the files of a way, which give o: the state, or the paper's refusal
-abbrev pub OutcomeIs : Text → (limit : ℕ) → Answer RuleState → List ℕ → List ℕ → Outcome → Type 0
-OutcomeIs src limit o t t' (Done m) = (o ≡ accepted (state_of src m t')) × Carried src limit t m t'
-OutcomeIs src limit o t t' (Refused x) = (o ≡ refused (numbered x)) × Left limit t t'
+abbrev pub OutcomeIs : Text → (limit : ℕ) → Answer RuleState → List ℕ → List ℕ → Result State Refusal → Type 0
+OutcomeIs src limit o t t' (Ok m) = (o ≡ accepted (state_of src m t')) × Carried src limit t m t'
+OutcomeIs src limit o t t' (Err x) = (o ≡ refused (numbered x)) × Left limit t t'
 
 -- ---- version 0
 
@@ -73,16 +71,16 @@ says e k l x = do
   a ← or_refuse (malformed e k) (action l)
   or_refuse (malformed e k) (rule_say a x)
 
-abbrev pub SayingIs : Text → Answer RuleSaid → Saying → Type 0
-SayingIs src o (Next m) = (o ≡ accepted (said_of src m)) × Stated src m
-SayingIs src o (NotSaid x) = o ≡ refused (numbered x)
+abbrev pub SayingIs : Text → Answer RuleSaid → Result Said Refusal → Type 0
+SayingIs src o (Ok m) = (o ≡ accepted (said_of src m)) × Stated src m
+SayingIs src o (Err x) = o ≡ refused (numbered x)
 
 -- of version 0, which gives o: a state with nothing live, carried by any table with room; or the paper's refusal
-abbrev pub ZeroIs : Text → Answer RuleState → Outcome → Type 0
-ZeroIs src o (Done st) =
+abbrev pub ZeroIs : Text → Answer RuleState → Result State Refusal → Type 0
+ZeroIs src o (Ok st) =
     ((t : List ℕ) → o ≡ accepted (state_of src st t)) × (st.live ≡ 0)
     × ((limit : ℕ) (t : List ℕ) → length src < places → middle ≤ limit → Room limit t → Carries src limit st t)
-ZeroIs src o (Refused x) = o ≡ refused (numbered x)
+ZeroIs src o (Err x) = o ≡ refused (numbered x)
 
 -- what a checkpoint's lines are applied to, in the place of z
 abbrev pub Renewed : State → State → Type 0

@@ -1,7 +1,7 @@
 -- What the places of lines, carried beside a table of live rows, stand for: the state of the rules; and what is always
 -- true of what is carried.
 use Rattle.std.specs.Prelude.{◌≡◌, List, [], map, ℕ, ◌+◌, ◌≤◌, ◌<◌, length}
-use Rattle.std.proofs.Math.Option.{Option, none, some}
+use Rattle.std.specs.Prelude.{Option, None, Some}
 use Rattle.facts.specs.Lists.{All}
 use Rattle.facts.specs.Parts.{part}
 use Rattle.rules.specs.Json.Text.{Text}
@@ -41,15 +41,15 @@ protocol_at src sp = protocol_in (action (line_at src sp))
 
 -- what stands where there are no facts
 unfoldable pub no_facts : Facts
-no_facts = record { path = []; size = 0; modification_time = 0; num_records = none; partition_values = [] }
+no_facts = record { path = []; size = 0; modification_time = 0; num_records = None; partition_values = [] }
 
 unfoldable pub or_no_table : Option MetaData → MetaData
-or_no_table none = no_table
-or_no_table (some m) = m
+or_no_table None = no_table
+or_no_table (Some m) = m
 
 unfoldable pub or_no_facts : Option Facts → Facts
-or_no_facts none = no_facts
-or_no_facts (some f) = f
+or_no_facts None = no_facts
+or_no_facts (Some f) = f
 
 unfoldable pub facts_in : Option Action → Facts
 unfolding or_no_facts add_in
@@ -84,7 +84,7 @@ Inside src sp = sp.at + sp.size ≤ length src
 -- a line says a metaData, and behind the bracket before `columns` of it stand its partition columns
 pub record TableSaid (src : Text) (sp : Span) (columns : ℕ) : Type 0 where
   pub table : MetaData
-  pub says : table_at src sp ≡ some table
+  pub says : table_at src sp ≡ Some table
   pub within : columns ≤ length (line_at src sp)
   pub listed : Listed (line_at src sp) columns table.partition_columns
 
@@ -92,7 +92,7 @@ pub record TableSaid (src : Text) (sp : Span) (columns : ℕ) : Type 0 where
 pub record Stands (src : Text) (c : Cells) : Type 0 where
   pub facts : Facts
   pub within : place_of c + c.len ≤ length src
-  pub adds : action (part src (place_of c) (place_of c + c.len)) ≡ some (add facts)
+  pub adds : action (part src (place_of c) (place_of c + c.len)) ≡ Some (add facts)
   pub path : facts.path ≡ key src c
   pub size : facts.size ≡ c.size
   pub time : facts.modification_time ≡ c.time
@@ -113,4 +113,4 @@ pub record Stated (src : Text) (x : Said) : Type 0 where
   pub meta_data : Inside src x.table
   pub protocol : Inside src x.protocol
   pub of_table : 0 < x.table.size → TableSaid src x.table x.columns
-  pub of_protocol : 0 < x.protocol.size → (p : Protocol) × (protocol_at src x.protocol ≡ some p)
+  pub of_protocol : 0 < x.protocol.size → (p : Protocol) × (protocol_at src x.protocol ≡ Some p)

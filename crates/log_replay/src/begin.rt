@@ -5,7 +5,7 @@ ghost use Rattle.file_bundle.specs.Files.{files_in, file_in};
 ghost use Rattle.log_replay.specs.Views.{Lies, said_of, Stated};
 ghost use Rattle.log_replay.specs.Answers.{body_as, says, SayingIs, ZeroIs, Renewed};
 
-use crate::{Outcome, Span, State};
+use crate::{Span, State};
 use line_actions::Action;
 use refusals::Refusal;
 
@@ -20,16 +20,16 @@ struct Said {
     protocol: Span,
 }
 
-// What is said with one line more; or the refusal of that line, which version 0 may not have.
-#[derive(Clone, Copy)]
-enum Saying {
-    Next(Said),
-    Refused(Refusal),
-}
-
 // Adds line number `number` of entry number `entry`, which is not empty and stands in the bundle at `from`, to what version 0 said. The
 // bundle itself is only spoken of.
-fn say(src: &[u8], line: &[u8], from: usize, entry: usize, number: usize, said: Said) -> Saying
+fn say(
+    src: &[u8],
+    line: &[u8],
+    from: usize,
+    entry: usize,
+    number: usize,
+    said: Said,
+) -> Result<Said, Refusal>
     requires { Stated src.now said × Lies src.now from line.now × (0 < length line.now) }
     ensures { SayingIs src.now (says entry number line.now (said_of src.now said)) result }
 {
@@ -37,41 +37,23 @@ fn say(src: &[u8], line: &[u8], from: usize, entry: usize, number: usize, said: 
         at: from,
         size: line.len(),
     };
-    let table = said.table;
-    let columns = said.columns;
-    let protocol = said.protocol;
-    let bad = Refusal::Malformed(entry, number);
     match line_actions::classify(line) {
-        Action::Add(_) => Saying::Refused(bad),
-        Action::Remove(_) => Saying::Refused(bad),
-        Action::Protocol(_) => {
-            if protocol.size == 0 {
-                return Saying::Next(Said {
-                    table,
-                    columns,
-                    protocol: this,
-                });
-            }
-            Saying::Refused(bad)
-        }
-        Action::MetaData(m) => {
-            if table.size == 0 {
-                return Saying::Next(Said {
-                    table: this,
-                    columns: m.columns,
-                    protocol,
-                });
-            }
-            Saying::Refused(bad)
-        }
-        Action::Mergeskip(_) => Saying::Refused(bad),
-        Action::Other => Saying::Next(said),
-        Action::Malformed => Saying::Refused(bad),
+        Some(Action::Protocol(_)) if said.protocol.size == 0 => Ok(Said {
+            protocol: this,
+            ..said
+        }),
+        Some(Action::MetaData(m)) if said.table.size == 0 => Ok(Said {
+            table: this,
+            columns: m.columns,
+            ..said
+        }),
+        Some(Action::Other) => Ok(said),
+        _ => Err(Refusal::Malformed(entry, number)),
     }
 }
 
 // Reads the lines of the body of version 0, entry number `entry`, which stands in the bundle at `from`.
-fn zero_lines(src: &[u8], body: &[u8], from: usize, entry: usize) -> Outcome
+fn zero_lines(src: &[u8], body: &[u8], from: usize, entry: usize) -> Result<State, Refusal>
     requires { Lies src.now from body.now }
     ensures { ZeroIs src.now (read_zero (body_as entry from body.now)) result }
 {
@@ -86,36 +68,25 @@ fn zero_lines(src: &[u8], body: &[u8], from: usize, entry: usize) -> Outcome
         let end = file_lines::line_end(body, at, body.len());
         let next = end + 1;
         if at < end {
-            match say(src, &body[at..end], from + at, entry, line, said) {
-                Saying::Next(after) => {
-                    said = after;
-                    at = next;
-                    line += 1;
-                }
-                Saying::Refused(x) => return Outcome::Refused(x),
-            }
-        } else {
-            at = next;
-            line += 1;
+            said = say(src, &body[at..end], from + at, entry, line, said)?;
         }
+        at = next;
+        line += 1;
     }
-    let told = said.table;
-    let columns = said.columns;
-    let protocol = said.protocol;
-    if told.size == 0 {
-        return Outcome::Refused(Refusal::Malformed(entry, 0));
+    if said.table.size == 0 {
+        return Err(Refusal::Malformed(entry, 0));
     }
-    Outcome::Done(State {
-        table: told,
-        columns,
-        protocol,
+    Ok(State {
+        table: said.table,
+        columns: said.columns,
+        protocol: said.protocol,
         base: MIDDLE,
         live: 0,
     })
 }
 
 // Reads file k of the bundle as version 0. It needs no table: nothing is live yet.
-pub fn read_zero(src: &[u8], k: usize) -> Outcome
+pub fn read_zero(src: &[u8], k: usize) -> Result<State, Refusal>
     requires { k < length (files_in src.now) }
     ensures { ZeroIs src.now (read_zero (file_in src.now k)) result }
 {
@@ -129,13 +100,12 @@ pub fn read_zero(src: &[u8], k: usize) -> Outcome
 pub fn nothing_live(z: State) -> State
     ensures { Renewed z result }
 {
-    let base = z.base;
     let none = Span { at: 0, size: 0 };
     State {
         table: none,
         columns: 0,
         protocol: none,
-        base,
+        base: z.base,
         live: 0,
     }
 }

@@ -4,7 +4,7 @@
 
 mod begin;
 
-ghost use Rattle.std.specs.Prelude.{◌≡◌, ◌+◌, ◌≤◌, ◌<◌, length};
+ghost use Rattle.std.specs.Prelude.{◌≡◌, ◌+◌, ◌≤◌, ◌<◌, length, Some};
 ghost use Rattle.rules.specs.Actions.{Facts, add, action};
 ghost use Rattle.rules.specs.History.{read_file, fits as rule_fits};
 ghost use Rattle.json_strings.specs.Decoded.{WellSpelled};
@@ -21,7 +21,7 @@ pub use begin::{nothing_live, read_zero};
 use field_containers::Usual;
 use line_actions::{Action, Added};
 use refusals::Refusal;
-use row_live::{Found, Standing};
+use row_live::Standing;
 use row_table::Cells;
 
 // A line of the bundle; of size 0 where there is none.
@@ -44,39 +44,31 @@ pub struct State {
 
 // ---- one line
 
-// Where the rows stand; or the row is one too many.
-#[derive(Clone, Copy)]
-enum Put {
-    Rows(Standing),
-    Full,
-}
-
 // Puts the row c into the table of n rows behind `base` others, in place of the row with the same path if there is one, unless it makes
 // more than `limit`.
-fn put_row(src: &[u8], t: &mut [u64], base: usize, n: usize, limit: usize, c: Cells) -> Put
+fn put_row(
+    src: &[u8],
+    t: &mut [u64],
+    base: usize,
+    n: usize,
+    limit: usize,
+    c: Cells,
+) -> Option<Standing>
     requires { Table src.now n (behind base t.old) × WellSpelled src.now (path_at c) × (base + n ≤ limit) × Room limit t.old }
     ensures { PutIs src.now c base n limit t.old t.new result }
 {
     if n < limit {
-        let r = row_live::store(src, t, base, n, limit, c);
-        return Put::Rows(r);
+        return Some(row_live::store(src, t, base, n, limit, c));
     }
     let path = (c.head / row_live::PLACES) as usize;
     let from = base * row_table::ROW;
     match row_live::find(src, &t[from..], n, path) {
-        Found::Held(k) => {
+        Ok(k) => {
             row_table::set_row(t, base + k, c);
-            Put::Rows(Standing { base, live: n })
+            Some(Standing { base, live: n })
         }
-        Found::Place(_) => Put::Full,
+        Err(_) => None,
     }
-}
-
-// What a line did, or a file, or the files of a way: the state now; or the refusal of a line.
-#[derive(Clone, Copy)]
-pub enum Outcome {
-    Done(State),
-    Refused(Refusal),
 }
 
 // Whether an add may stand where it is. Where adds are held, its partition keys, which begin at `values` of its line and stand as `usual`
@@ -122,9 +114,9 @@ fn apply_add(
     t: &mut [u64],
     limit: usize,
     held: bool,
-) -> Outcome
+) -> Result<State, Refusal>
     requires carries { Carries src.now limit st t.old × Lies src.now from line.now × (0 < length line.now) }
-    requires action_is { ActionIs (action line.now) line.now (Add a) }
+    requires action_is { ActionIs (action line.now) line.now (Some (Add a)) }
     ensures { LineIs src.now limit held from line.now entry number st t.old t.new result }
 {
     let head = row_live::pack(from, from + a.path);
@@ -136,25 +128,15 @@ fn apply_add(
         skips: 0,
         retry: 0,
     };
-    let base = st.base;
-    let n = st.live;
-    let table = st.table;
-    let columns = st.columns;
-    let protocol = st.protocol;
-    let usual = a.usual;
-    if fits(src, line, a.values, usual, table, columns, held) {
-        return match put_row(src, t, base, n, limit, c) {
-            Put::Rows(r) => Outcome::Done(State {
-                table,
-                columns,
-                protocol,
-                base: r.base,
-                live: r.live,
-            }),
-            Put::Full => Outcome::Refused(Refusal::TooManyLive(entry, number)),
-        };
+    if !fits(src, line, a.values, a.usual, st.table, st.columns, held) {
+        return Err(Refusal::ForeignKeys(entry, number));
     }
-    Outcome::Refused(Refusal::ForeignKeys(entry, number))
+    let r = put_row(src, t, st.base, st.live, limit, c).ok_or(Refusal::TooManyLive(entry, number))?;
+    Ok(State {
+        base: r.base,
+        live: r.live,
+        ..st
+    })
 }
 
 // Applies line number `number` of entry number `entry`, which is not empty and stands in the bundle at `from`; its add is held to the
@@ -169,51 +151,39 @@ pub fn apply(
     t: &mut [u64],
     limit: usize,
     held: bool,
-) -> Outcome
+) -> Result<State, Refusal>
     requires { Carries src.now limit st t.old × Lies src.now from line.now × (0 < length line.now) }
     ensures { LineIs src.now limit held from line.now entry number st t.old t.new result }
 {
-    let base = st.base;
-    let n = st.live;
-    let table = st.table;
-    let columns = st.columns;
-    let protocol = st.protocol;
     let here = Span {
         at: from,
         size: line.len(),
     };
     match line_actions::classify(line) {
-        Action::Add(a) => apply_add(src, line, from, entry, number, a, st, t, limit, held),
-        Action::Remove(p) => {
-            let r = row_live::take_out(src, t, base, n, limit, from + p);
-            Outcome::Done(State {
-                table,
-                columns,
-                protocol,
+        Some(Action::Add(a)) => apply_add(src, line, from, entry, number, a, st, t, limit, held),
+        Some(Action::Remove(p)) => {
+            let r = row_live::take_out(src, t, st.base, st.live, limit, from + p);
+            Ok(State {
                 base: r.base,
                 live: r.live,
+                ..st
             })
         }
-        Action::Protocol(_) => Outcome::Done(State {
-            table,
-            columns,
+        Some(Action::Protocol(_)) => Ok(State {
             protocol: here,
-            base,
-            live: n,
+            ..st
         }),
-        Action::MetaData(m) => Outcome::Done(State {
+        Some(Action::MetaData(m)) => Ok(State {
             table: here,
             columns: m.columns,
-            protocol,
-            base,
-            live: n,
+            ..st
         }),
-        Action::Mergeskip(k) => {
-            row_live::mark(src, t, base, n, from + k.path, k.count, k.retry);
-            Outcome::Done(st)
+        Some(Action::Mergeskip(k)) => {
+            row_live::mark(src, t, st.base, st.live, from + k.path, k.count, k.retry);
+            Ok(st)
         }
-        Action::Other => Outcome::Done(st),
-        Action::Malformed => Outcome::Refused(Refusal::Malformed(entry, number)),
+        Some(Action::Other) => Ok(st),
+        None => Err(Refusal::Malformed(entry, number)),
     }
 }
 
@@ -231,7 +201,7 @@ pub fn read_lines(
     t: &mut [u64],
     limit: usize,
     held: bool,
-) -> Outcome
+) -> Result<State, Refusal>
     requires { Carries src.now limit st t.old × Lies src.now from body.now }
     ensures { OutcomeIs
         src.now
@@ -249,7 +219,7 @@ pub fn read_lines(
         let end = file_lines::line_end(body, at, body.len());
         let next = end + 1;
         if at < end {
-            match apply(
+            state = apply(
                 src,
                 &body[at..end],
                 from + at,
@@ -259,24 +229,16 @@ pub fn read_lines(
                 t,
                 limit,
                 held,
-            ) {
-                Outcome::Done(after) => {
-                    state = after;
-                    met = true;
-                    at = next;
-                    line += 1;
-                }
-                Outcome::Refused(x) => return Outcome::Refused(x),
-            }
-        } else {
-            at = next;
-            line += 1; // an empty line has a number all the same
+            )?;
+            met = true;
         }
+        at = next;
+        line += 1; // an empty line has a number all the same
     }
     if met {
-        return Outcome::Done(state);
+        return Ok(state);
     }
-    Outcome::Refused(Refusal::Malformed(entry, 0))
+    Err(Refusal::Malformed(entry, 0))
 }
 
 // Reads file k of the bundle: a version file, whose adds are held to the partition columns in force, or a checkpoint, whose adds are not.
@@ -287,7 +249,7 @@ pub fn read_file(
     t: &mut [u64],
     limit: usize,
     held: bool,
-) -> Outcome
+) -> Result<State, Refusal>
     requires { Carries src.now limit st t.old × (k < length (files_in src.now)) }
     ensures { OutcomeIs
         src.now

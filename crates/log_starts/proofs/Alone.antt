@@ -1,6 +1,6 @@
 -- A way has one beginning, at one version: the start that is answered is the only one.
 use mathlib.Core.Path.{◌≡◌, refl, sym, ap, ◌∙◌}
-use mathlib.Core.Option.{Option}
+use Rattle.std.specs.Prelude.{Option}
 use Prim.Native.Nat.{ℕ, suc, ◌+◌}
 use native.Mathlib.Omega.{arith}
 use Rattle.rules.specs.Bytes.{Bytes}
@@ -11,8 +11,9 @@ use Rattle.rules.proofs.Json.Suffix.{some_same, answered-none}
 use Rattle.file_bundle.specs.Files.{file_in}
 use Rattle.log_files.proofs.Alone.{number-alone}
 use Rattle.log_starts.specs.Ways.{Leads, here, next, StartIs}
+use Rattle.std.specs.Prelude.{Some, None}
 use Rattle.log_starts.specs.declared.Start.{Start}
-use Rattle.log_starts.specs.declared.Start.TheVariants.{Zero, Checkpoint, NoStart}
+use Rattle.log_starts.specs.declared.Start.TheVariants.{Zero, Checkpoint}
 
 beginning : Way → Way
 beginning from_zero = from_zero
@@ -47,19 +48,19 @@ file_of d from_zero = d
 file_of d (from_checkpoint f) = f
 file_of d (and_then w g) = d
 
-pub start-alone : (src : Bytes) (v : ℕ) (o : Option Way) (r q : Start) → StartIs src v o r → StartIs src v o q → r ≡ q
+pub start-alone : (src : Bytes) (v : ℕ) (o : Option Way) (r q : Option Start) → StartIs src v o r → StartIs src v o q → r ≡ q
 unfolding beginning files file_of
-start-alone src v o Zero Zero h k = refl
-start-alone src v o Zero (Checkpoint j u) h k = let e = begin-same h.2 k.4 (some_same (sym h.1 ∙ k.3)) in apart (cc)
-start-alone src v o Zero NoStart h k = answered-none h.1 k
-start-alone src v o (Checkpoint i s) Zero h k = let e = begin-same h.4 k.2 (some_same (sym h.3 ∙ k.1)) in apart (cc)
-start-alone src v o (Checkpoint i s) (Checkpoint j u) h k =
+start-alone src v o (Some Zero) (Some Zero) h k = refl
+start-alone src v o (Some Zero) (Some (Checkpoint j u)) h k = let e = begin-same h.2 k.4 (some_same (sym h.1 ∙ k.3)) in apart (cc)
+start-alone src v o (Some Zero) None h k = answered-none h.1 k
+start-alone src v o (Some (Checkpoint i s)) (Some Zero) h k = let e = begin-same h.4 k.2 (some_same (sym h.3 ∙ k.1)) in apart (cc)
+start-alone src v o (Some (Checkpoint i s)) (Some (Checkpoint j u)) h k =
     let both = some_same (sym h.3 ∙ k.3) in
     let same : file_in src i ≡ file_in src j = ap (file_of (file_in src i)) (begin-same h.4 k.4 both) in
     let number : i ≡ j = number-alone src i j h.0 k.0 same in
     let version : s.0 ≡ u.0 = begin-version h.4 k.4 both refl refl in
-    ap (λ (n : ℕ). Checkpoint n s) number ∙ ap (λ (n : ℕ). Checkpoint j (record { 0 = n })) version
-start-alone src v o (Checkpoint i s) NoStart h k = answered-none h.3 k
-start-alone src v o NoStart Zero h k = answered-none k.1 h
-start-alone src v o NoStart (Checkpoint j u) h k = answered-none k.3 h
-start-alone src v o NoStart NoStart h k = refl
+    ap (λ (n : ℕ). (Some (Checkpoint n s))) number ∙ ap (λ (n : ℕ). (Some (Checkpoint j (record { 0 = n })))) version
+start-alone src v o (Some (Checkpoint i s)) None h k = answered-none h.3 k
+start-alone src v o None (Some Zero) h k = answered-none k.1 h
+start-alone src v o None (Some (Checkpoint j u)) h k = answered-none k.3 h
+start-alone src v o None None h k = refl

@@ -1,7 +1,7 @@
 -- A body judged line by line: with or without the metadata said by the lines that went by.
 use mathlib.Core.Path.{◌≡◌, refl, sym, ap, ap₂, ◌∙◌}
-use mathlib.Core.Bool.{Bool, true, false, ◌&&◌}
-use mathlib.Core.Option.{Option, none, some}
+use mathlib.Core.Bool.{Bool, true, false, ◌&&◌, ◌||◌}
+use Rattle.std.specs.Prelude.{Option, None, Some}
 use mathlib.Core.List.{List, [], ◌∷◌}
 use Prim.Native.Nat.{ℕ, ◌+◌, ◌-◌, ◌≤◌, ◌<◌}
 use native.Mathlib.Nat.{not-suc-le-zero}
@@ -17,7 +17,6 @@ use Rattle.rules.proofs.Tests.{apart}
 use Rattle.rules.proofs.Applying.{action-empty}
 use Rattle.rules.proofs.Lines.{lines-part-none}
 use Rattle.line_actions.specs.Asked.{spoken_is}
-use Rattle.line_actions.specs.declared.asked.Spoken.TheVariants.{Table, Else, Nothing}
 use Rattle.file_lines.specs.Ends.{EndsLine}
 use Rattle.file_lines.proofs.Laws.{ends-lines}
 
@@ -27,44 +26,44 @@ judged false ls = every_line ls && says_table ls
 
 -- ---- a line by what is spoken
 
-spoken-nothing : (o : Option Action) → Nothing ≡ spoken_is o → o ≡ none
+spoken-nothing : (o : Option Action) → None ≡ spoken_is o → o ≡ None
 unfolding spoken_is
-spoken-nothing none e = refl
-spoken-nothing (some (add f)) e = apart (cc)
-spoken-nothing (some (remove p)) e = apart (cc)
-spoken-nothing (some (protocol p)) e = apart (cc)
-spoken-nothing (some (meta_data m)) e = apart (cc)
-spoken-nothing (some (mergeskip p k)) e = apart (cc)
-spoken-nothing (some other) e = apart (cc)
+spoken-nothing None e = refl
+spoken-nothing (Some (add f)) e = apart (cc)
+spoken-nothing (Some (remove p)) e = apart (cc)
+spoken-nothing (Some (protocol p)) e = apart (cc)
+spoken-nothing (Some (meta_data m)) e = apart (cc)
+spoken-nothing (Some (mergeskip p k)) e = apart (cc)
+spoken-nothing (Some other) e = apart (cc)
 
-spoken-table : (o : Option Action) → Table ≡ spoken_is o → (a : Action) × (o ≡ some a) × (is_table o ≡ true)
+spoken-table : (o : Option Action) → (Some true) ≡ spoken_is o → (a : Action) × (o ≡ Some a) × (is_table o ≡ true)
 unfolding spoken_is is_table
-spoken-table none e = apart (cc)
-spoken-table (some (add f)) e = apart (cc)
-spoken-table (some (remove p)) e = apart (cc)
-spoken-table (some (protocol p)) e = apart (cc)
-spoken-table (some (meta_data m)) e = (meta_data m, refl, refl)
-spoken-table (some (mergeskip p k)) e = apart (cc)
-spoken-table (some other) e = apart (cc)
+spoken-table None e = apart (cc)
+spoken-table (Some (add f)) e = apart (cc)
+spoken-table (Some (remove p)) e = apart (cc)
+spoken-table (Some (protocol p)) e = apart (cc)
+spoken-table (Some (meta_data m)) e = (meta_data m, refl, refl)
+spoken-table (Some (mergeskip p k)) e = apart (cc)
+spoken-table (Some other) e = apart (cc)
 
-spoken-else : (o : Option Action) → Else ≡ spoken_is o → (a : Action) × (o ≡ some a) × (is_table o ≡ false)
+spoken-else : (o : Option Action) → (Some false) ≡ spoken_is o → (a : Action) × (o ≡ Some a) × (is_table o ≡ false)
 unfolding spoken_is is_table
-spoken-else none e = apart (cc)
-spoken-else (some (add f)) e = (add f, refl, refl)
-spoken-else (some (remove p)) e = (remove p, refl, refl)
-spoken-else (some (protocol p)) e = (protocol p, refl, refl)
-spoken-else (some (meta_data m)) e = apart (cc)
-spoken-else (some (mergeskip p k)) e = (mergeskip p k, refl, refl)
-spoken-else (some other) e = (other, refl, refl)
+spoken-else None e = apart (cc)
+spoken-else (Some (add f)) e = (add f, refl, refl)
+spoken-else (Some (remove p)) e = (remove p, refl, refl)
+spoken-else (Some (protocol p)) e = (protocol p, refl, refl)
+spoken-else (Some (meta_data m)) e = apart (cc)
+spoken-else (Some (mergeskip p k)) e = (mergeskip p k, refl, refl)
+spoken-else (Some other) e = (other, refl, refl)
 
 -- ---- a line more
 
-every-good : (l : Bytes) (ls : List Bytes) {a : Action} → 0 < length l → action l ≡ some a → every_line (l ∷ ls) ≡ every_line ls
+every-good : (l : Bytes) (ls : List Bytes) {a : Action} → 0 < length l → action l ≡ Some a → every_line (l ∷ ls) ≡ every_line ls
 unfolding every_line
 every-good [] ls h e = absurd (not-suc-le-zero h)
 every-good (b ∷ bs) ls h e = rw (every_line, e)
 
-every-bad : (l : Bytes) (ls : List Bytes) → 0 < length l → action l ≡ none → every_line (l ∷ ls) ≡ false
+every-bad : (l : Bytes) (ls : List Bytes) → 0 < length l → action l ≡ None → every_line (l ∷ ls) ≡ false
 unfolding every_line
 every-bad [] ls h e = absurd (not-suc-le-zero h)
 every-bad (b ∷ bs) ls h e = rw (every_line, e)
@@ -82,22 +81,30 @@ and-true : (b : Bool) → (b && true) ≡ b
 and-true true = refl
 and-true false = refl
 
+or-true : (b : Bool) → (b || true) ≡ true
+or-true true = refl
+or-true false = refl
+
+or-false : (b : Bool) → (b || false) ≡ b
+or-false true = refl
+or-false false = refl
+
 judged-empty : (told : Bool) (l : Bytes) (ls : List Bytes) → length l ≡ 0 → judged told (l ∷ ls) ≡ judged told ls
 unfolding every_line is_table
 judged-empty true [] ls h = refl
 judged-empty false [] ls h = ap (λ (b : Bool). every_line ls && b) (says_past [] ls (ap is_table action-empty))
 judged-empty told (b ∷ bs) ls h = absurd (omega arith)
 
-judged-bad : (told : Bool) (l : Bytes) (ls : List Bytes) → 0 < length l → action l ≡ none → judged told (l ∷ ls) ≡ false
+judged-bad : (told : Bool) (l : Bytes) (ls : List Bytes) → 0 < length l → action l ≡ None → judged told (l ∷ ls) ≡ false
 judged-bad true l ls h e = every-bad l ls h e
 judged-bad false l ls h e = ap (λ (b : Bool). b && says_table (l ∷ ls)) (every-bad l ls h e)
 
-judged-table : (told : Bool) (l : Bytes) (ls : List Bytes) {a : Action} → 0 < length l → action l ≡ some a → is_table (action l) ≡ true
+judged-table : (told : Bool) (l : Bytes) (ls : List Bytes) {a : Action} → 0 < length l → action l ≡ Some a → is_table (action l) ≡ true
     → judged told (l ∷ ls) ≡ judged true ls
 judged-table true l ls h e t = every-good l ls h e
 judged-table false l ls h e t = ap₂ ◌&&◌ (every-good l ls h e) (says_here l ls t) ∙ and-true (every_line ls)
 
-judged-else : (told : Bool) (l : Bytes) (ls : List Bytes) {a : Action} → 0 < length l → action l ≡ some a → is_table (action l) ≡ false
+judged-else : (told : Bool) (l : Bytes) (ls : List Bytes) {a : Action} → 0 < length l → action l ≡ Some a → is_table (action l) ≡ false
     → judged told (l ∷ ls) ≡ judged told ls
 judged-else true l ls h e t = every-good l ls h e
 judged-else false l ls h e t = ap₂ ◌&&◌ (every-good l ls h e) (says_past l ls t)
@@ -152,15 +159,20 @@ module _ (body : Bytes) (from : ℕ) (told : Bool) (j : Judging body from told) 
     judging-empty h = turn ∙ judged-empty told (part body from e) _ (omega (arith, size))
 
     module _ (h : from < e) where
-      pub judging-bad : Nothing ≡ spoken_is (action (part body from e)) → false ≡ is_start body
+      pub judging-bad : None ≡ spoken_is (action (part body from e)) → false ≡ is_start body
       judging-bad a = sym (turn ∙ judged-bad told (part body from e) _ (omega (arith, size)) (spoken-nothing _ a))
 
-      pub judging-table : Table ≡ spoken_is (action (part body from e)) → Judging body (e + 1) true
+      judging-table : (Some true) ≡ spoken_is (action (part body from e)) → Judging body (e + 1) true
       judging-table a =
           let (x, q, t) = spoken-table _ a in
           turn ∙ judged-table told (part body from e) _ (omega (arith, size)) q t
 
-      pub judging-else : Else ≡ spoken_is (action (part body from e)) → Judging body (e + 1) told
+      judging-else : (Some false) ≡ spoken_is (action (part body from e)) → Judging body (e + 1) told
       judging-else a =
           let (x, q, t) = spoken-else _ a in
           turn ∙ judged-else told (part body from e) _ (omega (arith, size)) q t
+
+      -- a line that says an action, the metadata or another
+      pub judging-more : (table : Bool) → Some table ≡ spoken_is (action (part body from e)) → Judging body (e + 1) (told || table)
+      judging-more true a = rw (or-true told) (judging-table a)
+      judging-more false a = rw (or-false told) (judging-else a)

@@ -1,7 +1,7 @@
 -- The marker by the slots of its fields.
 use mathlib.Core.Path.{◌≡◌, refl, sym, ◌∙◌}
 use mathlib.Core.Bool.{Bool, true, false}
-use mathlib.Core.Option.{Option, none, some}
+use Rattle.std.specs.Prelude.{Option, None, Some}
 use mathlib.Core.List.{List}
 use Prim.Native.Nat.{ℕ}
 use native.Mathlib.Omega.{arith}
@@ -31,41 +31,41 @@ chosen o p q = do
   _ ← guard p
   f ← q
   _ ← guard (is_json f)
-  some n
+  Some n
 
 bind_assoc : {A B C : Type 0} (o : Option A) (f : A → Option B) (g : B → Option C) → (o >>= λ a. f a >>= g) ≡ (o >>= f >>= g)
-bind_assoc none f g = refl
-bind_assoc (some a) f g = refl
+bind_assoc None f g = refl
+bind_assoc (Some a) f g = refl
 
-marker-asks : (s : Text) (ms : List Member) → object_of in_line s ≡ some ms
+marker-asks : (s : Text) (ms : List Member) → object_of in_line s ≡ Some ms
     → marker_version s ≡ chosen (whole_at "version" ms) (absent "parts" ms) (optional "format" ms >>= if_there string_of)
 unfolding marker_version
 marker-asks s ms e = rw (marker_version, e) (go (whole_at "version" ms) (absent "parts" ms))
   where
     go : (o : Option ℕ) (p : Bool)
-        → (o >>= λ n. guard p >>= λ _. optional "format" ms >>= λ v. if_there string_of v >>= λ f. guard (is_json f) >>= λ _. some n)
+        → (o >>= λ n. guard p >>= λ _. optional "format" ms >>= λ v. if_there string_of v >>= λ f. guard (is_json f) >>= λ _. Some n)
         ≡ chosen o p (optional "format" ms >>= if_there string_of)
-    go none p = refl
-    go (some n) true = bind_assoc (optional "format" ms) (if_there string_of) (λ f. guard (is_json f) >>= λ _. some n)
-    go (some n) false = refl
+    go None p = refl
+    go (Some n) true = bind_assoc (optional "format" ms) (if_there string_of) (λ f. guard (is_json f) >>= λ _. Some n)
+    go (Some n) false = refl
 
-chosen-parts : (o : Option ℕ) (q : Option (Option Bytes)) → chosen o false q ≡ none
-chosen-parts none q = refl
-chosen-parts (some n) q = refl
+chosen-parts : (o : Option ℕ) (q : Option (Option Bytes)) → chosen o false q ≡ None
+chosen-parts None q = refl
+chosen-parts (Some n) q = refl
 
 chosen-format : (o : Option ℕ) (q : Option (Option Bytes)) (b : Bool) → fits q ≡ b → chosen o true q ≡ (guard b >>= λ _. o)
-chosen-format none q true e = refl
-chosen-format none q false e = refl
-chosen-format (some n) none b e = rw (← e)
-chosen-format (some n) (some f) b e = rw e
+chosen-format None q true e = refl
+chosen-format None q false e = refl
+chosen-format (Some n) None b e = rw (← e)
+chosen-format (Some n) (Some f) b e = rw e
 
 -- ---- by its slots
 
-pub marker-none : (s : Text) → object_of in_line s ≡ none → marker_version s ≡ none
+pub marker-none : (s : Text) → object_of in_line s ≡ None → marker_version s ≡ None
 unfolding marker_version
 marker-none s e = rw (marker_version, e)
 
-module _ (s : Text) (ms : List Member) (e : object_of in_line s ≡ some ms) (slots : List Slot) (each : Each s (names_of Marker) ms slots) where
+module _ (s : Text) (ms : List Member) (e : object_of in_line s ≡ Some ms) (slots : List Slot) (each : Each s (names_of Marker) ms slots) where
   marker-slots : marker_version s ≡ chosen (whole_in s (get_or slots 0 missing)) (eqb (get_or slots 1 missing).seen 0) (format_in s (get_or slots 2 missing))
   unfolding names_of
   marker-slots =
@@ -79,7 +79,7 @@ module _ (s : Text) (ms : List Member) (e : object_of in_line s ≡ some ms) (sl
         slot-optional s "format" ms z.seen z.start z.end (each 2 (omega arith)),
       )
 
-  pub marker-parts : ((get_or slots 1 missing).seen ≡ 0 → ⊥) → marker_version s ≡ none
+  pub marker-parts : ((get_or slots 1 missing).seen ≡ 0 → ⊥) → marker_version s ≡ None
   marker-parts n =
       marker-slots ∙ rw (ne_eqb (get_or slots 1 missing).seen 0 n) (chosen-parts (whole_in s (get_or slots 0 missing)) (format_in s (get_or slots 2 missing)))
 

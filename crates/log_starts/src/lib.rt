@@ -6,20 +6,17 @@ ghost use Rattle.rules.specs.Numbers.{most};
 ghost use Rattle.rules.specs.Bundle.{IsBundle};
 ghost use Rattle.rules.specs.Starts.{log_of, start_at, way_to, other_way_to, is_start};
 ghost use Rattle.rules.specs.Marker.{marker_version, marked as rule_marked, climb as rule_climb, latest as rule_latest};
-ghost use Rattle.bytes_values.specs.Answers.{whole_is};
 ghost use Rattle.file_bundle.specs.Files.{files_in};
 ghost use Rattle.log_files.specs.Logs.{PlaceIs};
 ghost use Rattle.field_scalars.specs.Inside.{Inside};
 ghost use Rattle.log_starts.specs.Marks.{format_in, fits, named_by, mark_is};
 ghost use Rattle.log_starts.specs.Ways.{StartIs, passing};
 
-use bytes_values::{MOST, Whole};
+use bytes_values::MOST;
 use field_names::Kind;
 use field_objects::Slot;
-use field_scalars::{Optional, Wording};
 use file_names::Version;
-use line_actions::{IN_LINE, Spoken};
-use log_files::Place;
+use line_actions::IN_LINE;
 
 // ---- the marker's text
 
@@ -29,32 +26,30 @@ fn format_fits(t: &[u8], slot: Slot) -> bool
     ensures { result ≡ fits (format_in t.now slot) }
 {
     match field_scalars::optional_in(t, slot) {
-        Optional::Twice => false,
-        Optional::Missing => true,
-        Optional::At(v, e) => match field_scalars::string_at(t, v, e) {
-            Wording::Sized(p, _) => json_strings::string_is(t, p, b"json"),
-            Wording::NoString => false,
+        None => false,
+        Some(None) => true,
+        Some(Some((v, e))) => match field_scalars::string_at(t, v, e) {
+            Some((p, _)) => json_strings::string_is(t, p, b"json"),
+            None => false,
         },
     }
 }
 
 // The version of a marker with this text.
-pub fn marker_version(t: &[u8]) -> Whole
-    ensures { result ≡ whole_is (marker_version t.now) }
+pub fn marker_version(t: &[u8]) -> Option<u64>
+    ensures { result ≡ marker_version t.now }
 {
-    let f = field_objects::object_of(t, Kind::Marker, IN_LINE);
-    if f.good {
-        let version = f.slots[0];
-        let parts = f.slots[1];
-        let format = f.slots[2];
-        if parts.seen != 0 {
-            return Whole::NotWhole;
-        }
-        if format_fits(t, format) {
-            return field_scalars::whole_in(t, version);
-        }
+    let f = field_objects::object_of(t, Kind::Marker, IN_LINE)?;
+    let version = f.slots[0];
+    let parts = f.slots[1];
+    let format = f.slots[2];
+    if parts.seen != 0 {
+        return None;
     }
-    Whole::NotWhole
+    if format_fits(t, format) {
+        return field_scalars::whole_in(t, version);
+    }
+    None
 }
 
 // ---- starts
@@ -69,32 +64,25 @@ pub fn is_start(body: &[u8]) -> bool
         let end = file_lines::line_end(body, from, body.len());
         if from < end {
             match line_actions::speaks(&body[from..end]) {
-                Spoken::Table => {
-                    told = true;
-                    from = end + 1;
-                }
-                Spoken::Else => from = end + 1,
-                Spoken::Nothing => return false,
+                None => return false,
+                Some(table) => told |= table,
             }
-        } else {
-            from = end + 1;
         }
+        from = end + 1;
     }
     told
 }
 
 // Where the checkpoint at v stands, if it is a start.
-pub fn start_at(s: &[u8], v: Version, near: usize) -> Place
+pub fn start_at(s: &[u8], v: Version, near: usize) -> Option<usize>
     requires { IsBundle s.now }
     ensures { PlaceIs s.now (start_at (log_of (files_in s.now)) v.0) result }
 {
-    let Place::At(k) = log_files::checkpoint_file(s, v, near) else {
-        return Place::Nowhere;
-    };
+    let k = log_files::checkpoint_file(s, v, near)?;
     if is_start(file_bundle::body_in(s, k)) {
-        return Place::At(k);
+        return Some(k);
     }
-    Place::Nowhere
+    None
 }
 
 // From where a version is read: from version file 0, from the checkpoint of entry k at a version, or from nowhere.
@@ -102,47 +90,37 @@ pub fn start_at(s: &[u8], v: Version, near: usize) -> Place
 pub enum Start {
     Zero,
     Checkpoint(usize, Version),
-    NoStart,
-}
-
-// The place before k, or the first.
-fn place_before(k: usize) -> usize {
-    if k == 0 { 0 } else { k - 1 }
 }
 
 // The highest start that reaches v, on equal versions the checkpoint.
-pub fn start_for(s: &[u8], v: Version, near: usize) -> Start
+pub fn start_for(s: &[u8], v: Version, near: usize) -> Option<Start>
     requires { IsBundle s.now }
     ensures { StartIs s.now v.0 (way_to (log_of (files_in s.now)) v.0) result }
 {
     let mut w = v.0;
     let mut place = near;
     loop {
-        if let Place::At(k) = start_at(s, Version(w), place) {
-            return Start::Checkpoint(k, Version(w));
+        if let Some(k) = start_at(s, Version(w), place) {
+            return Some(Start::Checkpoint(k, Version(w)));
         }
         if w == 0 {
-            return Start::Zero;
+            return Some(Start::Zero);
         }
-        let Place::At(k) = log_files::version_file(s, Version(w), place) else {
-            return Start::NoStart;
-        };
+        let k = log_files::version_file(s, Version(w), place)?;
         w -= 1;
-        place = place_before(k);
+        place = k.saturating_sub(1);
     }
 }
 
 // The highest start that reaches c, other than the checkpoint at c.
-pub fn other_start_for(s: &[u8], c: Version) -> Start
+pub fn other_start_for(s: &[u8], c: Version) -> Option<Start>
     requires { IsBundle s.now }
     ensures { StartIs s.now c.0 (other_way_to (log_of (files_in s.now)) c.0) result }
 {
     if c.0 == 0 {
-        return Start::Zero;
+        return Some(Start::Zero);
     }
-    let Place::At(k) = log_files::version_file(s, c, 0) else {
-        return Start::NoStart;
-    };
+    let k = log_files::version_file(s, c, 0)?;
     start_for(s, Version(c.0 - 1), k)
 }
 
@@ -151,53 +129,39 @@ pub fn passes(s: &[u8], n: Version, v: Version, near: usize) -> bool
     requires { IsBundle s.now × (n.0 ≤ v.0) }
     ensures { result ≡ passing (log_of (files_in s.now)) n.0 (v.0 - n.0) }
 {
-    let mut w = v.0;
     let mut place = near;
-    while n.0 < w {
-        let Place::Nowhere = start_at(s, Version(w), place) else {
+    for w in (n.0..v.0).rev() {
+        let above = Version(w + 1);
+        if start_at(s, above, place).is_some() {
+            return false;
+        }
+        let Some(k) = log_files::version_file(s, above, place) else {
             return false;
         };
-        let Place::At(k) = log_files::version_file(s, Version(w), place) else {
-            return false;
-        };
-        w -= 1;
-        place = place_before(k);
+        place = k.saturating_sub(1);
     }
     true
 }
 
 // ---- the latest version
 
-// The version that the marker names, if the marker is usable.
-#[derive(Clone, Copy)]
-pub enum Mark {
-    At(Version),
-    Nothing,
-}
-
 // The version that the marker's text names, whatever stands there.
-pub fn named(s: &[u8]) -> Whole
+pub fn named(s: &[u8]) -> Option<u64>
     requires { IsBundle s.now }
-    ensures { result ≡ whole_is (named_by (log_of (files_in s.now))) }
+    ensures { result ≡ named_by (log_of (files_in s.now)) }
 {
-    let Place::At(m) = log_files::marker_file(s) else {
-        return Whole::NotWhole;
-    };
+    let m = log_files::marker_file(s)?;
     marker_version(file_bundle::body_in(s, m))
 }
 
 // What the marker of the log names.
-pub fn marked(s: &[u8]) -> Mark
+pub fn marked(s: &[u8]) -> Option<Version>
     requires { IsBundle s.now }
     ensures { result ≡ mark_is (rule_marked (log_of (files_in s.now))) }
 {
-    let Whole::Number(n) = named(s) else {
-        return Mark::Nothing;
-    };
-    match start_at(s, Version(n), 0) {
-        Place::At(_) => Mark::At(Version(n)),
-        Place::Nowhere => Mark::Nothing,
-    }
+    let n = named(s)?;
+    start_at(s, Version(n), 0)?;
+    Some(Version(n))
 }
 
 // Up from v as far as there is no gap.
@@ -205,16 +169,14 @@ pub fn climb(s: &[u8], v: Version, near: usize) -> Version
     requires { IsBundle s.now }
     ensures { result.0 ≡ rule_climb most (log_of (files_in s.now)) v.0 }
 {
-    let mut w = v.0;
     let mut place = near;
-    while w < MOST {
-        let Place::At(k) = log_files::version_file(s, Version(w + 1), place) else {
+    for w in v.0..MOST {
+        let Some(k) = log_files::version_file(s, Version(w + 1), place) else {
             return Version(w);
         };
         place = k + 1;
-        w += 1;
     }
-    Version(w)
+    Version(v.0.max(MOST)) // no version is above MOST
 }
 
 // The latest version: up from what the marker names, or from version 0.
@@ -223,7 +185,7 @@ pub fn latest(s: &[u8]) -> Version
     ensures { result.0 ≡ rule_latest (log_of (files_in s.now)) }
 {
     match marked(s) {
-        Mark::At(v) => climb(s, v, 0),
-        Mark::Nothing => climb(s, Version(0), 0),
+        Some(v) => climb(s, v, 0),
+        None => climb(s, Version(0), 0),
     }
 }

@@ -5,6 +5,6 @@ mod bounds;
 mod columns;
 mod states;
 
-pub use bounds::{Range, range_of};
+pub use bounds::range_of;
 pub use columns::IN_BOUNDS;
-pub use states::{Array, Stated, array_in, manifest_of};
+pub use states::{array_in, manifest_of};

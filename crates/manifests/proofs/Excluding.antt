@@ -1,27 +1,37 @@
 -- What drops a manifest, by its columns as they stand.
 use mathlib.Core.Path.{◌≡◌, refl, sym, ap, ◌∙◌, subst}
 use mathlib.Core.Bool.{Bool, true, false}
-use mathlib.Core.Option.{Option, none, some}
-use mathlib.Core.List.{List, [], ◌∷◌}
-use Prim.Native.Nat.{ℕ, ◌+◌, ◌≤◌, ◌<◌}
-use lib.ListN.{length, drop, get_or}
+use Rattle.std.specs.Prelude.{Option, None, Some}
+use Rattle.std.specs.Option.{option_flatten}
+use Rattle.std.specs.List.{list_any}
+use mathlib.Core.List.{List, [], ◌∷◌, map}
+use Prim.Native.Nat.{ℕ}
+use lib.ListN.{take, drop}
 use Rattle.rules.specs.Bytes.{Bytes, same}
 use Rattle.rules.specs.Query.{Condition}
 use Rattle.rules.specs.Manifests.{Bounds, Manifest, bounds_of, columns_in, outside_as, both_there, drops, dropped}
 use Rattle.rules.specs.Json.Text.{Text}
 use Rattle.rules.specs.Json.Values.{Member}
-use Rattle.rules.proofs.Tests.{apart, by}
+use Rattle.rules.proofs.Tests.{apart}
 use Rattle.rules.proofs.Json.Suffix.{some_same, bound, answered-none}
 use Rattle.field_objects.specs.Lookup.{lookup}
 use Rattle.query_conditions.specs.Conditions.{condition_of}
-use Rattle.query_conditions.specs.Reading.{no_condition, conditions_of}
+use Rattle.query_conditions.specs.Reading.{conditions_of}
 use Rattle.query_conditions.specs.declared.conditions.Condition.{Condition as Said}
-use Rattle.query_conditions.proofs.Columns.{conditions-here, conditions-end}
 use Rattle.json_strings.specs.Decoded.{decoded}
-use Rattle.manifest_state.specs.Ranges.{from_to, Both, OneMissing}
-use Rattle.manifest_state.specs.Tables.{Table, Columns}
+use Rattle.manifest_state.specs.Ranges.{from_to, Both, RangeIs}
+use Rattle.manifest_state.specs.Tables.{Table}
 use Rattle.manifests.specs.Verdicts.{verdict_by, verdict_of}
-use Rattle.manifests.specs.declared.judging.Verdict.TheVariants.{Kept, Dropped, Malformed}
+
+-- ---- bounds
+
+-- both are stated
+pub range-both : (o : Option Bounds) (x : Text) (r : Option (Option (ℕ × ℕ))) → RangeIs o x r → (lo hi : ℕ) → Some (lo, hi) ≡ option_flatten r → Both o x lo hi
+range-both o x None w lo hi e = apart (cc)
+range-both o x (Some None) w lo hi e = apart (cc)
+range-both o x (Some (Some (a, b))) w lo hi e =
+    let same : ◌≡◌ {A = Option (ℕ × ℕ)} (Some (a, b)) (Some (lo, hi)) = sym e in
+    subst (λ (s : Option (ℕ × ℕ)). RangeIs o x (Some s)) same w
 
 -- ---- one condition
 
@@ -33,7 +43,7 @@ drops-past : (c : Condition) (b : Bytes × Bounds) (bs : Table) → same c.colum
 unfolding drops
 drops-past c b bs e = rw (drops, e)
 
-lookup-here : (name : Bytes) (m : Member) (ms : List Member) → same name m.0 ≡ true → lookup name (m ∷ ms) ≡ some m.1
+lookup-here : (name : Bytes) (m : Member) (ms : List Member) → same name m.0 ≡ true → lookup name (m ∷ ms) ≡ Some m.1
 unfolding lookup
 lookup-here name m ms e = rw (lookup, e)
 
@@ -43,53 +53,49 @@ lookup-past name m ms e = rw (lookup, e)
 
 -- what the condition asks of its column, if the column is there
 abbrev asks : Condition → Option Text → Bool → Type 0
-asks c none b = b ≡ false
-asks c (some x) b = (s : Bounds) × (bounds_of x ≡ some s) × (b ≡ both_there c s.min s.max)
+asks c None b = b ≡ false
+asks c (Some x) b = (s : Bounds) × (bounds_of x ≡ Some s) × (b ≡ both_there c s.min s.max)
 
-drops-asks : (c : Condition) (ms : List Member) (bs : Table) → columns_in ms ≡ some bs → asks c (lookup c.column ms) (drops c bs)
+drops-asks : (c : Condition) (ms : List Member) (bs : Table) → columns_in ms ≡ Some bs → asks c (lookup c.column ms) (drops c bs)
 unfolding lookup columns_in drops
 drops-asks c [] bs e = sym (ap (drops c) (some_same e))
 drops-asks c (m ∷ ms) bs e =
     bound (bounds_of m.1) _ e (λ s f g.
     bound (columns_in ms) _ g (λ more h i. go (drops-asks c ms more h) s f (sym (some_same i)) (same c.column m.0) refl))
   where
-    go : {more : Table} → asks c (lookup c.column ms) (drops c more) → (s : Bounds) → bounds_of m.1 ≡ some s → bs ≡ (m.0, s) ∷ more
+    go : {more : Table} → asks c (lookup c.column ms) (drops c more) → (s : Bounds) → bounds_of m.1 ≡ Some s → bs ≡ (m.0, s) ∷ more
         → (test : Bool) → same c.column m.0 ≡ test → asks c (lookup c.column (m ∷ ms)) (drops c bs)
     go {more} ih s f i true t = subst (λ o. asks c o (drops c bs)) (sym (lookup-here c.column m ms t)) (s, f, ap (drops c) i ∙ drops-here c (m.0, s) more t)
     go {more} ih s f i false t = subst (λ o. asks c o (drops c bs)) (sym (lookup-past c.column m ms t))
         (subst (λ (b : Bool). asks c (lookup c.column ms) b) (sym (ap (drops c) i ∙ drops-past c (m.0, s) more t)) ih)
 
-module _ (c : Condition) (ms : List Member) (bs : Table) (e : columns_in ms ≡ some bs) where
-  pub drops-missing : lookup c.column ms ≡ none → false ≡ drops c bs
+module _ (c : Condition) (ms : List Member) (bs : Table) (e : columns_in ms ≡ Some bs) where
+  pub drops-missing : lookup c.column ms ≡ None → false ≡ drops c bs
   drops-missing n = sym (subst (λ o. asks c o (drops c bs)) n (drops-asks c ms bs e))
 
-  module _ (x : Text) (f : lookup c.column ms ≡ some x) where
-    drops-found : (s : Bounds) × (bounds_of x ≡ some s) × (drops c bs ≡ both_there c s.min s.max)
+  module _ (x : Text) (f : lookup c.column ms ≡ Some x) where
+    drops-found : (s : Bounds) × (bounds_of x ≡ Some s) × (drops c bs ≡ both_there c s.min s.max)
     drops-found = subst (λ o. asks c o (drops c bs)) f (drops-asks c ms bs e)
 
-    drops-bounds : (s : Bounds) → bounds_of x ≡ some s → drops c bs ≡ both_there c s.min s.max
+    drops-bounds : (s : Bounds) → bounds_of x ≡ Some s → drops c bs ≡ both_there c s.min s.max
     drops-bounds s g =
         let (t, h, i) = drops-found in
         i ∙ ap (λ (b : Bounds). both_there c b.min b.max) (some_same (sym h ∙ g))
 
-    pub drops-between : (lo hi : ℕ) → Both (bounds_of x) x lo hi → {b : Bool}
+    pub drops-by : (lo hi : ℕ) → Both (bounds_of x) x lo hi → {b : Bool}
         → b ≡ outside_as c.kind c.op c.bound (decoded (drop lo x)) (decoded (drop hi x)) → b ≡ drops c bs
     unfolding both_there
-    drops-between lo hi r g = g ∙ sym (drops-bounds (from_to x lo hi) r.says)
+    drops-by lo hi r g = g ∙ sym (drops-bounds (from_to x lo hi) r.says)
 
-    pub drops-open : OneMissing (bounds_of x) → false ≡ drops c bs
-    drops-open r = sym (drops-bounds r.bounds r.says ∙ r.drops-none c)
-
-    pub drops-malformed : {P : Type 0} → bounds_of x ≡ none → P
-    drops-malformed g = let (t, h, i) = drops-found in answered-none h g
+    -- one of them is missing; malformed they cannot be
+    pub drops-open : (r : Option (Option (ℕ × ℕ))) → RangeIs (bounds_of x) x r → None ≡ option_flatten r → false ≡ drops c bs
+    drops-open None w e = let (t, h, i) = drops-found in answered-none h w
+    drops-open (Some None) w e = sym (drops-bounds w.bounds w.says ∙ w.drops-none c)
+    drops-open (Some (Some (a, b))) w e = apart (cc)
 
 -- ---- all conditions
 
 module _ (m : Manifest) where
-  dropped-here : (c : Condition) (cs : List Condition) → drops c m.bounds ≡ true → dropped (c ∷ cs) m ≡ true
-  unfolding dropped
-  dropped-here c cs e = rw (dropped, e)
-
   dropped-past : (c : Condition) (cs : List Condition) → drops c m.bounds ≡ false → dropped (c ∷ cs) m ≡ dropped cs m
   unfolding dropped
   dropped-past c cs e = rw (dropped, e)
@@ -100,47 +106,23 @@ module _ (m : Manifest) where
   dropped-none [] e = refl
   dropped-none (c ∷ cs) e = dropped-past c cs (ap (drops c) e) ∙ dropped-none cs e
 
--- the first k of n conditions do not drop it
-abbrev pub Passed : (q : Text) (n : ℕ) (cs : List Said) (t : Text) (at k : ℕ) → Type 0
-Passed q n cs t at k = (m : Manifest) → Columns t at m.bounds → dropped (conditions_of q n cs) m ≡ dropped (drop k (conditions_of q n cs)) m
-
-module _ (q : Text) (n : ℕ) (cs : List Said) (l : n ≤ length cs) (t : Text) (at k : ℕ) (p : Passed q n cs t at k) where
-  pub passed-end : n ≤ k → (m : Manifest) → Columns t at m.bounds → false ≡ dropped (conditions_of q n cs) m
-  unfolding dropped
-  passed-end h m w = sym (p m w ∙ ap (λ (xs : List Condition). dropped xs m) (conditions-end q n cs l k h))
-
-  module _ (h : k < n) (b : Bool) (e : (columns : Table) → Columns t at columns → b ≡ drops (condition_of q (get_or cs k no_condition)) columns) where
-    pub passed-drops : b ≡ true → (m : Manifest) → Columns t at m.bounds → true ≡ dropped (conditions_of q n cs) m
-    passed-drops f m w =
-        sym (p m w ∙ ap (λ (xs : List Condition). dropped xs m) (conditions-here q n cs l k h) ∙ dropped-here m _ _ (sym (e m.bounds w) ∙ f))
-
-    pub passed-more : b ≡ false → Passed q n cs t at (k + 1)
-    passed-more f m w = p m w ∙ ap (λ (xs : List Condition). dropped xs m) (conditions-here q n cs l k h) ∙ dropped-past m _ _ (sym (e m.bounds w) ∙ f)
+  -- whether one of the first n conditions drops it
+  pub dropped-any : (q : Text) (n : ℕ) (cs : List Said)
+      → list_any (λ (c : Said). drops (condition_of q c) m.bounds) (take n cs) ≡ dropped (conditions_of q n cs) m
+  unfolding conditions_of dropped
+  dropped-any q n cs = each (take n cs)
+    where
+      each : (xs : List Said) → list_any (λ (c : Said). drops (condition_of q c) m.bounds) xs ≡ dropped (map (condition_of q) xs) m
+      each [] = refl
+      each (x ∷ xs) = go (each xs) (drops (condition_of q x) m.bounds) refl
+        where
+          go : list_any (λ (c : Said). drops (condition_of q c) m.bounds) xs ≡ dropped (map (condition_of q) xs) m
+              → (b : Bool) → drops (condition_of q x) m.bounds ≡ b
+              → list_any (λ (c : Said). drops (condition_of q c) m.bounds) (x ∷ xs) ≡ dropped (map (condition_of q) (x ∷ xs)) m
+          go ih true e = rw (dropped, e)
+          go ih false e = rw (dropped, e, ih)
 
 -- ---- the verdict
 
-module _ (cs : List Condition) where
-  pub verdict-none : {o : Option Manifest} → o ≡ none → Malformed ≡ verdict_of cs o
-  verdict-none e = sym (ap (verdict_of cs) e)
-
-  pub verdict-some : {o : Option Manifest} {m : Manifest} {b : Bool} → o ≡ some m → dropped cs m ≡ b → verdict_by b ≡ verdict_of cs o
-  verdict-some e f = sym (ap (verdict_of cs) e ∙ ap verdict_by f)
-
-  -- what a verdict says of the manifest
-  pub malformed-none : (o : Option Manifest) → Malformed ≡ verdict_of cs o → o ≡ none
-  malformed-none none e = refl
-  malformed-none (some m) e = by (dropped cs m)
-      (λ t. let z : Malformed ≡ Dropped = e ∙ ap verdict_by t in apart (cc))
-      (λ t. let z : Malformed ≡ Kept = e ∙ ap verdict_by t in apart (cc))
-
-  pub dropped-some : (o : Option Manifest) → Dropped ≡ verdict_of cs o → (m : Manifest) × (o ≡ some m) × (dropped cs m ≡ true)
-  dropped-some none e = apart (cc)
-  dropped-some (some m) e = by (dropped cs m)
-      (λ t. (m, refl, t))
-      (λ t. let z : Dropped ≡ Kept = e ∙ ap verdict_by t in apart (cc))
-
-  pub kept-some : (o : Option Manifest) → Kept ≡ verdict_of cs o → (m : Manifest) × (o ≡ some m) × (dropped cs m ≡ false)
-  kept-some none e = apart (cc)
-  kept-some (some m) e = by (dropped cs m)
-      (λ t. let z : Kept ≡ Dropped = e ∙ ap verdict_by t in apart (cc))
-      (λ t. (m, refl, t))
+pub verdict-kept : (cs : List Condition) {o : Option Manifest} {m : Manifest} → o ≡ Some m → dropped cs m ≡ false → Some true ≡ verdict_of cs o
+verdict-kept cs e f = sym (ap (verdict_of cs) e ∙ ap verdict_by f)

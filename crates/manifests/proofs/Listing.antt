@@ -1,7 +1,7 @@
 -- The manifests of an array: one after another, and as a text of their own.
 use mathlib.Core.Path.{◌≡◌, refl, ap, ◌∙◌}
 use mathlib.Core.Bool.{Bool, true, false}
-use mathlib.Core.Option.{Option, none, some}
+use Rattle.std.specs.Prelude.{Option, None, Some}
 use mathlib.Core.List.{List, [], ◌∷◌}
 use Prim.Native.Nat.{ℕ, ◌≤◌}
 use lib.ListN.{length, drop}
@@ -22,15 +22,15 @@ use Rattle.manifest_state.proofs.Gathering.{each, made, Listed}
 manifests-each : (vs : List Text) → manifests_in vs ≡ each manifest_of vs
 unfolding manifests_in
 manifests-each [] = refl
-manifests-each (v ∷ vs) = ap (λ o. manifest_of v >>= (λ m. o >>= (λ ms. some (m ∷ ms)))) (manifests-each vs)
+manifests-each (v ∷ vs) = ap (λ o. manifest_of v >>= (λ m. o >>= (λ ms. Some (m ∷ ms)))) (manifests-each vs)
 
 manifests-made : (o : Option (List Text × Text)) → (o >>= (λ p. manifests_in p.0)) ≡ made manifest_of o
-manifests-made none = refl
-manifests-made (some p) = manifests-each p.0
+manifests-made None = refl
+manifests-made (Some p) = manifests-each p.0
 
 module _ (u : Text) (at : ℕ) where
-  pub walked_none : made manifest_of (list (spelled (value in_manifests)) 0x5D (drop at u)) ≡ none
-      → (elements (value in_manifests) (drop at u) >>= (λ p. manifests_in p.0)) ≡ none
+  pub walked_none : made manifest_of (list (spelled (value in_manifests)) 0x5D (drop at u)) ≡ None
+      → (elements (value in_manifests) (drop at u) >>= (λ p. manifests_in p.0)) ≡ None
   walked_none e = manifests-made (elements (value in_manifests) (drop at u)) ∙ ap (made manifest_of) (elements-list (value in_manifests) (drop at u)) ∙ e
 
   pub walked-listed : (end k n : ℕ) (ms : List Manifest) (cs : List Condition) (room after : Room)
@@ -49,26 +49,26 @@ module _ (u : Text) (at : ℕ) where
 -- ---- a text of their own
 
 module _ (u : Text) where
-  pub manifests-none : array_of in_manifests u ≡ none → manifests_of u ≡ none
+  pub manifests-none : array_of in_manifests u ≡ None → manifests_of u ≡ None
   manifests-none e = ap (λ o. o >>= manifests_in) e
 
-  pub manifests-of : {vs : List Text} → array_of in_manifests u ≡ some vs → manifests_of u ≡ manifests_in vs
+  pub manifests-of : {vs : List Text} → array_of in_manifests u ≡ Some vs → manifests_of u ≡ manifests_in vs
   manifests-of e = ap (λ o. o >>= manifests_in) e
 
   -- some manifest is malformed
-  pub manifests-malformed : (o : Option (List Text × Text)) → array_of in_manifests u ≡ alone o → (o >>= (λ p. manifests_in p.0)) ≡ none → manifests_of u ≡ none
+  pub manifests-malformed : (o : Option (List Text × Text)) → array_of in_manifests u ≡ alone o → (o >>= (λ p. manifests_in p.0)) ≡ None → manifests_of u ≡ None
   unfolding alone
-  manifests-malformed none e f = manifests-none e
-  manifests-malformed (some p) e f = go (is_empty (ws p.1)) refl
+  manifests-malformed None e f = manifests-none e
+  manifests-malformed (Some p) e f = go (is_empty (ws p.1)) refl
     where
-      go : (b : Bool) → is_empty (ws p.1) ≡ b → manifests_of u ≡ none
+      go : (b : Bool) → is_empty (ws p.1) ≡ b → manifests_of u ≡ None
       go true g = manifests-of (e ∙ rw (alone, g)) ∙ f
       go false g = manifests-none (e ∙ rw (alone, g))
 
   -- before the bracket: white space up to i
   module _ (i : ℕ) (w : Skips (ws u) u 0 i) where
-    pub array-unopened : byte 0x5B (drop i u) ≡ none → array_of in_manifests u ≡ none
+    pub array-unopened : byte 0x5B (drop i u) ≡ None → array_of in_manifests u ≡ None
     array-unopened e = array_of-none in_manifests u (ap (byte 0x5B) w.left ∙ e)
 
-    pub array-opened : {r : Text} → byte 0x5B (drop i u) ≡ some r → array_of in_manifests u ≡ alone (elements (value in_manifests) r)
+    pub array-opened : {r : Text} → byte 0x5B (drop i u) ≡ Some r → array_of in_manifests u ≡ alone (elements (value in_manifests) r)
     array-opened e = array_of-elements in_manifests u (ap (byte 0x5B) w.left ∙ e)

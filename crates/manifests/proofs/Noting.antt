@@ -96,12 +96,3 @@ module _ (cs : List Condition) (ms : List Manifest) (x : Manifest) (n k m : ℕ)
       go false p false q =
           let t = stepped false false p q in
           unwritten (λ h. absurd (omega (arith, longer, count, ltb-false k 256 q))) t.0 t.1
-
--- ---- a turn that writes nothing, or number k
-
-module _ (cs : List Condition) (x : Manifest) (n k : ℕ) (room : Room) where
-  pub stepped_same : written cs x k ≡ false → Stepped (written cs x k) n k room n room
-  stepped_same e = subst (λ (b : Bool). Stepped b n k room n room) (sym e) (refl, refl)
-
-  pub stepped-more : written cs x k ≡ true → Stepped (written cs x k) n k room (n + 1) (set room n k)
-  stepped-more e = subst (λ (b : Bool). Stepped b n k room (n + 1) (set room n k)) (sym e) (refl, refl)

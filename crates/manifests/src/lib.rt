@@ -7,6 +7,6 @@ mod keeping;
 mod notes;
 
 pub use directories::directory;
-pub use judging::{Verdict, judge};
-pub use keeping::{Kept, keep};
-pub use notes::{Turn, Walk, note_array};
+pub use judging::judge;
+pub use keeping::keep;
+pub use notes::note_array;

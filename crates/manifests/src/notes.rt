@@ -7,53 +7,32 @@ ghost use Rattle.manifest_state.specs.States.{manifests_of};
 ghost use Rattle.manifests.specs.Walks.{TurnIs, WalkIs, CountedIs};
 
 use crate::judging;
-use crate::judging::Verdict;
-use json_tokens::{CLOSE_BRACKET, Next, OPEN_BRACKET};
+use json_tokens::{CLOSE_BRACKET, OPEN_BRACKET};
 use json_values::Tail;
-use query_conditions::Condition;
+use query_conditions::Query;
 use rooms::MOST_MANIFESTS;
 
 // How deep values may nest inside of the array of manifests.
 const IN_MANIFESTS: usize = 30;
 
-// How many are kept after one manifest more; or it is malformed.
-#[derive(Clone, Copy)]
-pub enum Turn {
-    Kept(usize),
-    Malformed,
-}
-
 // The manifest that the text is, number k, behind n that are kept.
 fn note_next(
     t: &[u8],
     q: &[u8],
-    conditions: [Condition; 8],
-    count: usize,
+    asked: Query,
     kept: &mut [u32],
     n: usize,
     k: usize,
-) -> Turn
-    requires { Sounds q.now count conditions × (n ≤ k) × (256 ≤ length kept.old) }
-    ensures { TurnIs (manifest_of t.now) (conditions_of q.now count conditions) n k kept.old kept.new result }
+) -> Option<usize>
+    requires { Sounds q.now asked.count asked.conditions × (n ≤ k) × (256 ≤ length kept.old) }
+    ensures { TurnIs (manifest_of t.now) (conditions_of q.now asked.count asked.conditions) n k kept.old kept.new result }
 {
-    match judging::judge(t, q, conditions, count) {
-        Verdict::Malformed => Turn::Malformed,
-        Verdict::Dropped => Turn::Kept(n),
-        Verdict::Kept => {
-            if MOST_MANIFESTS <= k {
-                return Turn::Kept(n); // one too many is only counted
-            }
-            kept[n] = k as u32;
-            Turn::Kept(n + 1)
-        }
+    let is_kept = judging::judge(t, q, asked)?;
+    if is_kept && k < MOST_MANIFESTS {
+        kept[n] = k as u32;
+        return Some(n + 1);
     }
-}
-
-// The position behind the manifests, how many there are, and how many are kept; or one is malformed.
-#[derive(Clone, Copy)]
-pub enum Walk {
-    Counted(usize, usize, usize),
-    Malformed,
+    Some(n) // it is dropped, or one too many, which is only counted
 }
 
 // `at` is just after the opening bracket of the array of manifests. Notes those that the query keeps.
@@ -61,38 +40,33 @@ fn note_all(
     u: &[u8],
     at: usize,
     q: &[u8],
-    conditions: [Condition; 8],
-    count: usize,
+    asked: Query,
     kept: &mut [u32],
-) -> Walk
-    requires { (at ≤ length u.now) × Sounds q.now count conditions × (256 ≤ length kept.old) }
+) -> Option<(usize, usize, usize)>
+    requires { (at ≤ length u.now) × Sounds q.now asked.count asked.conditions × (256 ≤ length kept.old) }
     ensures { WalkIs
         (elements (rule_value 30) (drop at u.now))
-        (conditions_of q.now count conditions)
+        (conditions_of q.now asked.count asked.conditions)
         u.now
         kept.old
         kept.new
         result }
 {
     match json_values::opening(u, at, CLOSE_BRACKET) {
-        Tail::Neither => Walk::Malformed,
-        Tail::Closed(end) => Walk::Counted(end, 0, 0),
+        Tail::Neither => None,
+        Tail::Closed(end) => Some((end, 0, 0)),
         Tail::More(first) => {
             let mut i = first;
             let mut k = 0;
             let mut n = 0;
             loop {
-                let Next::At(e) = json_values::value(u, i, IN_MANIFESTS) else {
-                    return Walk::Malformed;
-                };
-                let Turn::Kept(m) = note_next(&u[i..e], q, conditions, count, kept, n, k) else {
-                    return Walk::Malformed;
-                };
+                let e = json_values::value(u, i, IN_MANIFESTS)?;
+                let m = note_next(&u[i..e], q, asked, kept, n, k)?;
                 n = m;
                 k += 1;
                 match json_values::closing(u, e, CLOSE_BRACKET) {
-                    Tail::Neither => return Walk::Malformed,
-                    Tail::Closed(end) => return Walk::Counted(end, k, n),
+                    Tail::Neither => return None,
+                    Tail::Closed(end) => return Some((end, k, n)),
                     Tail::More(j) => i = j,
                 }
             }
@@ -104,21 +78,16 @@ fn note_all(
 pub fn note_array(
     u: &[u8],
     q: &[u8],
-    conditions: [Condition; 8],
-    count: usize,
+    asked: Query,
     kept: &mut [u32],
-) -> Walk
-    requires { Sounds q.now count conditions × (256 ≤ length kept.old) }
-    ensures { CountedIs (manifests_of u.now) (conditions_of q.now count conditions) kept.old kept.new result }
+) -> Option<(usize, usize, usize)>
+    requires { Sounds q.now asked.count asked.conditions × (256 ≤ length kept.old) }
+    ensures { CountedIs (manifests_of u.now) (conditions_of q.now asked.count asked.conditions) kept.old kept.new result }
 {
-    let Next::At(at) = json_tokens::skip_byte(u, json_tokens::skip_ws(u, 0), OPEN_BRACKET) else {
-        return Walk::Malformed;
-    };
-    let Walk::Counted(end, k, n) = note_all(u, at, q, conditions, count, kept) else {
-        return Walk::Malformed;
-    };
+    let at = json_tokens::skip_byte(u, json_tokens::skip_ws(u, 0), OPEN_BRACKET)?;
+    let (end, k, n) = note_all(u, at, q, asked, kept)?;
     if json_tokens::skip_ws(u, end) < u.len() {
-        return Walk::Malformed;
+        return None;
     }
-    Walk::Counted(end, k, n)
+    Some((end, k, n))
 }

@@ -6,11 +6,8 @@ ghost use Rattle.std.specs.Prelude.{◌<◌, length};
 ghost use Rattle.file_bundle.specs.Files.{files_in};
 ghost use Rattle.json_strings.specs.Decoded.{WellSpelled};
 
-use field_scalars::Records;
-use file_bundle::Opened;
 use file_names::{Name, Version};
 use line_actions::{Action, Added, Skipped, Stated};
-use shown::Shown;
 
 // ---- bundles
 
@@ -43,15 +40,13 @@ fn print_file(s: &[u8], k: usize)
 
 fn print_bundle(s: &[u8]) {
     match file_bundle::open(s) {
-        Opened::Malformed => program_printing::word(b"bundle malformed\n"),
-        Opened::Entries(n) => {
+        None => program_printing::word(b"bundle malformed\n"),
+        Some(n) => {
             program_printing::word(b"bundle ");
             program_printing::size(n);
             program_printing::word(b"\n");
-            let mut k = 0;
-            while k < n {
+            for k in 0..n {
                 print_file(s, k);
-                k += 1;
             }
         }
     }
@@ -59,11 +54,10 @@ fn print_bundle(s: &[u8]) {
 
 // ---- lines
 
-fn print_records(r: Records) {
+fn print_records(r: Option<u64>) {
     match r {
-        Records::Number(n) => program_printing::number(n),
-        Records::Missing => program_printing::word(b"-"),
-        Records::Bad => program_printing::word(b"?"),
+        Some(n) => program_printing::number(n),
+        None => program_printing::word(b"-"),
     }
 }
 
@@ -73,8 +67,7 @@ fn print_added(a: Added) {
     program_printing::word(b" ");
     program_printing::number(a.time);
     program_printing::word(b" ");
-    let records = a.records;
-    print_records(records);
+    print_records(a.records);
 }
 
 fn print_remove(line: &[u8], path: usize)
@@ -108,13 +101,13 @@ fn print_stated(p: Stated) {
 
 fn print_action(line: &[u8]) {
     match line_actions::classify(line) {
-        Action::Add(a) => print_added(a),
-        Action::Remove(p) => print_remove(line, p),
-        Action::Protocol(p) => print_stated(p),
-        Action::MetaData(_) => program_printing::word(b"metaData"),
-        Action::Mergeskip(k) => print_skipped(line, k),
-        Action::Other => program_printing::word(b"other"),
-        Action::Malformed => program_printing::word(b"malformed"),
+        Some(Action::Add(a)) => print_added(a),
+        Some(Action::Remove(p)) => print_remove(line, p),
+        Some(Action::Protocol(p)) => print_stated(p),
+        Some(Action::MetaData(_)) => program_printing::word(b"metaData"),
+        Some(Action::Mergeskip(k)) => print_skipped(line, k),
+        Some(Action::Other) => program_printing::word(b"other"),
+        None => program_printing::word(b"malformed"),
     }
 }
 
@@ -123,12 +116,12 @@ fn print_shown(line: &[u8]) {
     program_printing::word(shown::path_of(line));
     program_printing::word(b"\" ");
     match shown::records_of(line) {
-        Shown::Number(n) => {
+        Some(Some(n)) => {
             program_printing::word(b"number ");
             program_printing::number(n);
         }
-        Shown::Missing => program_printing::word(b"missing"),
-        Shown::NoAdd => program_printing::word(b"none"),
+        Some(None) => program_printing::word(b"missing"),
+        None => program_printing::word(b"none"),
     }
 }
 
@@ -150,23 +143,15 @@ fn print_request(letter: u8, s: &[u8]) {
     }
 }
 
-fn wide(b: u8) -> usize
-    ensures { result < 256 }
-{
-    b as usize
-}
-
 fn print_each(requests: &[u8]) {
-    let mut at = 0;
-    while 3 <= requests.len() - at {
-        let size = wide(requests[at + 1]) + 256 * wide(requests[at + 2]);
-        let start = at + 3;
-        if requests.len() - start < size {
+    let mut left = requests;
+    while let [letter, low, high, behind @ ..] = left {
+        let size = usize::from(u16::from_le_bytes([*low, *high]));
+        let Some((s, after)) = behind.split_at_checked(size) else {
             return;
-        }
-        let end = start + size;
-        print_request(requests[at], &requests[start..end]);
-        at = end;
+        };
+        print_request(*letter, s);
+        left = after;
     }
 }
 

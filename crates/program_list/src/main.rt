@@ -2,34 +2,20 @@
 // refusal. A bundle of more than 65,536 bytes is refused as malformed.
 #![tactic(auto)]
 
-ghost use Rattle.std.specs.Prelude.{◌≡◌, length};
-
-use reading::{Listing, Read};
+use reading::Listing;
 use refusals::Refusal;
-use shown::Shown;
 
 const MOST_BYTES: usize = 65536;
+
+const MOST_ROWS: usize = 1024;
 
 // A row: the place of its line, the line's length, size, time; how often it was skipped, and from when on it may be tried again.
 const ROW: usize = 6;
 
-// One byte more than a bundle may have here, so that a longer one is seen.
-fn input() -> [u8; 65537]
-    ensures { 65537 ≡ length result }
-{
-    [0; 65537]
-}
-
-fn table() -> [u64; 6144]
-    ensures { 6144 ≡ length result }
-{
-    [0; 6144]
-}
-
 fn print_refusal(x: Refusal) {
     let n = refusals::numbers_of(x);
     program_printing::word(b"refused ");
-    program_printing::number(n.number as u64);
+    program_printing::number(u64::from(n.number));
     program_printing::word(b" entry ");
     program_printing::size(n.entry);
     program_printing::word(b" line ");
@@ -51,11 +37,10 @@ fn print_header(l: Listing) {
     program_printing::word(b"\n");
 }
 
-fn print_records(r: Shown) {
+fn print_records(r: Option<u64>) {
     match r {
-        Shown::Number(n) => program_printing::number(n),
-        Shown::Missing => program_printing::word(b"-"),
-        Shown::NoAdd => program_printing::word(b"-"),
+        Some(n) => program_printing::number(n),
+        None => program_printing::word(b"-"),
     }
 }
 
@@ -68,34 +53,28 @@ fn print_file(line: &[u8], size: u64, time: u64) {
     program_printing::word(b" ");
     program_printing::number(time);
     program_printing::word(b" ");
-    print_records(shown::records_of(line));
+    print_records(shown::records_of(line).flatten());
     program_printing::word(b"\n");
 }
 
-// Prints row k. Reading promises that the row is there and its line lies in the bundle; it is tested here, so that nothing rests on it.
-fn print_row(s: &[u8], rows: &[u64], k: usize) {
-    if rows.len() / ROW <= k {
-        return;
-    }
-    let at = ROW * k;
-    let place = rows[at];
-    let size = rows[at + 1];
-    if (s.len() as u64) < place {
-        return;
-    }
-    if s.len() as u64 - place < size {
-        return;
-    }
+// What lies at this place of the bundle, of this length. Reading promises that it is there; it is tested here, so that nothing rests on it.
+fn line_at(s: &[u8], place: u64, length: u64) -> Option<&[u8]> {
     let start = place as usize;
-    let end = start + size as usize;
-    print_file(&s[start..end], rows[at + 2], rows[at + 3]);
+    let end = start.checked_add(length as usize)?;
+    s.get(start..end)
+}
+
+fn print_row(s: &[u8], row: &[u64; ROW]) {
+    let [place, length, size, time, ..] = *row;
+    if let Some(line) = line_at(s, place, length) {
+        print_file(line, size, time);
+    }
 }
 
 fn print_rows(s: &[u8], rows: &[u64], count: usize) {
-    let mut k = 0;
-    while k < count {
-        print_row(s, rows, k);
-        k += 1;
+    let (rows, _) = rows.as_chunks::<ROW>();
+    for row in rows.iter().take(count) {
+        print_row(s, row);
     }
 }
 
@@ -109,15 +88,16 @@ fn list(s: &[u8]) {
         print_refusal(Refusal::BundleMalformed);
         return;
     }
-    let mut rows = table();
+    let mut rows = [0; MOST_ROWS * ROW];
     match reading::read_latest(s, b"[]", &mut rows) {
-        Read::Listed(l) => print_listed(s, &rows, l),
-        Read::Refused(x) => print_refusal(x),
+        Ok(l) => print_listed(s, &rows, l),
+        Err(x) => print_refusal(x),
     }
 }
 
 fn main() {
-    let mut buffer = input();
+    // One byte more than a bundle may have here, so that a longer one is seen.
+    let mut buffer = [0; MOST_BYTES + 1];
     let got = io::read_full(program_printing::STANDARD_INPUT, &mut buffer);
     list(&buffer[..got]);
 }

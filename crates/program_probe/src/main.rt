@@ -14,8 +14,8 @@ mod words;
 // The most requests that are answered.
 const MOST_REQUESTS: usize = 1000000;
 
-// Answers the request that this letter begins; false if it is cut short, over a limit or of no letter that is known.
-fn answered(letter: u8) -> bool {
+// Answers the request that this letter begins; None if it is cut short, over a limit or of no letter that is known.
+fn answer(letter: u8) -> Option<()> {
     match letter {
         b'c' => cleanings::files(),
         b'd' => showings::directory(),
@@ -25,29 +25,27 @@ fn answered(letter: u8) -> bool {
         b'p' => showings::path(),
         b'q' => readings::due(),
         b'r' => readings::version(),
-        _ => false,
+        _ => None,
     }
 }
 
-// Answers the next request; false if there is none to go on with.
-fn next_answered() -> bool {
-    let mut letter = [0u8; 1];
+// Answers the next request; None if there is none to go on with.
+fn answer_next() -> Option<()> {
+    let mut letter = [0];
     if io::read_full(program_printing::STANDARD_INPUT, &mut letter) == 0 {
-        return false;
+        return None;
     }
-    if answered(letter[0]) {
-        return true;
+    let answered = answer(letter[0]);
+    if answered.is_none() {
+        program_printing::word(b"end\n");
     }
-    program_printing::word(b"end\n");
-    false
+    answered
 }
 
 fn main() {
-    let mut left = MOST_REQUESTS;
-    while 0 < left {
-        if !next_answered() {
+    for _ in 0..MOST_REQUESTS {
+        if answer_next().is_none() {
             return;
         }
-        left -= 1;
     }
 }

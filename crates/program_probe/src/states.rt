@@ -1,15 +1,15 @@
 // The answer `m`: which manifests of a state a query keeps.
 use crate::{lent, requests, sums, words};
-use manifests::Kept;
+use refusals::Refusal;
 
-fn print_kept(k: Kept) {
+fn print_kept(k: Result<usize, Refusal>) {
     match k {
-        Kept::Numbers(count) => {
+        Ok(count) => {
             program_printing::word(b"0 ");
             program_printing::size(count);
         }
-        Kept::Refused(x) => {
-            program_printing::number(refusals::numbers_of(x).number as u64);
+        Err(x) => {
+            program_printing::number(u64::from(refusals::numbers_of(x).number));
             program_printing::word(b" 0");
         }
     }
@@ -20,29 +20,13 @@ fn print_keeping(state: &[u8], query: &[u8], kept: &mut [u32]) {
     words::print_last(sums::of_u32(kept));
 }
 
-pub fn manifests() -> bool {
-    let mut kept = lent::names();
-    let lent = requests::next_of_names(&kept);
-    if !lent.whole {
-        return false;
-    }
+pub fn manifests() -> Option<()> {
+    let mut kept_room = lent::names();
+    let kept = requests::next_of(&mut kept_room)?;
     let mut query_room = lent::query();
-    let query = requests::next_text(&mut query_room);
-    if !query.whole {
-        return false;
-    }
+    let query = requests::next_text(&mut query_room)?;
     let mut state_room = lent::long();
-    let state = requests::next_text(&mut state_room);
-    if !state.whole {
-        return false;
-    }
-    let kept_size = lent.size;
-    let query_size = query.size;
-    let state_size = state.size;
-    print_keeping(
-        &state_room[..state_size],
-        &query_room[..query_size],
-        &mut kept[..kept_size],
-    );
-    true
+    let state = requests::next_text(&mut state_room)?;
+    print_keeping(state, query, kept);
+    Some(())
 }

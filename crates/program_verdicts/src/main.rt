@@ -3,20 +3,19 @@
 // and, where it is a string, how many bytes it stands for and how it stands to "m".
 #![tactic(auto)]
 
-ghost use Rattle.std.specs.Prelude.{◌<◌};
 ghost use Rattle.json_strings.specs.Decoded.{WellSpelled};
 
-use bytes_values::{Order, Whole};
 use json_strings::Spelling;
 use json_tokens::QUOTE;
-use query_numbers::{Numeral, Signed};
+use query_numbers::{NoNumber, Signed};
+use std::cmp::Ordering;
 
 const DEPTH: usize = 32;
 
 fn print_whole(t: &[u8]) {
     match bytes_values::whole_of(t) {
-        Whole::Number(n) => program_printing::number(n),
-        Whole::NotWhole => program_printing::word(b"-"),
+        Some(n) => program_printing::number(n),
+        None => program_printing::word(b"-"),
     }
 }
 
@@ -29,17 +28,17 @@ fn print_signed(n: Signed) {
 
 fn print_numeral(t: &[u8]) {
     match query_numbers::numeral_of(t) {
-        Numeral::Number(n) => print_signed(n),
-        Numeral::OutOfRange => program_printing::word(b"out"),
-        Numeral::NotNumber => program_printing::word(b"-"),
+        Ok(n) => print_signed(n),
+        Err(NoNumber::OutOfRange) => program_printing::word(b"out"),
+        Err(NoNumber::NotNumber) => program_printing::word(b"-"),
     }
 }
 
-fn print_order(o: Order) {
+fn print_order(o: Ordering) {
     match o {
-        Order::Less => program_printing::word(b" less"),
-        Order::Equal => program_printing::word(b" equal"),
-        Order::More => program_printing::word(b" more"),
+        Ordering::Less => program_printing::word(b" less"),
+        Ordering::Equal => program_printing::word(b" equal"),
+        Ordering::Greater => program_printing::word(b" more"),
     }
 }
 
@@ -53,15 +52,11 @@ fn print_spelled(t: &[u8])
 }
 
 fn print_string(t: &[u8]) {
-    if t.len() == 0 {
-        return;
-    }
-    if t[0] != QUOTE {
+    if t.first() != Some(&QUOTE) {
         return;
     }
     match json_strings::scan_string(t, 1) {
-        Spelling::Plain(_) => print_spelled(t),
-        Spelling::Escaped(_) => print_spelled(t),
+        Spelling::Plain(_) | Spelling::Escaped(_) => print_spelled(t),
         Spelling::Bad => (),
     }
 }
@@ -82,23 +77,15 @@ fn print_verdict(t: &[u8]) {
     program_printing::word(b"\n");
 }
 
-fn wide(b: u8) -> usize
-    ensures { result < 256 }
-{
-    b as usize
-}
-
 fn print_each(texts: &[u8]) {
-    let mut at = 0;
-    while 2 <= texts.len() - at {
-        let size = wide(texts[at]) + 256 * wide(texts[at + 1]);
-        let start = at + 2;
-        if texts.len() - start < size {
+    let mut left = texts;
+    while let [low, high, behind @ ..] = left {
+        let size = usize::from(u16::from_le_bytes([*low, *high]));
+        let Some((t, after)) = behind.split_at_checked(size) else {
             return;
-        }
-        let end = start + size;
-        print_verdict(&texts[start..end]);
-        at = end;
+        };
+        print_verdict(t);
+        left = after;
     }
 }
 

@@ -1,37 +1,40 @@
--- What each operator asks of the order of two values.
+-- The tests of an order that the code makes are those of the rules.
 use mathlib.Core.Path.{◌≡◌, refl}
-use mathlib.Core.Bool.{true, false}
-use Rattle.rules.specs.Bytes.{Order, less, equal, more, is_less, is_equal, is_more}
-use Rattle.rules.specs.Query.{eq, lt, le, gt, ge}
-use Rattle.rules.specs.Picking.{meets}
-use Rattle.query_comparisons.specs.Asked.{by_order}
+use mathlib.Core.Bool.{not}
+use Rattle.rules.specs.Bytes.{is_less, is_equal, is_more}
+use Rattle.bytes_values.specs.Answers.{order_of}
+use Rattle.std.specs.declared.cmp.Ordering.{Ordering}
+use Rattle.std.specs.declared.cmp.Ordering.TheVariants.{Less, Equal, Greater}
+use Rattle.std.specs.Ordering.{is_eq, is_lt, is_le, is_gt, is_ge}
 
-pub meets-eq : (o : Order) → meets eq o ≡ by_order o false true false
-unfolding meets is_equal by_order
-meets-eq less = refl
-meets-eq equal = refl
-meets-eq more = refl
+pub asked_eq : (o : Ordering) → is_eq o ≡ is_equal (order_of o)
+unfolding order_of is_equal
+asked_eq Less = refl
+asked_eq Equal = refl
+asked_eq Greater = refl
 
-pub meets-lt : (o : Order) → meets lt o ≡ by_order o true false false
-unfolding meets is_less by_order
-meets-lt less = refl
-meets-lt equal = refl
-meets-lt more = refl
+pub asked_lt : (o : Ordering) → is_lt o ≡ is_less (order_of o)
+unfolding order_of is_less
+asked_lt Less = refl
+asked_lt Equal = refl
+asked_lt Greater = refl
 
-pub meets-le : (o : Order) → meets le o ≡ by_order o true true false
-unfolding meets is_more by_order
-meets-le less = refl
-meets-le equal = refl
-meets-le more = refl
+pub asked_le : (o : Ordering) → is_le o ≡ not (is_more (order_of o))
+unfolding order_of is_more
+asked_le Less = refl
+asked_le Equal = refl
+asked_le Greater = refl
 
-pub meets-gt : (o : Order) → meets gt o ≡ by_order o false false true
-unfolding meets is_more by_order
-meets-gt less = refl
-meets-gt equal = refl
-meets-gt more = refl
+pub asked_gt : (o : Ordering) → is_gt o ≡ is_more (order_of o)
+unfolding order_of is_more
+asked_gt Less = refl
+asked_gt Equal = refl
+asked_gt Greater = refl
 
-pub meets-ge : (o : Order) → meets ge o ≡ by_order o false true true
-unfolding meets is_less by_order
-meets-ge less = refl
-meets-ge equal = refl
-meets-ge more = refl
+pub asked_ge : (o : Ordering) → is_ge o ≡ not (is_less (order_of o))
+unfolding order_of is_less
+asked_ge Less = refl
+asked_ge Equal = refl
+asked_ge Greater = refl
+
+pub ruleset asked = (asked_eq, asked_lt, asked_le, asked_gt, asked_ge)

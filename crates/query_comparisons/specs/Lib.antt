@@ -1,4 +1,3 @@
 -- What a condition says of values, in the rules' terms.
-pub mod Asked
 pub mod Between
 pub mod Judging

@@ -1,20 +1,21 @@
 -- The conditions, and the columns at positions, from one on: the first of them, and the others. Then the positions of the conditions' columns.
 use mathlib.Core.Path.{◌≡◌, refl, sym, ap, ◌∙◌, subst}
-use mathlib.Core.Bool.{true, false}
-use mathlib.Core.List.{List, [], ◌∷◌, ◌++◌, map, map-append}
+use mathlib.Core.Bool.{Bool, true, false}
+use mathlib.Core.List.{List, [], ◌∷◌, map}
 use Prim.Native.Nat.{ℕ, ◌+◌, ◌≤◌, ◌<◌}
 use native.Mathlib.Omega.{arith}
-use lib.ListN.{length, take, drop, get_or, set, length-map, get_or-map, drop_of_length-le}
-use lib.Seq.{get_or-take, length-take-le, take-take}
+use lib.ListN.{length, take, drop, get_or, length-map, length-take, get_or-map, drop_of_length-le}
+use lib.Seq.{get_or-take, length-take-le}
+use Rattle.std.specs.List.{list_any}
+use Rattle.std.proofs.lemmas.Grind.{same_number_lists}
 use Rattle.facts.specs.Lists.{All}
-use Rattle.facts.proofs.Lists.{drop_here, take-one-more, take-set-here, map-take, All-of, All-map}
+use Rattle.facts.proofs.Lists.{drop_here, All-of, All-weaken, All-map}
 use Rattle.rules.specs.Bytes.{Bytes, same, holds, distinct}
 use Rattle.rules.specs.Json.Text.{Text}
 use Rattle.rules.specs.Query.{Condition as RuleCondition, column_of}
-use Rattle.rules.proofs.Order.{same_true, same_false}
-use Rattle.rules.proofs.Holding.{holds-head, holds-past, distinct_cons, distinct-held}
+use Rattle.rules.proofs.Holding.{distinct_cons, distinct-held}
 use Rattle.json_strings.specs.Decoded.{decoded, WellSpelled}
-use Rattle.query_conditions.specs.Conditions.{condition_of}
+use Rattle.query_conditions.specs.Conditions.{condition_of, Sound}
 use Rattle.query_conditions.specs.Reading.{no_condition, conditions_of, columns_of, names_at, Sounds}
 use Rattle.query_conditions.specs.declared.conditions.Condition.{Condition}
 
@@ -33,6 +34,18 @@ module _ (q : Text) (n : ℕ) (cs : List Condition) (l : n ≤ length cs) where
   pub conditions-end : (k : ℕ) → n ≤ k → drop k (conditions_of q n cs) ≡ []
   conditions-end k h = drop_of_length-le (conditions_of q n cs) {i = k} (omega (arith, conditions-length))
 
+-- ---- whether x is among the columns that are spelled at positions
+
+pub any-held : (q : Text) (x : Bytes) (ps : List ℕ) → list_any (λ (p : ℕ). same x (decoded (drop p q))) ps ≡ holds x (names_at q ps)
+unfolding holds names_at
+any-held q x [] = refl
+any-held q x (p ∷ ps) = go (any-held q x ps) (same x (decoded (drop p q))) refl
+  where
+    go : list_any (λ (p : ℕ). same x (decoded (drop p q))) ps ≡ holds x (names_at q ps) → (b : Bool) → same x (decoded (drop p q)) ≡ b
+        → list_any (λ (p : ℕ). same x (decoded (drop p q))) (p ∷ ps) ≡ holds x (names_at q (p ∷ ps))
+    go ih true e = rw (holds, e)
+    go ih false e = rw (holds, e, ih)
+
 -- ---- the columns that are spelled at positions
 
 module _ (q : Text) (ps : List ℕ) where
@@ -43,20 +56,6 @@ module _ (q : Text) (ps : List ℕ) where
   names-here : (k : ℕ) → k < length ps → names_at q (drop k ps) ≡ decoded (drop (get_or ps k 0) q) ∷ names_at q (drop (k + 1) ps)
   unfolding names_at
   names-here k h = ap (names_at q) (drop_here ps k 0 h)
-
-  -- ---- whether x is among them
-
-  module _ (x : Bytes) where
-    pub column-none : (k : ℕ) → length ps ≤ k → false ≡ holds x (names_at q (drop k ps))
-    unfolding holds
-    column-none k h = sym (ap (holds x) (names-end k h))
-
-    module _ (k : ℕ) (h : k < length ps) where
-      pub column-held : same x (decoded (drop (get_or ps k 0) q)) ≡ true → true ≡ holds x (names_at q (drop k ps))
-      column-held e = sym (ap (holds x) (names-here k h) ∙ holds-head x _ _ (same_true x _ e))
-
-      pub column-past : same x (decoded (drop (get_or ps k 0) q)) ≡ false → holds x (names_at q (drop k ps)) ≡ holds x (names_at q (drop (k + 1) ps))
-      column-past e = ap (holds x) (names-here k h) ∙ holds-past x _ _ (same_false x _ e)
 
   -- ---- whether they differ
 
@@ -77,18 +76,13 @@ module _ (q : Text) (ps : List ℕ) where
 abbrev pub places_of : List Condition → List ℕ
 places_of cs = map (λ (c : Condition). c.column) cs
 
--- of one condition more
-pub places-more : (ps : List ℕ) (cs : List Condition) (k : ℕ) → k < length ps → k < length cs → take k ps ≡ places_of (take k cs)
-    → take (k + 1) (set ps k (get_or cs k no_condition).column) ≡ places_of (take (k + 1) cs)
-places-more ps cs k h l e =
-    let v = (get_or cs k no_condition).column in
-    take-set-here ps k v h ∙ ap (λ (xs : List ℕ). xs ++ (v ∷ [])) e
-    ∙ sym (ap places_of (take-one-more cs k no_condition l) ∙ map-append (λ (c : Condition). c.column) (take k cs) (get_or cs k no_condition ∷ []))
-
--- of the first n, where all are known
-pub places-first : (ps : List ℕ) (cs : List Condition) (n m : ℕ) → n ≤ m → take m ps ≡ places_of (take m cs) → take n ps ≡ places_of (take n cs)
-places-first ps cs n m h e =
-    sym (take-take n m ps h) ∙ ap (take n) e ∙ sym (map-take (λ (c : Condition). c.column) n (take m cs)) ∙ ap places_of (take-take n m cs h)
+-- by each of them
+pub places-each : (ps : List ℕ) (cs : List Condition) → length ps ≡ length cs
+    → ((k : ℕ) → k < length cs → get_or ps k 0 ≡ (get_or cs k no_condition).column) → ps ≡ places_of cs
+places-each ps cs size each =
+    same_number_lists ps (places_of cs) (omega (arith, length-map cs (λ (c : Condition). c.column))) (λ k h.
+    let l : k < length cs = omega arith in
+    each k l ∙ sym (get_or-map (λ (c : Condition). c.column) cs k no_condition))
 
 module _ (q : Text) (n : ℕ) (cs : List Condition) where
   pub places-names : names_at q (places_of (take n cs)) ≡ columns_of q n cs
@@ -99,12 +93,15 @@ module _ (q : Text) (n : ℕ) (cs : List Condition) where
       each [] = refl
       each (x ∷ xs) = ap (λ (l : List Bytes). decoded (drop x.column q) ∷ l) (each xs)
 
-  pub places-spelled : n ≤ length cs → Sounds q n cs → All (WellSpelled q) (places_of (take n cs))
-  places-spelled l s =
-      All-map (WellSpelled q) (λ (c : Condition). c.column) (take n cs)
-      (All-of (λ (c : Condition). WellSpelled q c.column) (take n cs) no_condition each)
+  pub sounds-all : Sounds q n cs → All (Sound q) (take n cs)
+  sounds-all s = All-of (Sound q) (take n cs) no_condition each
     where
-      each : (i : ℕ) → i < length (take n cs) → WellSpelled q (get_or (take n cs) i no_condition).column
+      each : (i : ℕ) → i < length (take n cs) → Sound q (get_or (take n cs) i no_condition)
       each i h =
-          let b : i < n = omega (arith, length-take-le n cs l) in
-          subst (λ (c : Condition). WellSpelled q c.column) (sym (get_or-take n cs i no_condition b)) (s.each i b).column
+          let b : i < n = omega (arith, length-take n cs) in
+          subst (Sound q) (sym (get_or-take n cs i no_condition b)) (s.each i b)
+
+  pub places-spelled : Sounds q n cs → All (WellSpelled q) (places_of (take n cs))
+  places-spelled s =
+      All-map (WellSpelled q) (λ (c : Condition). c.column) (take n cs)
+      (All-weaken (Sound q) (λ (c : Condition). WellSpelled q c.column) (take n cs) (λ c t. t.column) (sounds-all s))

@@ -1,6 +1,6 @@
 -- The loop over the array of a query: the conditions that went by are held, and each way out of the loop answers for the whole array.
 use mathlib.Core.Path.{◌≡◌, refl, sym, ap, ◌∙◌, subst}
-use mathlib.Core.Option.{Option, none, some}
+use Rattle.std.specs.Prelude.{Option, None, Some}
 use mathlib.Core.List.{List, [], ◌∷◌, ◌++◌, map, map-append}
 use Prim.Native.Nat.{ℕ, ◌+◌, ◌≤◌, ◌<◌}
 use native.Mathlib.Omega.{arith}
@@ -23,11 +23,11 @@ use Rattle.query_conditions.specs.Reading.{no_condition, conditions_of, Held, fe
 use Rattle.query_conditions.specs.declared.conditions.Condition.{Condition}
 use Rattle.query_conditions.proofs.Fusing.{condition_read-reads}
 
-few-all : (cs : List RuleCondition) (u : Text) → length cs ≤ 8 → few_of (some (cs, u)) ≡ some (cs, u)
+few-all : (cs : List RuleCondition) (u : Text) → length cs ≤ 8 → few_of (Some (cs, u)) ≡ Some (cs, u)
 unfolding most_conditions
 few-all cs u h = rw (le-leb (length cs) 8 h)
 
-few-many : (cs : List RuleCondition) (u : Text) → 8 < length cs → few_of (some (cs, u)) ≡ none
+few-many : (cs : List RuleCondition) (u : Text) → 8 < length cs → few_of (Some (cs, u)) ≡ None
 unfolding most_conditions
 few-many cs u h = rw (lt-leb (length cs) 8 h)
 
@@ -67,7 +67,7 @@ held_none : (q : Text) → Held q 0 (replicate 8 no_condition)
 held_none q = record { sounds = record { few = omega arith; each = λ k h. absurd (omega arith) }; rest = refl }
 
 module _ (q : Text) (at : ℕ) where
-  pub opened-neither : Follows (opening 0x5D (drop at q)) q at Neither → few_of (list condition_read 0x5D (drop at q)) ≡ none
+  pub opened-neither : Follows (opening 0x5D (drop at q)) q at Neither → few_of (list condition_read 0x5D (drop at q)) ≡ None
   opened-neither f = ap few_of (list-neither condition_read 0x5D (drop at q) f)
 
   pub opened-closed : (end : ℕ) → Follows (opening 0x5D (drop at q)) q at (Closed end)
@@ -92,26 +92,26 @@ module _ (q : Text) (at : ℕ) where
     unfolding conditions_of
     gone-size = length-map (take n cs) (condition_of q) ∙ length-take-le n cs (omega (arith, g.size, g.held.sounds.few))
 
-    pub going-none : condition_read (drop i q) ≡ none → few_of (list condition_read 0x5D (drop at q)) ≡ none
+    pub going-none : condition_read (drop i q) ≡ None → few_of (list condition_read 0x5D (drop at q)) ≡ None
     going-none e = ap few_of (passed_none g.passed e)
 
     -- one more would be the ninth
-    pub going-full : n ≡ 8 → few_of (list condition_read 0x5D (drop at q)) ≡ none
+    pub going-full : n ≡ 8 → few_of (list condition_read 0x5D (drop at q)) ≡ None
     going-full full = go (condition_read (drop i q)) refl
       where
-        joins : {x : RuleCondition} {r : Text} → condition_read (drop i q) ≡ some (x, r) → (o : Option (List RuleCondition × Text))
-            → rest condition_read 0x5D (drop i q) ≡ o → few_of (joined gone o) ≡ none
-        joins e none f = refl
-        joins e (some p) f =
+        joins : {x : RuleCondition} {r : Text} → condition_read (drop i q) ≡ Some (x, r) → (o : Option (List RuleCondition × Text))
+            → rest condition_read 0x5D (drop i q) ≡ o → few_of (joined gone o) ≡ None
+        joins e None f = refl
+        joins e (Some p) f =
             let (ys, first) = items-first condition_read 0x5D (drop i q) e f in
             few-many (gone ++ p.0) p.1 (omega (arith, length-append gone p.0, gone-size, ap length first))
 
-        go : (o : Option (RuleCondition × Text)) → condition_read (drop i q) ≡ o → few_of (list condition_read 0x5D (drop at q)) ≡ none
-        go none e = going-none e
-        go (some p) e = ap few_of (sym g.passed.left) ∙ joins e (rest condition_read 0x5D (drop i q)) refl
+        go : (o : Option (RuleCondition × Text)) → condition_read (drop i q) ≡ o → few_of (list condition_read 0x5D (drop at q)) ≡ None
+        go None e = going-none e
+        go (Some p) e = ap few_of (sym g.passed.left) ∙ joins e (rest condition_read 0x5D (drop i q)) refl
 
     module _ (c : Condition) (e : ℕ) (st : Stands (condition_read (drop i q)) q i c e) where
-      pub going-neither : Follows (closing 0x5D (drop e q)) q (e + 1) Neither → few_of (list condition_read 0x5D (drop at q)) ≡ none
+      pub going-neither : Follows (closing 0x5D (drop e q)) q (e + 1) Neither → few_of (list condition_read 0x5D (drop at q)) ≡ None
       going-neither f = ap few_of (passed-neither g.passed e st.read f)
 
       module _ (room : n < 8) where
@@ -126,7 +126,7 @@ module _ (q : Text) (at : ℕ) where
           all =
               ap few_of (passed-closed g.passed e st.read f)
               ∙ few-all (gone ++ (condition_of q c ∷ [])) (drop k q) (omega (arith, length-append gone (condition_of q c ∷ []), gone-size))
-              ∙ ap (λ (l : List RuleCondition). some (l, drop k q)) more;
+              ∙ ap (λ (l : List RuleCondition). Some (l, drop k q)) more;
           within = f.2;
         }
 

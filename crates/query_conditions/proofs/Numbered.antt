@@ -12,10 +12,10 @@ use Rattle.query_conditions.specs.Words.{as_is, fit_by, fit_is}
 use Rattle.query_conditions.specs.Conditions.{Sound}
 use Rattle.query_conditions.specs.declared.words.As.{As}
 use Rattle.query_conditions.specs.declared.words.As.TheVariants.{Number as AsNumber}
-use Rattle.query_conditions.specs.declared.words.Fit.TheVariants.{Fits}
+use Rattle.std.specs.Prelude.{Some}
 use Rattle.query_conditions.specs.declared.conditions.Condition.{Condition}
 
-fit-back : (x : RuleNumber) {n : Signed} → Fits n ≡ fit_by x → x ≡ number (signed_is n)
+fit-back : (x : RuleNumber) {n : Signed} → Some n ≡ fit_by x → x ≡ number (signed_is n)
 unfolding fit_by
 fit-back (number z) {n} e = let same : n ≡ signed_of z = cc in ap number (sym (ap signed_is same ∙ signed_back z))
 fit-back out_of_range e = apart (cc)

@@ -1,7 +1,7 @@
 -- A condition where its object stands: what the rules say of it by the slots of a scan.
 use mathlib.Core.Path.{◌≡◌, sym, ap, ◌∙◌}
 use mathlib.Core.Bool.{true, false, ◌&&◌}
-use mathlib.Core.Option.{Option, none, some}
+use Rattle.std.specs.Prelude.{Option, None, Some}
 use mathlib.Core.List.{List}
 use native.Mathlib.Omega.{arith}
 use lib.Dec.{eqb}
@@ -25,7 +25,7 @@ use Rattle.query_conditions.specs.Conditions.{condition_from, condition_by, cond
 -- ---- the members
 
 module _ (ms : List Member) where
-  unordered : ordered ms ≡ false → condition_in ms ≡ none
+  unordered : ordered ms ≡ false → condition_in ms ≡ None
   unfolding condition_in ordered
   unordered e = by (eqb (length ms) 4)
       (λ f.
@@ -56,24 +56,24 @@ in-slots s ms slots each =
 
 -- ---- the object
 
-pub read-no-brace : (t : Text) → byte 0x7B t ≡ none → condition_read t ≡ none
+pub read-no-brace : (t : Text) → byte 0x7B t ≡ None → condition_read t ≡ None
 unfolding condition_read
 read-no-brace t e = rw (condition_read, e)
 
-module _ (t : Text) {r : Text} (b : byte 0x7B t ≡ some r) where
-  pub read-no-object : contents (value in_action) r ≡ none → condition_read t ≡ none
+module _ (t : Text) {r : Text} (b : byte 0x7B t ≡ Some r) where
+  pub read-no-object : contents (value in_action) r ≡ None → condition_read t ≡ None
   unfolding condition_read
   read-no-object e = rw (condition_read, b, e)
 
-  module _ (ms : List Member) {u : Text} (all : contents (value in_action) r ≡ some (ms, u)) where
-    read-members : condition_read t ≡ (condition_in ms >>= (λ c. some (c, u)))
+  module _ (ms : List Member) {u : Text} (all : contents (value in_action) r ≡ Some (ms, u)) where
+    read-members : condition_read t ≡ (condition_in ms >>= (λ c. Some (c, u)))
     unfolding condition_read
     read-members = rw (condition_read, b, all)
 
-    pub read-unordered : ordered ms ≡ false → condition_read t ≡ none
-    read-unordered e = read-members ∙ ap (λ (o : Option RuleCondition). o >>= (λ c. some (c, u))) (unordered ms e)
+    pub read-unordered : ordered ms ≡ false → condition_read t ≡ None
+    read-unordered e = read-members ∙ ap (λ (o : Option RuleCondition). o >>= (λ c. Some (c, u))) (unordered ms e)
 
     pub read-ordered : (s : Text) (slots : List Slot) → ordered ms ≡ true → Each s (names_of Condition) ms slots → condition_read t
         ≡ (condition_by (string_in s (get_or slots 0 missing)) (string_in s (get_or slots 1 missing)) (string_in s (get_or slots 2 missing))
-        (string_in s (get_or slots 3 missing)) >>= (λ c. some (c, u)))
-    read-ordered s slots e each = read-members ∙ ap (λ (o : Option RuleCondition). o >>= (λ c. some (c, u))) (in-ordered ms e ∙ in-slots s ms slots each)
+        (string_in s (get_or slots 3 missing)) >>= (λ c. Some (c, u)))
+    read-ordered s slots e each = read-members ∙ ap (λ (o : Option RuleCondition). o >>= (λ c. Some (c, u))) (in-ordered ms e ∙ in-slots s ms slots each)

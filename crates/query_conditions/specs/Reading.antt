@@ -1,6 +1,6 @@
 -- A whole query as the code has it.
-use Rattle.std.specs.Prelude.{◌≡◌, Bool, true, false, List, map, ℕ, ◌≤◌, ◌<◌, leb, length, take, drop, get_or, replicate}
-use Rattle.std.proofs.Math.Option.{Option, none, some}
+use Rattle.std.specs.Prelude.{◌≡◌, List, map, ℕ, ◌≤◌, ◌<◌, leb, length, take, drop, get_or, replicate}
+use Rattle.std.specs.Prelude.{Option, None, Some}
 use Rattle.rules.specs.Bytes.{Bytes, ◌>>=◌, guard}
 use Rattle.rules.specs.Json.Text.{Text}
 use Rattle.rules.specs.Query.{Condition as RuleCondition, column_of, most_conditions, query}
@@ -16,9 +16,6 @@ use Rattle.query_conditions.specs.declared.reading.Gathered.{Gathered}
 -- what stands where there is no condition
 abbrev pub no_condition : Condition
 no_condition = record { column = 0; kind = AsText; op = Eq; bound = 0; number = zero }
-
-abbrev pub no_query : Query
-no_query = record { good = false; count = 0; conditions = replicate 8 no_condition }
 
 -- the first n conditions in the rules' terms, and their columns
 unfoldable pub conditions_of : Text → (n : ℕ) → List Condition → List RuleCondition
@@ -45,33 +42,24 @@ pub record Held (q : Text) (n : ℕ) (cs : List Condition) : Type 0 where
 
 -- what was read, where it is 8 conditions at most
 abbrev pub few_of : Option (List RuleCondition × Text) → Option (List RuleCondition × Text)
-few_of o = o >>= (λ p. guard (leb (length p.0) most_conditions) >>= (λ _. some p))
+few_of o = o >>= (λ p. guard (leb (length p.0) most_conditions) >>= (λ _. Some p))
 
 pub record Array (o : Option (List RuleCondition × Text)) (q : Text) (end n : ℕ) (cs : List Condition) : Type 0 where
   pub size : length cs ≡ 8
   pub held : Held q n cs
-  pub all : o ≡ some (conditions_of q n cs, drop end q)
+  pub all : o ≡ Some (conditions_of q n cs, drop end q)
   pub within : end ≤ length q
 
-abbrev pub no_array : Gathered
-no_array = record { good = false; end = 0; count = 0; conditions = replicate 8 no_condition }
-
-abbrev pub GatheredBy : Option (List RuleCondition × Text) → Text → (good : Bool) → Gathered → Type 0
-GatheredBy o q true r = Array o q r.end r.count r.conditions
-GatheredBy o q false r = (o ≡ none) × (r ≡ no_array)
-
-abbrev pub GatheredIs : Option (List RuleCondition × Text) → Text → Gathered → Type 0
-GatheredIs o q r = GatheredBy o q r.good r
+abbrev pub GatheredIs : Option (List RuleCondition × Text) → Text → Option Gathered → Type 0
+GatheredIs o q (Some r) = Array o q r.end r.query.count r.query.conditions
+GatheredIs o q None = o ≡ None
 
 -- ---- the query
 
 pub record Accepted (q : Text) (n : ℕ) (cs : List Condition) : Type 0 where
   pub held : Held q n cs
-  pub says : query q ≡ some (conditions_of q n cs)
+  pub says : query q ≡ Some (conditions_of q n cs)
 
-abbrev pub QueryBy : Text → (good : Bool) → Query → Type 0
-QueryBy q true r = Accepted q r.count r.conditions
-QueryBy q false r = (query q ≡ none) × (r ≡ no_query)
-
-abbrev pub QueryIs : Text → Query → Type 0
-QueryIs q r = QueryBy q r.good r
+abbrev pub QueryIs : Text → Option Query → Type 0
+QueryIs q (Some r) = Accepted q r.count r.conditions
+QueryIs q None = query q ≡ None

@@ -5,11 +5,10 @@ ghost use Rattle.field_scalars.specs.Inside.{Inside, string_in};
 ghost use Rattle.query_conditions.specs.Conditions.{condition_from, condition_by, condition_read, MadeIs, ElementIs};
 
 use crate::members::in_order;
-use crate::words::{As, Fit, Kind, Op, Operator};
+use crate::words::{As, Op};
 use crate::{IN_CONDITION, words};
 use field_objects::Slot;
-use field_scalars::Wording;
-use json_tokens::{Next, OPEN_BRACE};
+use json_tokens::OPEN_BRACE;
 use query_numbers::Signed;
 
 // A condition on the values of a column. The column and the bound, the condition's own value, are strings of the query, each by the
@@ -23,14 +22,8 @@ pub struct Condition {
     pub number: Signed,
 }
 
-#[derive(Clone, Copy)]
-pub enum Made {
-    Of(Condition),
-    NoCondition,
-}
-
 // The condition of the strings behind four positions.
-fn condition_by(q: &[u8], column: usize, kind: usize, op: usize, bound: usize) -> Made
+fn condition_by(q: &[u8], column: usize, kind: usize, op: usize, bound: usize) -> Option<Condition>
     requires { WellSpelled q.now column × WellSpelled q.now kind × WellSpelled q.now op × WellSpelled q.now bound }
     ensures { MadeIs
         (condition_from (decoded (drop column q.now)) (decoded (drop kind q.now)) (decoded (drop op q.now))
@@ -38,16 +31,10 @@ fn condition_by(q: &[u8], column: usize, kind: usize, op: usize, bound: usize) -
         q.now
         result }
 {
-    let Kind::Of(k) = words::kind_at(q, kind) else {
-        return Made::NoCondition;
-    };
-    let Operator::Of(o) = words::operator_at(q, op) else {
-        return Made::NoCondition;
-    };
-    let Fit::Fits(number) = words::fit_at(q, bound, k) else {
-        return Made::NoCondition;
-    };
-    Made::Of(Condition {
+    let k = words::kind_at(q, kind)?;
+    let o = words::operator_at(q, op)?;
+    let number = words::fit_at(q, bound, k)?;
+    Some(Condition {
         column,
         kind: k,
         op: o,
@@ -57,56 +44,34 @@ fn condition_by(q: &[u8], column: usize, kind: usize, op: usize, bound: usize) -
 }
 
 // The condition of the strings of four fields.
-fn condition_of(q: &[u8], column: Slot, kind: Slot, op: Slot, bound: Slot) -> Made
+fn condition_of(q: &[u8], column: Slot, kind: Slot, op: Slot, bound: Slot) -> Option<Condition>
     requires { Inside q.now column × Inside q.now kind × Inside q.now op × Inside q.now bound }
     ensures { MadeIs
         (condition_by (string_in q.now column) (string_in q.now kind) (string_in q.now op) (string_in q.now bound))
         q.now
         result }
 {
-    let Wording::Sized(c, _) = field_scalars::string_in(q, column) else {
-        return Made::NoCondition;
-    };
-    let Wording::Sized(k, _) = field_scalars::string_in(q, kind) else {
-        return Made::NoCondition;
-    };
-    let Wording::Sized(o, _) = field_scalars::string_in(q, op) else {
-        return Made::NoCondition;
-    };
-    let Wording::Sized(b, _) = field_scalars::string_in(q, bound) else {
-        return Made::NoCondition;
-    };
+    let (c, _) = field_scalars::string_in(q, column)?;
+    let (k, _) = field_scalars::string_in(q, kind)?;
+    let (o, _) = field_scalars::string_in(q, op)?;
+    let (b, _) = field_scalars::string_in(q, bound)?;
     condition_by(q, c, k, o, b)
 }
 
-// A condition, and the position behind its object; or none.
-#[derive(Clone, Copy)]
-pub enum Element {
-    Holds(Condition, usize),
-    Bad,
-}
-
 // The condition whose object begins at `at`.
-pub fn condition_at(q: &[u8], at: usize) -> Element
+pub fn condition_at(q: &[u8], at: usize) -> Option<(Condition, usize)>
     requires { at ≤ length q.now }
     ensures { ElementIs (condition_read (drop at q.now)) q.now at result }
 {
-    let Next::At(i) = json_tokens::skip_byte(q, at, OPEN_BRACE) else {
-        return Element::Bad;
-    };
-    let f = field_objects::scan(q, i, field_names::Kind::Condition, IN_CONDITION);
-    if !f.good {
-        return Element::Bad;
-    }
+    let i = json_tokens::skip_byte(q, at, OPEN_BRACE)?;
+    let f = field_objects::scan(q, i, field_names::Kind::Condition, IN_CONDITION)?;
     if !in_order(q, i, IN_CONDITION) {
-        return Element::Bad;
+        return None;
     }
     let column = f.slots[0];
     let kind = f.slots[1];
     let op = f.slots[2];
     let bound = f.slots[3];
-    let Made::Of(c) = condition_of(q, column, kind, op, bound) else {
-        return Element::Bad;
-    };
-    Element::Holds(c, f.end)
+    let c = condition_of(q, column, kind, op, bound)?;
+    Some((c, f.end))
 }

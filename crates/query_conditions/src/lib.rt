@@ -6,9 +6,9 @@ mod members;
 mod reading;
 mod words;
 
-pub use conditions::{Condition, Element, condition_at};
+pub use conditions::{Condition, condition_at};
 pub use reading::{Query, read};
-pub use words::{As, Fit, Kind, Op, Operator, fit_at, kind_at, numeral_in, operator_at};
+pub use words::{As, Op, fit_at, kind_at, numeral_in, operator_at};
 
 // How deep values may nest inside of an array and an object.
 const IN_CONDITION: usize = 30;

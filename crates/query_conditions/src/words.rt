@@ -5,8 +5,8 @@ ghost use Rattle.query_numbers.specs.Answers.{numeral_is};
 ghost use Rattle.json_strings.specs.Decoded.{decoded, WellSpelled};
 ghost use Rattle.query_conditions.specs.Words.{as_is, kind_is, operator_is, fit_is};
 
-use json_strings::{Cursor, Step};
-use query_numbers::{Numeral, Signed};
+use json_strings::Cursor;
+use query_numbers::{NoNumber, Signed};
 
 // A minus and 20 digits: the most bytes that a number may have.
 const MOST_BYTES: usize = 21;
@@ -18,24 +18,18 @@ pub enum As {
     Number,
 }
 
-#[derive(Clone, Copy)]
-pub enum Kind {
-    Of(As),
-    NoKind,
-}
-
 // The kind that the string behind `at` says.
-pub fn kind_at(q: &[u8], at: usize) -> Kind
+pub fn kind_at(q: &[u8], at: usize) -> Option<As>
     requires { WellSpelled q.now at }
     ensures { result ≡ kind_is (as_of (decoded (drop at q.now))) }
 {
     if json_strings::string_is(q, at, b"text") {
-        return Kind::Of(As::Text);
+        return Some(As::Text);
     }
     if json_strings::string_is(q, at, b"number") {
-        Kind::Of(As::Number)
+        Some(As::Number)
     } else {
-        Kind::NoKind
+        None
     }
 }
 
@@ -49,38 +43,32 @@ pub enum Op {
     Ge,
 }
 
-#[derive(Clone, Copy)]
-pub enum Operator {
-    Of(Op),
-    NoOperator,
-}
-
 // The operator that the string behind `at` says.
-pub fn operator_at(q: &[u8], at: usize) -> Operator
+pub fn operator_at(q: &[u8], at: usize) -> Option<Op>
     requires { WellSpelled q.now at }
     ensures { result ≡ operator_is (op_of (decoded (drop at q.now))) }
 {
     if json_strings::string_is(q, at, b"eq") {
-        return Operator::Of(Op::Eq);
+        return Some(Op::Eq);
     }
     if json_strings::string_is(q, at, b"lt") {
-        return Operator::Of(Op::Lt);
+        return Some(Op::Lt);
     }
     if json_strings::string_is(q, at, b"le") {
-        return Operator::Of(Op::Le);
+        return Some(Op::Le);
     }
     if json_strings::string_is(q, at, b"gt") {
-        return Operator::Of(Op::Gt);
+        return Some(Op::Gt);
     }
     if json_strings::string_is(q, at, b"ge") {
-        Operator::Of(Op::Ge)
+        Some(Op::Ge)
     } else {
-        Operator::NoOperator
+        None
     }
 }
 
 // The number that the string stands for. More bytes than 21 are none, so no more are looked at.
-pub fn numeral_in(s: &[u8], at: usize) -> Numeral
+pub fn numeral_in(s: &[u8], at: usize) -> Result<Signed, NoNumber>
     requires { WellSpelled s.now at }
     ensures { result ≡ numeral_is (number_of (decoded (drop at s.now))) }
 {
@@ -90,39 +78,27 @@ pub fn numeral_in(s: &[u8], at: usize) -> Numeral
         left: 0,
     };
     let mut digits = [0u8; 24];
-    let mut n = 0;
-    while n <= MOST_BYTES {
-        let Step::Byte(b, d) = json_strings::next(s, c) else {
+    for n in 0..=MOST_BYTES {
+        let Some((b, d)) = json_strings::next(s, c) else {
             return query_numbers::numeral_of(&digits[..n]);
         };
         digits[n] = b;
         c = d;
-        n += 1;
     }
-    Numeral::NotNumber
-}
-
-// Whether a value fits a kind; under "number" with its number, which under "text" is zero.
-#[derive(Clone, Copy)]
-pub enum Fit {
-    Fits(Signed),
-    Unfit,
+    Err(NoNumber::NotNumber)
 }
 
 // The string behind `at` as the value of a condition of the kind.
-pub fn fit_at(q: &[u8], at: usize, kind: As) -> Fit
+#[tactic(auto, using(crate::proofs::Saying::ok_fits), unfolding(crate::specs::Words::as_is, crate::specs::Words::fit_is))]
+pub fn fit_at(q: &[u8], at: usize, kind: As) -> Option<Signed>
     requires { WellSpelled q.now at }
     ensures { result ≡ fit_is (as_is kind) (decoded (drop at q.now)) }
 {
     match kind {
-        As::Text => Fit::Fits(Signed {
+        As::Text => Some(Signed {
             negative: false,
             size: 0,
         }),
-        As::Number => match numeral_in(q, at) {
-            Numeral::Number(n) => Fit::Fits(n),
-            Numeral::OutOfRange => Fit::Unfit,
-            Numeral::NotNumber => Fit::Unfit,
-        },
+        As::Number => numeral_in(q, at).ok(),
     }
 }

@@ -1,11 +1,14 @@
 -- How two numbers stand to each other, by their signs and sizes.
-use mathlib.Core.Path.{◌≡◌, refl, sym, ap}
+use mathlib.Core.Path.{◌≡◌, refl, sym, ap, ◌∙◌}
 use mathlib.Core.Bool.{Bool, true, false}
 use mathlib.Core.Logic.{◌⊎◌, inl, inr}
 use Prim.Native.Nat.{ℕ, zero, suc, ◌≤◌, ◌<◌}
 use native.Mathlib.Omega.{arith}
 use lib.IntN.{pos, negsuc, neg_ℤ}
 use borrow.Author.Tests.{lt-ltb, le-ltb}
+use Rattle.std.specs.Ordering.{nat_cmp}
+use Rattle.std.proofs.lemmas.Cmp.{by_ranked, ranked}
+use Rattle.bytes_values.specs.Answers.{order_is}
 use Rattle.rules.specs.Bytes.{less, equal, more}
 use Rattle.rules.specs.Picking.{order_of_numbers}
 use Rattle.rules.proofs.Order.{trichotomy}
@@ -26,6 +29,15 @@ module _ (a b : ℕ) where
   pub sizes-equal : b ≤ a → a ≤ b → order_of_numbers (pos a) (pos b) ≡ equal
   unfolding order_of_numbers
   sizes-equal g h = rw (order_of_numbers, le-ltb a b g, le-ltb b a h)
+
+  -- as std puts numbers in order
+  pub sizes-order : nat_cmp a b ≡ order_is (order_of_numbers (pos a) (pos b))
+  unfolding order_is
+  sizes-order =
+      by_ranked (a < b) (a ≡ b) (b < a) (nat_cmp a b) (ranked a b (nat_cmp a b) refl)
+      (λ e h. e ∙ ap order_is (sym (sizes-less h)))
+      (λ e h. e ∙ ap order_is (sym (sizes-equal (omega arith) (omega arith))))
+      (λ e h. e ∙ ap order_is (sym (sizes-more h)))
 
 -- ---- signs
 
@@ -64,29 +76,29 @@ module _ (s t : Signed) where
   unfolding signed_as
   numbers-positive e f = rw (signed_of s e, signed_of t f)
 
-  pub numbers-less : s.negative ≡ true → t.negative ≡ false → (s.size ≡ 0 → ⊥) → order_of_numbers (signed_is s) (signed_is t) ≡ less
+  -- a zero with a minus is zero
+  pub numbers-zeros : s.size ≡ 0 → t.size ≡ 0 → order_of_numbers (signed_is s) (signed_is t) ≡ equal
+  unfolding signed_is signed_as order_of_numbers
+  numbers-zeros y z = rw (y, z) (go s.negative t.negative)
+    where
+      go : (a b : Bool) → order_of_numbers (signed_as a 0) (signed_as b 0) ≡ equal
+      go true true = refl
+      go true false = refl
+      go false true = refl
+      go false false = refl
+
+  pub numbers-less : s.negative ≡ true → t.negative ≡ false → (s.size ≡ 0 → t.size ≡ 0 → ⊥) → order_of_numbers (signed_is s) (signed_is t) ≡ less
   unfolding signed_as order_of_numbers
   numbers-less e f h = rw (signed_of s e, signed_of t f) (go s.size h)
     where
-      go : (n : ℕ) → (n ≡ 0 → ⊥) → order_of_numbers (neg_ℤ (pos n)) (pos t.size) ≡ less
-      go zero h = absurd (h refl)
-      go (suc n) h = refl
+      go : (n : ℕ) → (n ≡ 0 → t.size ≡ 0 → ⊥) → order_of_numbers (neg_ℤ (pos n)) (pos t.size) ≡ less
+      go zero k = let l : t.size ≡ 0 → ⊥ = k refl in sizes-less 0 t.size (omega arith)
+      go (suc n) k = refl
 
-  pub numbers_more : s.negative ≡ false → t.negative ≡ true → (t.size ≡ 0 → ⊥) → order_of_numbers (signed_is s) (signed_is t) ≡ more
+  pub numbers_more : s.negative ≡ false → t.negative ≡ true → (s.size ≡ 0 → t.size ≡ 0 → ⊥) → order_of_numbers (signed_is s) (signed_is t) ≡ more
   unfolding signed_as order_of_numbers
-  numbers_more e f h = rw (signed_of s e, signed_of t f) (go t.size h)
+  numbers_more e f h = rw (signed_of s e, signed_of t f) (go t.size (λ z y. h y z))
     where
-      go : (n : ℕ) → (n ≡ 0 → ⊥) → order_of_numbers (pos s.size) (neg_ℤ (pos n)) ≡ more
-      go zero h = absurd (h refl)
-      go (suc n) h = refl
-
-  -- a zero with a minus is zero
-  pub numbers-first-zero : s.negative ≡ true → t.negative ≡ false → s.size ≡ 0
-      → order_of_numbers (signed_is s) (signed_is t) ≡ order_of_numbers (pos 0) (pos t.size)
-  unfolding signed_as
-  numbers-first-zero e f z = rw (signed_of s e, signed_of t f, z)
-
-  pub numbers-second-zero : s.negative ≡ false → t.negative ≡ true → t.size ≡ 0
-      → order_of_numbers (signed_is s) (signed_is t) ≡ order_of_numbers (pos s.size) (pos 0)
-  unfolding signed_as
-  numbers-second-zero e f z = rw (signed_of s e, signed_of t f, z)
+      go : (n : ℕ) → (n ≡ 0 → s.size ≡ 0 → ⊥) → order_of_numbers (pos s.size) (neg_ℤ (pos n)) ≡ more
+      go zero k = let l : s.size ≡ 0 → ⊥ = k refl in sizes-more s.size 0 (omega arith)
+      go (suc n) k = refl

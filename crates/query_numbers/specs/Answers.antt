@@ -2,8 +2,10 @@
 use Rattle.std.specs.Prelude.{Bool, true, false, ℕ, suc, ℤ, pos, negsuc, neg_ℤ}
 use Rattle.rules.specs.Query.{Number as RuleNumber, number, out_of_range, not_number}
 use Rattle.query_numbers.specs.declared.Signed.{Signed}
-use Rattle.query_numbers.specs.declared.Numeral.{Numeral}
-use Rattle.query_numbers.specs.declared.Numeral.TheVariants.{Number, OutOfRange, NotNumber}
+use Rattle.std.specs.Prelude.{Result, Ok, Err}
+use Rattle.query_numbers.specs.declared.NoNumber.{NoNumber}
+use Rattle.query_numbers.specs.declared.NoNumber.TheVariants.{OutOfRange}
+use Rattle.query_numbers.specs.declared.NoNumber.TheVariants.{NotNumber}
 
 -- numbers by sign and size: there and back
 
@@ -19,7 +21,7 @@ unfoldable pub signed_of : ℤ → Signed
 signed_of (pos n) = record { negative = false; size = n }
 signed_of (negsuc n) = record { negative = true; size = suc n }
 
-unfoldable pub numeral_is : RuleNumber → Numeral
-numeral_is (number z) = Number (signed_of z)
-numeral_is out_of_range = OutOfRange
-numeral_is not_number = NotNumber
+unfoldable pub numeral_is : RuleNumber → Result Signed NoNumber
+numeral_is (number z) = Ok (signed_of z)
+numeral_is out_of_range = (Err OutOfRange)
+numeral_is not_number = (Err NotNumber)

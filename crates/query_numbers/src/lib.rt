@@ -2,8 +2,7 @@
 // Each function answers for every text that it is lent.
 #![tactic(auto)]
 
-ghost use Rattle.std.specs.Prelude.{◌≡◌, length, pos};
-ghost use Rattle.std.proofs.Math.Option.{some};
+ghost use Rattle.std.specs.Prelude.{◌≡◌, length, Some};
 ghost use Rattle.rules.specs.Numbers.{decimal};
 ghost use Rattle.rules.specs.Query.{most_digits, number_of, digits_in, positive, negative};
 ghost use Rattle.rules.specs.Picking.{order_of_numbers};
@@ -11,7 +10,8 @@ ghost use Rattle.bytes_values.specs.Answers.{order_is};
 ghost use Rattle.query_numbers.specs.Answers.{signed_is, numeral_is};
 ghost use Rattle.query_numbers.specs.Capping.{capped_is};
 
-use bytes_values::{Digits, MOST, Order, SAFE_DIGITS};
+use bytes_values::{MOST, SAFE_DIGITS};
+use std::cmp::Ordering;
 
 // 2^63: the lowest number of a query is -2^63.
 const LOWEST_SIZE: u64 = 9223372036854775808;
@@ -20,152 +20,103 @@ const LOWEST_SIZE: u64 = 9223372036854775808;
 const MOST_DIGITS: usize = 20;
 
 // A number by its sign and its size. Zero is not negative.
-#[derive(Clone, Copy)]
+#[derive(Clone, Copy, Debug)]
 pub struct Signed {
     pub negative: bool,
     pub size: u64,
 }
 
-// The number of a query; a text of that shape may still be out of range.
-#[derive(Clone, Copy)]
-pub enum Numeral {
-    Number(Signed),
+// Why bytes are no number of a query: the number that they spell is out of range, or they spell none.
+#[derive(Clone, Copy, Debug, PartialEq, Eq)]
+pub enum NoNumber {
     OutOfRange,
     NotNumber,
 }
 
-#[derive(Clone, Copy)]
-enum Capped {
-    Below(u64),
-    TooBig,
-    NoDigits,
-}
-
-fn cap(n: u64) -> Capped
-    ensures { result ≡ capped_is (some n) }
+fn cap(n: u64) -> Result<u64, NoNumber>
+    ensures { result ≡ capped_is (Some n) }
 {
     if LOWEST_SIZE < n {
-        return Capped::TooBig;
+        return Err(NoNumber::OutOfRange);
     }
-    Capped::Below(n)
+    Ok(n)
 }
 
 // Of twenty digits the first tells whether they may be in range.
-fn twenty_digits(v: &[u8]) -> Capped
+fn twenty_digits(v: &[u8]) -> Result<u64, NoNumber>
     requires { length v.now ≡ most_digits }
     ensures { result ≡ capped_is (decimal v.now) }
 {
-    let b = v[0];
-    if b < b'0' {
-        return Capped::NoDigits;
+    if !v[0].is_ascii_digit() {
+        return Err(NoNumber::NotNumber);
     }
-    if b'9' < b {
-        return Capped::NoDigits;
+    let n = bytes_values::short_digits(&v[1..]).ok_or(NoNumber::NotNumber)?;
+    if b'0' < v[0] {
+        return Err(NoNumber::OutOfRange);
     }
-    match bytes_values::short_digits(&v[1..]) {
-        Digits::NotDigits => Capped::NoDigits,
-        Digits::Value(n) => {
-            if b'0' < b {
-                return Capped::TooBig;
-            }
-            cap(n)
-        }
-    }
+    cap(n)
 }
 
 // One to twenty digits, zeros in front allowed.
-fn capped_digits(v: &[u8]) -> Capped
+fn capped_digits(v: &[u8]) -> Result<u64, NoNumber>
     ensures { result ≡ capped_is (digits_in v.now) }
 {
     if MOST_DIGITS < v.len() {
-        return Capped::NoDigits;
+        return Err(NoNumber::NotNumber);
     }
     if SAFE_DIGITS < v.len() {
         return twenty_digits(v);
     }
-    match bytes_values::short_digits(v) {
-        Digits::NotDigits => Capped::NoDigits,
-        Digits::Value(n) => cap(n),
-    }
+    let n = bytes_values::short_digits(v).ok_or(NoNumber::NotNumber)?;
+    cap(n)
 }
 
-fn positive_of(v: &[u8]) -> Numeral
+fn positive_of(v: &[u8]) -> Result<Signed, NoNumber>
     ensures { result ≡ numeral_is (positive (digits_in v.now)) }
 {
-    match capped_digits(v) {
-        Capped::NoDigits => Numeral::NotNumber,
-        Capped::TooBig => Numeral::OutOfRange,
-        Capped::Below(n) => {
-            if MOST < n {
-                return Numeral::OutOfRange;
-            }
-            Numeral::Number(Signed {
-                negative: false,
-                size: n,
-            })
-        }
+    let n = capped_digits(v)?;
+    if MOST < n {
+        return Err(NoNumber::OutOfRange);
     }
+    Ok(Signed {
+        negative: false,
+        size: n,
+    })
 }
 
-fn negative_of(v: &[u8]) -> Numeral
+fn negative_of(v: &[u8]) -> Result<Signed, NoNumber>
     ensures { result ≡ numeral_is (negative (digits_in v.now)) }
 {
-    match capped_digits(v) {
-        Capped::NoDigits => Numeral::NotNumber,
-        Capped::TooBig => Numeral::OutOfRange,
-        Capped::Below(n) => Numeral::Number(Signed {
-            negative: 0 < n,
-            size: n,
-        }),
-    }
+    let n = capped_digits(v)?;
+    Ok(Signed {
+        negative: 0 < n,
+        size: n,
+    })
 }
 
 // The number that decoded bytes spell: an optional minus and 1 to 20 digits, from -2^63 to 2^63 - 1.
-pub fn numeral_of(v: &[u8]) -> Numeral
+pub fn numeral_of(v: &[u8]) -> Result<Signed, NoNumber>
     ensures { result ≡ numeral_is (number_of v.now) }
 {
-    if v.len() == 0 {
-        return Numeral::NotNumber;
+    match v.strip_prefix(b"-") {
+        Some(digits) => negative_of(digits),
+        None => positive_of(v),
     }
-    if v[0] == b'-' {
-        return negative_of(&v[1..]);
-    }
-    positive_of(v)
 }
 
 // ---- their order
 
-// How a stands to b, two sizes.
-fn order_sizes(a: u64, b: u64) -> Order
-    ensures { result ≡ order_is (order_of_numbers (pos a) (pos b)) }
-{
-    if a < b {
-        return Order::Less;
-    }
-    if b < a {
-        return Order::More;
-    }
-    Order::Equal
-}
-
-// How a stands to b, two numbers.
-pub fn order_numbers(a: Signed, b: Signed) -> Order
+// How a stands to b; a zero with a minus is zero.
+pub fn order_numbers(a: Signed, b: Signed) -> Ordering
     ensures { result ≡ order_is (order_of_numbers (signed_is a) (signed_is b)) }
 {
-    if a.negative {
-        if b.negative {
-            return order_sizes(b.size, a.size);
-        }
-        if a.size == 0 {
-            return order_sizes(0, b.size);
-        }
-        return Order::Less;
+    if a.size == 0 && b.size == 0 {
+        return Ordering::Equal;
     }
-    if b.negative {
-        if b.size == 0 {
-            return order_sizes(a.size, 0);
-        }
-        return Order::More;
+    match (a.negative, b.negative) {
+        (true, true) => b.size.cmp(&a.size),
+        (true, false) => Ordering::Less,
+        (false, true) => Ordering::Greater,
+        (false, false) => a.size.cmp(&b.size),
     }
-    order_sizes(a.size, b.size)
 }

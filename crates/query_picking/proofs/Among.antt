@@ -1,7 +1,7 @@
 -- The columns of conditions among those of the table: one after the other, and by what the line of the table says.
 use mathlib.Core.Path.{◌≡◌, refl, sym, ap, ◌∙◌}
 use mathlib.Core.Bool.{Bool, true, false}
-use mathlib.Core.Option.{Option, none, some}
+use Rattle.std.specs.Prelude.{Option, None, Some}
 use mathlib.Core.List.{List, [], ◌∷◌, map}
 use Prim.Native.Nat.{ℕ, ◌+◌, ◌≤◌, ◌<◌}
 use native.Mathlib.Omega.{arith}
@@ -74,10 +74,10 @@ module _ (q : Text) (n : ℕ) (cs : List Condition) (l : n ≤ length cs) where
 -- ---- the columns of the table whose line stands at `at`
 
 module _ (src : Text) (at : Span) where
-  pub table-columns : {m : MetaData} → action (line_at src at) ≡ some (meta_data m) → (or_no_table (table_at src at)).partition_columns ≡ m.partition_columns
+  pub table-columns : {m : MetaData} → action (line_at src at) ≡ Some (meta_data m) → (or_no_table (table_at src at)).partition_columns ≡ m.partition_columns
   unfolding table_at meta_data_in or_no_table
   table-columns e = ap (λ (o : Option Action). (or_no_table (meta_data_in o)).partition_columns) e
 
-  pub no-columns : meta_data_in (action (line_at src at)) ≡ none → (or_no_table (table_at src at)).partition_columns ≡ []
+  pub no-columns : meta_data_in (action (line_at src at)) ≡ None → (or_no_table (table_at src at)).partition_columns ≡ []
   unfolding table_at or_no_table no_table
   no-columns e = ap (λ (x : Option MetaData). (or_no_table x).partition_columns) e

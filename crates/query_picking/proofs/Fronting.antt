@@ -21,7 +21,7 @@ use Rattle.row_table.specs.Table.{wide, row, rows, row_at, behind, Changed}
 use Rattle.row_table.specs.declared.Cells.{Cells}
 use Rattle.log_replay.specs.Views.{facts_at, row_of}
 use Rattle.query_picking.specs.Picked.{Fronted, PickedBy}
-use Rattle.query_picking.specs.declared.Picking.TheVariants.{Rows}
+use Rattle.std.specs.Prelude.{Ok}
 
 -- the picked rows are the rows of the picked files
 pub picked-map : (src : Text) (cs : List Condition) (xs : List Cells)
@@ -50,7 +50,7 @@ unfolding All
 in_range_all-none cs rs e = ap (λ (ds : List Condition). in_range_all ds rs) e ∙ in_range_all-text [] rs tt
 
 -- where nothing is asked every row is picked, as it stands
-pub picks-all : (src : Text) (cs : List Condition) (n : ℕ) (t : List ℕ) → cs ≡ [] → PickedBy src cs n t t (Rows n)
+pub picks-all : (src : Text) (cs : List Condition) (n : ℕ) (t : List ℕ) → cs ≡ [] → PickedBy src cs n t t (Ok n)
 picks-all src cs n t e = (
   in_range_all-none cs (map (row_of src) (rows n t)) e,
   record {

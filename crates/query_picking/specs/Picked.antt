@@ -8,8 +8,8 @@ use Rattle.rules.specs.Due.{is_due}
 use Rattle.row_table.specs.Table.{rows, behind}
 use Rattle.row_table.specs.declared.Cells.{Cells}
 use Rattle.log_replay.specs.Views.{facts_at, row_of}
-use Rattle.query_picking.specs.declared.Picking.{Picking}
-use Rattle.query_picking.specs.declared.Picking.TheVariants.{Rows, OutOfRange}
+use Rattle.std.specs.Prelude.{Result, Ok, Err}
+use Rattle.query_comparisons.specs.declared.OutOfRange.{OutOfRange}
 
 -- the n rows of t became the m rows of t': those that pass the test, in their order
 pub record Fronted (test : Cells → Bool) (n : ℕ) (t : List ℕ) (m : ℕ) (t' : List ℕ) : Type 0 where
@@ -23,9 +23,9 @@ abbrev pub Picks : (src : Text) (cs : List Condition) (n : ℕ) (t : List ℕ) (
 Picks src cs n t m t' = Fronted (λ (c : Cells). meets_all cs (facts_at src c)) n t m t'
 
 -- none of the n rows has a value out of range, and the picked ones are at the front; or one has
-abbrev pub PickedBy : (src : Text) (cs : List Condition) (n : ℕ) (t t' : List ℕ) → Picking → Type 0
-PickedBy src cs n t t' (Rows m) = (in_range_all cs (map (row_of src) (rows n t)) ≡ true) × Picks src cs n t m t'
-PickedBy src cs n t t' OutOfRange = (in_range_all cs (map (row_of src) (rows n t)) ≡ false) × (behind n t' ≡ behind n t) × (length t' ≡ length t)
+abbrev pub PickedBy : (src : Text) (cs : List Condition) (n : ℕ) (t t' : List ℕ) → Result ℕ OutOfRange → Type 0
+PickedBy src cs n t t' (Ok m) = (in_range_all cs (map (row_of src) (rows n t)) ≡ true) × Picks src cs n t m t'
+PickedBy src cs n t t' (Err x) = (in_range_all cs (map (row_of src) (rows n t)) ≡ false) × (behind n t' ≡ behind n t) × (length t' ≡ length t)
 
 -- the file of a row is due
 abbrev pub due_row : (time : ℕ) → Cells → Bool

@@ -5,7 +5,6 @@ ghost use Rattle.field_containers.specs.Strung.{Listed, IsList};
 ghost use Rattle.query_conditions.specs.Reading.{columns_of, Sounds};
 ghost use Rattle.log_replay.specs.Views.{table_at, or_no_table, Inside};
 
-use line_actions::SaidTable;
 use log_replay::Span;
 use query_conditions::{Condition, Query};
 
@@ -14,13 +13,10 @@ fn all_held(line: &[u8], at: usize, q: &[u8], conditions: [Condition; 8], n: usi
     requires { (at ≤ length line.now) × IsList line.now at × Sounds q.now n conditions }
     ensures { (names : List Bytes) → Listed line.now at names → result ≡ all_among names (columns_of q.now n conditions) }
 {
-    let mut k = 0;
-    while k < n {
+    for k in 0..n {
         let c = conditions[k];
         let column = c.column;
-        if field_containers::holds_string(line, at, q, column) {
-            k += 1;
-        } else {
+        if !field_containers::holds_string(line, at, q, column) {
             return false;
         }
     }
@@ -36,8 +32,8 @@ fn columns_at(src: &[u8], at: Span, q: &[u8], conditions: [Condition; 8], n: usi
     let from = at.at;
     let to = from + at.size;
     match line_actions::table_of(&src[from..to]) {
-        SaidTable::Table(x) => all_held(&src[from..to], x.columns, q, conditions, n),
-        SaidTable::NoTable => n == 0,
+        Some(x) => all_held(&src[from..to], x.columns, q, conditions, n),
+        None => n == 0,
     }
 }
 

@@ -21,16 +21,12 @@ pub fn pick_due(t: &mut [u64], n: usize, time: u64) -> usize
     requires { Room n t.old }
     ensures { Dues time n t.old result t.new }
 {
-    let mut k = 0;
     let mut m = 0;
-    while k < n {
+    for k in 0..n {
         let c = row_table::row_at(t, k);
         if is_due(c, time) {
             row_table::set_row(t, m, c);
             m += 1;
-            k += 1;
-        } else {
-            k += 1;
         }
     }
     m

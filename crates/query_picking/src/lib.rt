@@ -19,15 +19,12 @@ ghost use Rattle.query_picking.specs.Picked.{PickedBy};
 pub use columns::all_columns;
 pub use due::pick_due;
 use field_containers::IN_FIELD;
-use field_objects::Found;
-use field_scalars::Wording;
-use line_actions::SaidAdd;
-use query_comparisons::Judged;
+use query_comparisons::OutOfRange;
 use query_conditions::{As, Condition, Query};
 use row_table::Cells;
 
 // `at` is just after the brace of a file's partition values. What the condition c of the query q says of them.
-fn judge_one(line: &[u8], at: usize, q: &[u8], c: Condition) -> Judged
+fn judge_one(line: &[u8], at: usize, q: &[u8], c: Condition) -> Result<bool, OutOfRange>
     requires { Paired line.now at × Sound q.now c }
     ensures { (ps : Pairs) → Pairing line.now at ps
         → result
@@ -35,18 +32,18 @@ fn judge_one(line: &[u8], at: usize, q: &[u8], c: Condition) -> Judged
         (meets_value (condition_of q.now c) (value_at (condition_of q.now c).column ps)) }
 {
     let column = c.column;
-    let Found::At(v, e) = field_objects::find_name(line, at, IN_FIELD, q, column) else {
-        return Judged::Unmet; // a missing value meets none
+    let Some((v, e)) = field_objects::find_name(line, at, IN_FIELD, q, column) else {
+        return Ok(false); // a missing value meets none
     };
-    let Wording::Sized(p, _) = field_scalars::string_at(line, v, e) else {
-        return Judged::Unmet; // null meets none
+    let Some((p, _)) = field_scalars::string_at(line, v, e) else {
+        return Ok(false); // null meets none
     };
     query_comparisons::judge_at(q, c, line, p)
 }
 
 // The same after other conditions, of which `met` says whether they are met. Once one is not, a text is not looked up:
 // it is never out of range.
-fn judge_next(line: &[u8], at: usize, q: &[u8], c: Condition, met: bool) -> Judged
+fn judge_next(line: &[u8], at: usize, q: &[u8], c: Condition, met: bool) -> Result<bool, OutOfRange>
     requires { Paired line.now at × Sound q.now c }
     ensures { (ps : Pairs) → Pairing line.now at ps
         → result
@@ -58,44 +55,35 @@ fn judge_next(line: &[u8], at: usize, q: &[u8], c: Condition, met: bool) -> Judg
     }
     let kind = c.kind;
     match kind {
-        As::Text => Judged::Unmet,
-        As::Number => match judge_one(line, at, q, c) {
-            Judged::OutOfRange => Judged::OutOfRange,
-            Judged::Met => Judged::Unmet,
-            Judged::Unmet => Judged::Unmet,
-        },
+        As::Text => Ok(false),
+        As::Number => {
+            judge_one(line, at, q, c)?;
+            Ok(false)
+        }
     }
 }
 
 // What the first `count` conditions say of them: all are looked at, whether one is unmet or not, for a value out of range.
-fn judge_each(line: &[u8], at: usize, q: &[u8], conditions: [Condition; 8], count: usize) -> Judged
+fn judge_each(
+    line: &[u8],
+    at: usize,
+    q: &[u8],
+    conditions: [Condition; 8],
+    count: usize,
+) -> Result<bool, OutOfRange>
     requires { Paired line.now at × Sounds q.now count conditions }
     ensures { (f : Facts) → Pairing line.now at f.partition_values
         → result ≡ judged_is (any_out_of (conditions_of q.now count conditions) f) (meets_all (conditions_of q.now count conditions) f) }
 {
-    let mut k = 0;
     let mut met = true;
-    while k < count {
-        let c = conditions[k];
-        match judge_next(line, at, q, c, met) {
-            Judged::Met => {
-                k += 1;
-            }
-            Judged::Unmet => {
-                met = false;
-                k += 1;
-            }
-            Judged::OutOfRange => return Judged::OutOfRange,
-        }
+    for k in 0..count {
+        met = judge_next(line, at, q, conditions[k], met)?;
     }
-    if met {
-        return Judged::Met;
-    }
-    Judged::Unmet
+    Ok(met)
 }
 
 // What the query says of the file of a row: it is picked where all conditions are met.
-pub fn judge_row(src: &[u8], c: Cells, q: &[u8], asked: Query) -> Judged
+pub fn judge_row(src: &[u8], c: Cells, q: &[u8], asked: Query) -> Result<bool, OutOfRange>
     requires { Stands src.now c × Sounds q.now asked.count asked.conditions }
     ensures { result
         ≡ judged_is (any_out_of (conditions_of q.now asked.count asked.conditions) (facts_at src.now c))
@@ -105,50 +93,48 @@ pub fn judge_row(src: &[u8], c: Cells, q: &[u8], asked: Query) -> Judged
     let end = at + c.len as usize;
     let conditions = asked.conditions;
     match line_actions::add_of(&src[at..end]) {
-        SaidAdd::Add(a) => judge_each(&src[at..end], a.values, q, conditions, asked.count),
-        SaidAdd::NoAdd => Judged::Unmet, // never: the line of a row is an add
+        Some(a) => judge_each(&src[at..end], a.values, q, conditions, asked.count),
+        None => Ok(false), // never: the line of a row is an add
     }
-}
-
-// How many rows are picked; or none, where a file, picked or not, has a value out of range.
-#[derive(Clone, Copy)]
-pub enum Picking {
-    Rows(usize),
-    OutOfRange,
 }
 
 // Moves the rows of the picked files to the front, in order, each row judged.
-fn move_picked(src: &[u8], t: &mut [u64], n: usize, q: &[u8], asked: Query) -> Picking
+fn move_picked(
+    src: &[u8],
+    t: &mut [u64],
+    n: usize,
+    q: &[u8],
+    asked: Query,
+) -> Result<usize, OutOfRange>
     requires { Room n t.old × All (Stands src.now) (rows n t.old) × Sounds q.now asked.count asked.conditions }
     ensures { PickedBy src.now (conditions_of q.now asked.count asked.conditions) n t.old t.new result }
 {
-    let mut k = 0;
     let mut m = 0;
-    while k < n {
+    for k in 0..n {
         let c = row_table::row_at(t, k);
-        match judge_row(src, c, q, asked) {
-            Judged::Met => {
-                row_table::set_row(t, m, c);
-                m += 1;
-                k += 1;
-            }
-            Judged::Unmet => {
-                k += 1;
-            }
-            Judged::OutOfRange => return Picking::OutOfRange,
+        let picked = judge_row(src, c, q, asked)?;
+        if picked {
+            row_table::set_row(t, m, c);
+            m += 1;
         }
     }
-    Picking::Rows(m)
+    Ok(m)
 }
 
 // Moves the rows of the picked files to the front, in order. Answers how many they are; what else stands in the n rows may be anything.
 // Where a file has a value out of range, what stands in the n rows may be anything.
-pub fn pick(src: &[u8], t: &mut [u64], n: usize, q: &[u8], asked: Query) -> Picking
+pub fn pick(
+    src: &[u8],
+    t: &mut [u64],
+    n: usize,
+    q: &[u8],
+    asked: Query,
+) -> Result<usize, OutOfRange>
     requires { Room n t.old × All (Stands src.now) (rows n t.old) × Sounds q.now asked.count asked.conditions }
     ensures { PickedBy src.now (conditions_of q.now asked.count asked.conditions) n t.old t.new result }
 {
     if asked.count == 0 {
-        return Picking::Rows(n); // no condition: every file is picked, and no line has to be read again
+        return Ok(n); // no condition: every file is picked, and no line has to be read again
     }
     move_picked(src, t, n, q, asked)
 }

@@ -29,7 +29,7 @@ use Rattle.refusals.specs.declared.Refusal.{Refusal}
 use Rattle.query_picking.specs.Picked.{due_row, Dues}
 use Rattle.reading.specs.Answers.{read_is, AnswerIs, ReadIs, DueIs}
 use Rattle.reading.specs.declared.Listing.{Listing}
-use Rattle.reading.specs.declared.Read.TheVariants.{Listed, Refused}
+use Rattle.std.specs.Prelude.{Ok, Err}
 use Rattle.reading.proofs.Rooms.{numbers}
 use Rattle.reading.proofs.Rules.{reading-short}
 
@@ -109,21 +109,21 @@ counted : Answer Told → ℕ → Answer Told
 counted (accepted t) n = accepted (record { version = t.version; count = n; reader = t.reader; writer = t.writer; can_write = t.can_write })
 counted (refused r) n = refused r
 
-module _ (src : Bytes) (room t₁ : Room) (l : Listing) (a : ReadIs src (ascii "[]") the_latest room t₁ (Listed l)) where
+module _ (src : Bytes) (room t₁ : Room) (l : Listing) (a : ReadIs src (ascii "[]") the_latest room t₁ (Ok l)) where
   -- it was listed
   record All : Type 0 where
     files : RuleListing
     says : reading (length room) src (ascii "[]") the_latest ≡ accepted files
     long : 6144 ≤ length room
     count : length files.rows ≡ l.rows
-    told : read_is (Listed l) ≡ told (accepted files)
+    told : read_is (Ok l) ≡ told (accepted files)
     holds : t₁ ≡ filled 6144 (rows_numbers files.rows) room
 
   all : All
   unfolding read_is told count_in room_after_reading rows_room numbers
   all = go (reading (length room) src (ascii "[]") the_latest) refl a
     where
-      go : (o : Answer RuleListing) → reading (length room) src (ascii "[]") the_latest ≡ o → AnswerIs o room t₁ (Listed l) → All
+      go : (o : Answer RuleListing) → reading (length room) src (ascii "[]") the_latest ≡ o → AnswerIs o room t₁ (Ok l) → All
       go (accepted x) e b = record {
         files = x;
         says = e;
@@ -170,7 +170,7 @@ module _ (src : Bytes) (room t₁ : Room) (l : Listing) (a : ReadIs src (ascii "
           drop-later (l.rows * wide) 6144 t₂ t₁ few p.rest ∙ ap (drop 6144) all.holds ∙ filled-beyond all.files.rows l.rows room all.count few
 
       pub answer-due : (after : Room) → after ≡ zeroed (m * wide) 6144 t₂
-          → DueIs src time room after (Listed (record { version = l.version; rows = m; reader = l.reader; writer = l.writer; writable = l.writable }))
+          → DueIs src time room after (Ok (record { version = l.version; rows = m; reader = l.reader; writer = l.writer; writable = l.writable }))
       unfolding due_listing read_is told counted room_after_reading rows_room numbers
       answer-due after z =
           let x = all.files in
@@ -184,18 +184,18 @@ module _ (src : Bytes) (room t₁ : Room) (l : Listing) (a : ReadIs src (ascii "
                 ∙ sym (ap (λ (a : Answer RuleListing). room_after_reading a room) k ∙ leaves-accepted 6144 numbers room (due_listing time x));
           }
         where
-          says : read_is (Listed (record { version = l.version; rows = m; reader = l.reader; writer = l.writer; writable = l.writable }))
+          says : read_is (Ok (record { version = l.version; rows = m; reader = l.reader; writer = l.writer; writable = l.writable }))
               ≡ told (accepted (due_listing time all.files))
           says = ap (λ (n : Answer Told). counted n m) all.told ∙ ap (λ (n : ℕ). counted (told (accepted all.files)) n) (sym due-count)
 
 -- ---- a refusal
 
-pub due-refused : (src : Bytes) (time : ℕ) (room t₁ : Room) (x : Refusal) → ReadIs src (ascii "[]") the_latest room t₁ (Refused x)
-    → DueIs src time room t₁ (Refused x)
+pub due-refused : (src : Bytes) (time : ℕ) (room t₁ : Room) (x : Refusal) → ReadIs src (ascii "[]") the_latest room t₁ (Err x)
+    → DueIs src time room t₁ (Err x)
 unfolding read_is told room_after_reading
 due-refused src time room t₁ x a = go (reading (length room) src (ascii "[]") the_latest) refl a
   where
-    go : (o : Answer RuleListing) → reading (length room) src (ascii "[]") the_latest ≡ o → AnswerIs o room t₁ (Refused x) → DueIs src time room t₁ (Refused x)
+    go : (o : Answer RuleListing) → reading (length room) src (ascii "[]") the_latest ≡ o → AnswerIs o room t₁ (Err x) → DueIs src time room t₁ (Err x)
     go (accepted y) e b = let f = b.answer in apart (cc)
     go (refused r) e b =
         let k : due (length room) src the_latest time ≡ refused r = rule-refused (length room) src the_latest time e in

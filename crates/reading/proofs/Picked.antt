@@ -34,11 +34,11 @@ use Rattle.log_replay.proofs.Standing.{stands-facts}
 use Rattle.log_gate.specs.Judged.{Passes}
 use Rattle.log_gate.specs.declared.Numbers.{Numbers}
 use Rattle.query_picking.specs.Picked.{Picks, PickedBy}
-use Rattle.query_picking.specs.declared.Picking.TheVariants.{OutOfRange}
+use Rattle.std.specs.Prelude.{Err, Ok, Result}
+use Rattle.reading.specs.declared.Listing.{Listing}
+use Rattle.refusals.specs.declared.Refusal.{Refusal}
 use Rattle.query_picking.proofs.Fronting.{picked-map}
 use Rattle.reading.specs.Answers.{read_is, AnswerIs}
-use Rattle.reading.specs.declared.Read.TheVariants.{Listed}
-use Rattle.reading.specs.declared.Read.{Read}
 use Rattle.reading.proofs.Rooms.{numbers, answer-left, answer-same}
 use Rattle.reading.proofs.Rules.{listed, listing-range, listing-listed}
 
@@ -103,8 +103,8 @@ module _ (src : Text) (st : State) (t : List ℕ) (w : Carries src most_live st 
 
 -- a value is out of range
 pub answer-range : (src : Text) (cs : List Condition) (st : State) (t : List ℕ) (w : Carries src most_live st t) (u : List ℕ) (f : Settled st t u)
-    (t₁ after : List ℕ) (v : Version) (n : Numbers) (r : Read) → Passes (state_of src st t).in_force n
-    → all_among (state_of src st t).table.partition_columns (map column_of cs) ≡ true → PickedBy src cs st.live u t₁ OutOfRange
+    (t₁ after : List ℕ) (v : Version) (n : Numbers) (r : Result Listing Refusal) → Passes (state_of src st t).in_force n
+    → all_among (state_of src st t).table.partition_columns (map column_of cs) ≡ true → PickedBy src cs st.live u t₁ (Err (record {}))
     → AnswerIs (refused value_out_of_range) t₁ after r → AnswerIs (listing cs v.0 (state_of src st t)) t after r
 unfolding Later
 answer-range src cs st t w u f t₁ after v n r g e p a =
@@ -155,7 +155,7 @@ module _ (src : Text) (cs : List Condition) (st : State) (t : List ℕ) (w : Car
         → all_among (state_of src st t).table.partition_columns (map column_of cs) ≡ true
         → in_range_all cs (map (row_of src) (rows st.live u)) ≡ true → after ≡ zeroed (m * wide) 6144 t₂
         → AnswerIs (listing cs v.0 (state_of src st t)) t after
-        (Listed (record { version = v; rows = m; reader = n.reader; writer = n.writer; writable = n.writable }))
+        (Ok (record { version = v; rows = m; reader = n.reader; writer = n.writer; writable = n.writable }))
     unfolding read_is told room_after_reading rows_room numbers
     answer-listed v after n g e i z =
         let k : listing cs v.0 (state_of src st t) ≡ accepted (listed cs v.0 (state_of src st t)) =
@@ -166,6 +166,6 @@ module _ (src : Text) (cs : List Condition) (st : State) (t : List ℕ) (w : Car
               z ∙ room ∙ sym (ap (λ (a : Answer RuleListing). room_after_reading a t) k ∙ leaves-accepted 6144 numbers t (listed cs v.0 (state_of src st t)));
         }
       where
-        says : read_is (Listed (record { version = v; rows = m; reader = n.reader; writer = n.writer; writable = n.writable }))
+        says : read_is (Ok (record { version = v; rows = m; reader = n.reader; writer = n.writer; writable = n.writable }))
             ≡ told (accepted (listed cs v.0 (state_of src st t)))
         says = rw (count, g.reader, g.writer, g.writable) refl

@@ -18,8 +18,8 @@ use Rattle.refusals.specs.Numbered.{numbered}
 use Rattle.refusals.specs.declared.Refusal.{Refusal}
 use Rattle.refusals.specs.declared.Refusal.TheVariants.{RoomTooShort}
 use Rattle.reading.specs.Answers.{read_is, AnswerIs, ReadIs}
-use Rattle.reading.specs.declared.Read.{Read}
-use Rattle.reading.specs.declared.Read.TheVariants.{Refused}
+use Rattle.std.specs.Prelude.{Result, Err}
+use Rattle.reading.specs.declared.Listing.{Listing}
 use Rattle.rules.proofs.Later.{Later}
 use Rattle.reading.proofs.Rules.{reading-short}
 
@@ -45,7 +45,7 @@ left-beyond room between l = l.rest
 pub left-long : (room between : Room) → Left most_live room between → HasRoom most_live room → HasRoom most_live between
 left-long room between l h = omega (arith, l.length)
 
-module _ (o : Answer RuleListing) (room after : Room) (r : Read) where
+module _ (o : Answer RuleListing) (room after : Room) (r : Result Listing Refusal) where
   pub answer-left : (between : Room) → Later o → Left most_live room between → AnswerIs o between after r → AnswerIs o room after r
   unfolding room_after_reading numbers rows_room
   answer-left between h l a = record { answer = a.answer; holds = a.holds ∙ leaves-same 6144 o between room h (left-beyond room between l) }
@@ -56,11 +56,11 @@ module _ (o : Answer RuleListing) (room after : Room) (r : Read) where
 -- ---- a refusal
 
 pub answer-refused : (x : Refusal) (t after : Room) → HasRoom most_live t → ((numbered x).number ≡ 1 → ⊥) → after ≡ zeroed 0 6144 t
-    → AnswerIs (refused (numbered x)) t after (Refused x)
+    → AnswerIs (refused (numbered x)) t after (Err x)
 unfolding read_is told room_after_reading rows_room numbers most_live
 answer-refused x t after h n e = record { answer = refl; holds = e ∙ zeroed-none-filled 6144 t t h refl ∙ sym (leaves-zeros 6144 numbers t (numbered x) n) }
 
-pub read_short : (src q : Bytes) (asked : Asked) (room : Room) → length room < 6144 → ReadIs src q asked room room (Refused RoomTooShort)
+pub read_short : (src q : Bytes) (asked : Asked) (room : Room) → length room < 6144 → ReadIs src q asked room room (Err RoomTooShort)
 unfolding read_is told numbered room_after_reading numbers
 read_short src q asked room h =
     let k = reading-short (length room) src q asked h in

@@ -1,7 +1,7 @@
 -- The rule of reading, by what was read: one law for each answer, in the paper's order.
-use mathlib.Core.Path.{◌≡◌, sym, ap, ◌∙◌, subst}
+use mathlib.Core.Path.{◌≡◌, sym, ap, ◌∙◌}
 use mathlib.Core.Bool.{Bool, true, false, not}
-use mathlib.Core.Option.{none, some}
+use Rattle.std.specs.Prelude.{None, Some}
 use mathlib.Core.List.{List, map}
 use Prim.Native.Nat.{ℕ, ◌≤◌, ◌<◌}
 use borrow.Author.Tests.{le-leb, lt-leb}
@@ -20,29 +20,19 @@ use Rattle.rules.specs.Marker.{latest}
 use Rattle.rules.specs.Reading.{Asked, Listing, version_asked, state_by, listing, listing_within, listing_at, reading}
 use Rattle.file_bundle.specs.Files.{files_or, files_in}
 use Rattle.file_names.specs.declared.Version.{Version}
-use Rattle.query_conditions.specs.Reading.{Accepted, QueryBy, QueryIs}
-use Rattle.query_conditions.specs.declared.reading.Query.{Query}
 use Rattle.reading.specs.Answers.{asked_is, answering}
-use Rattle.reading.specs.declared.Asked.{Asked as AskedFor}
-use Rattle.reading.specs.declared.Asked.TheVariants.{Latest, At}
+use Rattle.std.specs.Prelude.{Option}
 
 -- ---- what is asked
 
-module _ (q : Bytes) (r : Query) (s : QueryIs q r) where
-  pub query-good : r.good ≡ true → Accepted q r.count r.conditions
-  query-good g = subst (λ (b : Bool). QueryBy q b r) g s
-
-  pub query-bad : r.good ≡ false → query q ≡ none
-  query-bad g = let m = subst (λ (b : Bool). QueryBy q b r) g s in m.0
-
-module _ (version : AskedFor) (log : Log) where
-  pub asked-latest : version ≡ Latest → version_asked (asked_is version) log ≡ latest log
+module _ (version : Option Version) (log : Log) where
+  pub asked-latest : version ≡ None → version_asked (asked_is version) log ≡ latest log
   unfolding asked_is version_asked
-  asked-latest e = ap (λ (a : AskedFor). version_asked (asked_is a) log) e
+  asked-latest e = ap (λ (a : Option Version). version_asked (asked_is a) log) e
 
-  pub asked-at : (v : Version) → version ≡ At v → version_asked (asked_is version) log ≡ v.0
+  pub asked-at : (v : Version) → version ≡ Some v → version_asked (asked_is version) log ≡ v.0
   unfolding asked_is version_asked
-  asked-at v e = ap (λ (a : AskedFor). version_asked (asked_is a) log) e
+  asked-at v e = ap (λ (a : Option Version). version_asked (asked_is a) log) e
 
 -- ---- the entry
 
@@ -52,16 +42,16 @@ module _ (room : ℕ) (src q : Bytes) (asked : Asked) where
   reading-short h = rw (reading, lt-leb 6144 room h)
 
   module _ (h : 6144 ≤ room) where
-    pub reading-unasked : query q ≡ none → reading room src q asked ≡ refused query_malformed
+    pub reading-unasked : query q ≡ None → reading room src q asked ≡ refused query_malformed
     unfolding reading rows_room
     reading-unasked e = rw (reading, le-leb 6144 room h, e)
 
-    module _ {cs : List Condition} (e : query q ≡ some cs) where
-      pub reading-unopened : bundle src ≡ none → reading room src q asked ≡ refused bundle_malformed
+    module _ {cs : List Condition} (e : query q ≡ Some cs) where
+      pub reading-unopened : bundle src ≡ None → reading room src q asked ≡ refused bundle_malformed
       unfolding reading rows_room
       reading-unopened f = rw (reading, le-leb 6144 room h, e, f)
 
-      pub reading-opened : {fs : List File} → bundle src ≡ some fs → reading room src q asked ≡ answering cs (files_in src) asked
+      pub reading-opened : {fs : List File} → bundle src ≡ Some fs → reading room src q asked ≡ answering cs (files_in src) asked
       unfolding reading rows_room answering files_in files_or
       reading-opened f = rw (reading, answering, files_in, le-leb 6144 room h, e, f)
 

@@ -17,12 +17,10 @@ ghost use Rattle.log_replay.specs.Views.{state_of, Carries};
 ghost use Rattle.log_gate.specs.Judged.{Passes};
 ghost use Rattle.reading.specs.Answers.{asked_is, answering, AnswerIs, ReadIs, DueIs};
 
-use file_bundle::Opened;
 use file_names::{Millis, Version};
-use log_gate::{Numbers, Verdict};
-use log_replay::{Outcome, State};
+use log_gate::Numbers;
+use log_replay::State;
 use query_conditions::Query;
-use query_picking::Picking;
 use refusals::Refusal;
 use rooms::ROWS_ROOM;
 
@@ -38,29 +36,15 @@ pub struct Listing {
     pub writable: bool,
 }
 
-// The files that are picked; or a refusal.
-#[derive(Clone, Copy)]
-pub enum Read {
-    Listed(Listing),
-    Refused(Refusal),
-}
-
-// The version that is asked for.
-#[derive(Clone, Copy)]
-enum Asked {
-    Latest,
-    At(Version),
-}
-
 // ---- from the state at a version
 
 // A refusal that leaves zeros.
-fn refuse(t: &mut [u64], x: Refusal) -> Read
+fn refuse(t: &mut [u64], x: Refusal) -> Result<Listing, Refusal>
     requires { Room most_live t.old × ((numbered x).number ≡ 1 → ⊥) }
     ensures { AnswerIs (refused (numbered x)) t.old t.new result }
 {
     rooms::zero(t, 0, ROWS_ROOM);
-    Read::Refused(x)
+    Err(x)
 }
 
 // What the state st at version v answers, where the gate passed its protocol with the numbers n.
@@ -72,7 +56,7 @@ fn list_picked(
     st: State,
     n: Numbers,
     t: &mut [u64],
-) -> Read
+) -> Result<Listing, Refusal>
     requires { Carries src.now most_live st t.old × Sounds q.now asked.count asked.conditions
         × Passes (state_of src.now st t.old).in_force n }
     ensures { AnswerIs
@@ -87,7 +71,7 @@ fn list_picked(
     if query_picking::all_columns(src, columns, q, asked) {
         row_table::settle(t, base, live);
         return match query_picking::pick(src, t, live, q, asked) {
-            Picking::Rows(picked) => {
+            Ok(picked) => {
                 row_live::bare(t, picked);
                 let end = picked * row_table::ROW;
                 rooms::zero(t, end, ROWS_ROOM);
@@ -98,16 +82,23 @@ fn list_picked(
                     writer: n.writer,
                     writable: n.writable,
                 };
-                Read::Listed(listed)
+                Ok(listed)
             }
-            Picking::OutOfRange => refuse(t, Refusal::ValueOutOfRange),
+            Err(_) => refuse(t, Refusal::ValueOutOfRange),
         };
     }
     refuse(t, Refusal::NoSuchColumn)
 }
 
 // What the state st at version v answers.
-fn list_state(src: &[u8], q: &[u8], asked: Query, v: Version, st: State, t: &mut [u64]) -> Read
+fn list_state(
+    src: &[u8],
+    q: &[u8],
+    asked: Query,
+    v: Version,
+    st: State,
+    t: &mut [u64],
+) -> Result<Listing, Refusal>
     requires { Carries src.now most_live st t.old × Sounds q.now asked.count asked.conditions }
     ensures { AnswerIs
         (listing (conditions_of q.now asked.count asked.conditions) v.0 (state_of src.now st t.old))
@@ -117,16 +108,21 @@ fn list_state(src: &[u8], q: &[u8], asked: Query, v: Version, st: State, t: &mut
 {
     let protocol = st.protocol;
     match log_gate::judge(src, protocol) {
-        Verdict::TooHigh => refuse(t, Refusal::ReaderTooHigh),
-        Verdict::Unknown => refuse(t, Refusal::UnknownFeature),
-        Verdict::Passed(n) => list_picked(src, q, asked, v, st, n, t),
+        Ok(n) => list_picked(src, q, asked, v, st, n, t),
+        Err(unreadable) => refuse(t, unreadable),
     }
 }
 
 // ---- from a bundle
 
 // What the well-formed bundle src answers at version v.
-fn list_at(src: &[u8], q: &[u8], asked: Query, v: Version, t: &mut [u64]) -> Read
+fn list_at(
+    src: &[u8],
+    q: &[u8],
+    asked: Query,
+    v: Version,
+    t: &mut [u64],
+) -> Result<Listing, Refusal>
     requires { IsBundle src.now × Room most_live t.old × Sounds q.now asked.count asked.conditions }
     ensures { AnswerIs
         (listing_at (conditions_of q.now asked.count asked.conditions) (log_of (files_in src.now)) v.0)
@@ -135,13 +131,13 @@ fn list_at(src: &[u8], q: &[u8], asked: Query, v: Version, t: &mut [u64]) -> Rea
         result }
 {
     match log_history::state_at(src, v, t) {
-        Outcome::Done(st) => list_state(src, q, asked, v, st, t),
-        Outcome::Refused(x) => refuse(t, x),
+        Ok(st) => list_state(src, q, asked, v, st, t),
+        Err(x) => refuse(t, x),
     }
 }
 
 // What the well-formed bundle src answers at its latest version.
-fn list_latest(src: &[u8], q: &[u8], asked: Query, t: &mut [u64]) -> Read
+fn list_latest(src: &[u8], q: &[u8], asked: Query, t: &mut [u64]) -> Result<Listing, Refusal>
     requires { IsBundle src.now × Room most_live t.old × Sounds q.now asked.count asked.conditions }
     ensures { AnswerIs
         (listing_at (conditions_of q.now asked.count asked.conditions) (log_of (files_in src.now))
@@ -154,13 +150,19 @@ fn list_latest(src: &[u8], q: &[u8], asked: Query, t: &mut [u64]) -> Read
     let version = newest.version;
     let reached = newest.reached;
     match reached {
-        Outcome::Done(st) => list_state(src, q, asked, version, st, t),
-        Outcome::Refused(x) => refuse(t, x),
+        Ok(st) => list_state(src, q, asked, version, st, t),
+        Err(x) => refuse(t, x),
     }
 }
 
 // What the well-formed bundle src answers at the version that is asked for.
-fn list_asked(src: &[u8], q: &[u8], asked: Query, version: Asked, t: &mut [u64]) -> Read
+fn list_asked(
+    src: &[u8],
+    q: &[u8],
+    asked: Query,
+    version: Option<Version>,
+    t: &mut [u64],
+) -> Result<Listing, Refusal>
     requires { IsBundle src.now × Room most_live t.old × Sounds q.now asked.count asked.conditions }
     ensures { AnswerIs
         (answering (conditions_of q.now asked.count asked.conditions) (files_in src.now) (asked_is version))
@@ -172,25 +174,29 @@ fn list_asked(src: &[u8], q: &[u8], asked: Query, version: Asked, t: &mut [u64])
         return refuse(t, Refusal::VersionTooLarge);
     }
     match version {
-        Asked::Latest => list_latest(src, q, asked, t),
-        Asked::At(v) => list_at(src, q, asked, v, t),
+        None => list_latest(src, q, asked, t),
+        Some(v) => list_at(src, q, asked, v, t),
     }
 }
 
 // ---- the entries
 
 // The refusals in the paper's order: the room, the query, the bundle, then what its files say.
-fn read_asked(src: &[u8], q: &[u8], version: Asked, rows: &mut [u64]) -> Read
+fn read_asked(
+    src: &[u8],
+    q: &[u8],
+    version: Option<Version>,
+    rows: &mut [u64],
+) -> Result<Listing, Refusal>
     ensures { ReadIs src.now q.now (asked_is version) rows.old rows.new result }
 {
     if rows.len() < ROWS_ROOM {
-        return Read::Refused(Refusal::RoomTooShort);
+        return Err(Refusal::RoomTooShort);
     }
-    let asked = query_conditions::read(q);
-    if !asked.good {
+    let Some(asked) = query_conditions::read(q) else {
         return refuse(rows, Refusal::QueryMalformed);
-    }
-    let Opened::Entries(_) = file_bundle::open(src) else {
+    };
+    let Some(_) = file_bundle::open(src) else {
         return refuse(rows, Refusal::BundleMalformed);
     };
     list_asked(src, q, asked, version, rows)
@@ -198,39 +204,34 @@ fn read_asked(src: &[u8], q: &[u8], version: Asked, rows: &mut [u64]) -> Read
 
 // The files that the query q picks at version v of the bundle src, as rows in a room of at least 6,144 numbers; the rest of the
 // 6,144 are zero, and any beyond stay.
-pub fn read_at(src: &[u8], q: &[u8], v: Version, rows: &mut [u64]) -> Read
+pub fn read_at(src: &[u8], q: &[u8], v: Version, rows: &mut [u64]) -> Result<Listing, Refusal>
     ensures { ReadIs src.now q.now (the_version v.0) rows.old rows.new result }
 {
-    read_asked(src, q, Asked::At(v), rows)
+    read_asked(src, q, Some(v), rows)
 }
 
 // The same at the latest version of the bundle.
-pub fn read_latest(src: &[u8], q: &[u8], rows: &mut [u64]) -> Read
+pub fn read_latest(src: &[u8], q: &[u8], rows: &mut [u64]) -> Result<Listing, Refusal>
     ensures { ReadIs src.now q.now the_latest rows.old rows.new result }
 {
-    read_asked(src, q, Asked::Latest, rows)
+    read_asked(src, q, None, rows)
 }
 
 // The files of the latest version that are due for a second merge at a time: skipped before, and to be tried again not later. All files are
 // listed, then those that are not due go.
-pub fn read_due(src: &[u8], time: Millis, rows: &mut [u64]) -> Read
+pub fn read_due(src: &[u8], time: Millis, rows: &mut [u64]) -> Result<Listing, Refusal>
     ensures { DueIs src.now time.0 rows.old rows.new result }
 {
-    match read_latest(src, b"[]", rows) {
-        Read::Listed(all) => {
-            let version = all.version;
-            let due = query_picking::pick_due(rows, all.rows, time.0);
-            let end = due * row_table::ROW;
-            rooms::zero(rows, end, ROWS_ROOM);
-            let waiting = Listing {
-                version,
-                rows: due,
-                reader: all.reader,
-                writer: all.writer,
-                writable: all.writable,
-            };
-            Read::Listed(waiting)
-        }
-        Read::Refused(x) => Read::Refused(x),
-    }
+    let all = read_latest(src, b"[]", rows)?;
+    let version = all.version;
+    let due = query_picking::pick_due(rows, all.rows, time.0);
+    let end = due * row_table::ROW;
+    rooms::zero(rows, end, ROWS_ROOM);
+    Ok(Listing {
+        version,
+        rows: due,
+        reader: all.reader,
+        writer: all.writer,
+        writable: all.writable,
+    })
 }

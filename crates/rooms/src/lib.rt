@@ -24,11 +24,7 @@ pub fn zero(t: &mut [u64], from: usize, to: usize)
     requires { (from ≤ to) × (to ≤ length t.old) }
     ensures { t.new ≡ zeroed from to t.old }
 {
-    let mut i = from;
-    while i < to {
-        t[i] = 0;
-        i += 1;
-    }
+    t[from..to].fill(0);
 }
 
 // The same in numbers of 32 bits.
@@ -36,9 +32,5 @@ pub fn zero_u32(t: &mut [u32], from: usize, to: usize)
     requires { (from ≤ to) × (to ≤ length t.old) }
     ensures { t.new ≡ zeroed from to t.old }
 {
-    let mut at = from;
-    while at < to {
-        t[at] = 0;
-        at += 1;
-    }
+    t[from..to].fill(0u32);
 }

@@ -15,8 +15,7 @@ use Rattle.rules.proofs.Order.{order-less-ne, order-more-ne}
 use Rattle.rules.proofs.Ascending.{ascends-at}
 use Rattle.row_table.specs.Table.{wide, row, rows}
 use Rattle.row_live.specs.Live.{places, key, Packed, Table, Finds}
-use Rattle.row_live.specs.declared.Found.{Found}
-use Rattle.row_live.specs.declared.Found.TheVariants.{Held, Place}
+use Rattle.std.specs.Prelude.{Result, Ok, Err}
 
 pub packed-alone : (line spelling a b : ℕ) → Packed line spelling a → Packed line spelling b → a ≡ b
 packed-alone line spelling a b h k =
@@ -57,9 +56,9 @@ module _ (src : Text) (k : Bytes) (n : ℕ) (t : List ℕ) (s : Table src n t) w
   size : length (rows n t) ≡ n
   size = length-rows_of wide row n t
 
-  pub finds-alone : (r q : Found) → Finds src k n t r → Finds src k n t q → r ≡ q
-  finds-alone (Held i) (Held j) h g =
-      ap Held (held-alone (key src) k (rows n t) (row []) s.ascends i j (omega (arith, size, h.0)) (omega (arith, size, g.0)) h.1 g.1)
-  finds-alone (Held i) (Place j) h g = not-held (key src) k (rows n t) (row []) j i (omega (arith, size, h.0)) h.1 g
-  finds-alone (Place i) (Held j) h g = not-held (key src) k (rows n t) (row []) i j (omega (arith, size, g.0)) g.1 h
-  finds-alone (Place i) (Place j) h g = ap Place (place-alone (key src) k (rows n t) (row []) i j h g)
+  pub finds-alone : (r q : Result ℕ ℕ) → Finds src k n t r → Finds src k n t q → r ≡ q
+  finds-alone (Ok i) (Ok j) h g =
+      ap Ok (held-alone (key src) k (rows n t) (row []) s.ascends i j (omega (arith, size, h.0)) (omega (arith, size, g.0)) h.1 g.1)
+  finds-alone (Ok i) (Err j) h g = not-held (key src) k (rows n t) (row []) j i (omega (arith, size, h.0)) h.1 g
+  finds-alone (Err i) (Ok j) h g = not-held (key src) k (rows n t) (row []) i j (omega (arith, size, g.0)) g.1 h
+  finds-alone (Err i) (Err j) h g = ap Err (place-alone (key src) k (rows n t) (row []) i j h g)

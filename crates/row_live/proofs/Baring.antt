@@ -1,4 +1,4 @@
--- The last pass over a live table: what holds before each turn, and what it ends with.
+-- The last pass over a live table: what holds before each turn.
 use Prim.Native.Nat.{ℕ, ◌+◌, ◌*◌, ◌%◌, ◌≤◌, ◌<◌}
 use mathlib.Core.Path.{◌≡◌, refl, ap, ◌∙◌}
 use native.Mathlib.Nat.{add-zero}
@@ -57,6 +57,3 @@ baring-turn {n} {k} {t₀} {t} room g h =
         length = length-set t (k * wide) v ∙ l;
       };
     }
-
-pub baring-end : {n k : ℕ} {t₀ t : List ℕ} → Baring n t₀ t k → n ≤ k → Changed n (map bared (rows n t₀)) n t₀ t
-baring-end {n} {k} {t₀} {t} g h = let e : k ≡ n = omega arith in rw e at g.changed

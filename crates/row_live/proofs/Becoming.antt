@@ -21,8 +21,7 @@ use Rattle.json_strings.specs.Decoded.{WellSpelled}
 use Rattle.row_table.specs.Table.{wide, row, rows, row_at, Room, behind, Changed, Stood}
 use Rattle.row_table.specs.declared.Cells.{Cells}
 use Rattle.row_table.proofs.Standing.{stood-over, stood-none, stood-as}
-use Rattle.row_live.specs.declared.Found.{Found}
-use Rattle.row_live.specs.declared.Found.TheVariants.{Held, Place}
+use Rattle.std.specs.Prelude.{Result, Ok, Err}
 use Rattle.row_live.specs.Live.{path_at, key, Table, Finds, Became, marked}
 
 -- the slice from a row on
@@ -32,13 +31,13 @@ onward base t = part-behind t (base * wide) (length t) (omega arith)
 
 -- what is found there
 module _ (src : Text) (k : Bytes) (base n i : ℕ) (t : List ℕ) where
-  pub held-onward : {r : Found} → r ≡ Held i → Finds src k n (take (length t - base * wide) (drop (base * wide) t)) r
-      → Finds src k n (behind base t) (Held i)
-  held-onward e f = subst (λ (u : List ℕ). Finds src k n u (Held i)) (onward base t) (subst (Finds src k n _) e f)
+  pub held-onward : {r : (Result ℕ ℕ)} → r ≡ Ok i → Finds src k n (take (length t - base * wide) (drop (base * wide) t)) r
+      → Finds src k n (behind base t) (Ok i)
+  held-onward e f = subst (λ (u : List ℕ). Finds src k n u (Ok i)) (onward base t) (subst (Finds src k n _) e f)
 
-  pub place-onward : {r : Found} → r ≡ Place i → Finds src k n (take (length t - base * wide) (drop (base * wide) t)) r
-      → Finds src k n (behind base t) (Place i)
-  place-onward e f = subst (λ (u : List ℕ). Finds src k n u (Place i)) (onward base t) (subst (Finds src k n _) e f)
+  pub place-onward : {r : (Result ℕ ℕ)} → r ≡ Err i → Finds src k n (take (length t - base * wide) (drop (base * wide) t)) r
+      → Finds src k n (behind base t) (Err i)
+  place-onward e f = subst (λ (u : List ℕ). Finds src k n u (Err i)) (onward base t) (subst (Finds src k n _) e f)
 
 -- a row behind others is one of all
 row-behind : (base n i : ℕ) (t : List ℕ) → i < n → row_at (rows n (behind base t)) i ≡ row_at (rows (base + n) t) (base + i)
@@ -75,7 +74,7 @@ module _ {src : Text} (base n limit : ℕ) {t : List ℕ} (h : Table src n (behi
         (ascends_put (key src) c (rows n (behind base t)) h.ascends)
 
     -- over the row with the same path
-    pub became-over : (i : ℕ) → base + n ≤ limit → Finds src (key src c) n (behind base t) (Held i)
+    pub became-over : (i : ℕ) → base + n ≤ limit → Finds src (key src c) n (behind base t) (Ok i)
         → Changed (base + n) (set (rows (base + n) t) (base + i) c) (base + n) t t'
         → Became src (put (key src) c (rows n (behind base t))) limit t (record { base = base; live = n }) t'
     became-over i l f p =
@@ -84,7 +83,7 @@ module _ {src : Text} (base n limit : ℕ) {t : List ℕ} (h : Table src n (behi
         became-put base n (stood-as (sym e) (stood-over base n i limit t t' l room c f.0 p))
 
     -- beside the others
-    pub became-more : (b i : ℕ) → Finds src (key src c) n (behind base t) (Place i) → Stood b (n + 1) (insert_at i c (rows n (behind base t))) limit t t'
+    pub became-more : (b i : ℕ) → Finds src (key src c) n (behind base t) (Err i) → Stood b (n + 1) (insert_at i c (rows n (behind base t))) limit t t'
         → Became src (put (key src) c (rows n (behind base t))) limit t (record { base = b; live = n + 1 }) t'
     became-more b i f p =
         let e : put (key src) c (rows n (behind base t)) ≡ insert_at i c (rows n (behind base t))
@@ -101,7 +100,7 @@ module _ {src : Text} (base n limit : ℕ) {t : List ℕ} (h : Table src n (behi
         (All-take_out (key src) (Spelled src) k (rows n (behind base t)) h.spelled)
         (ascends-take_out (key src) k (rows n (behind base t)) h.ascends)
 
-    pub became-less : {t' : List ℕ} (b i : ℕ) → Finds src k n (behind base t) (Held i) → Stood b (n - 1) (remove_at i (rows n (behind base t))) limit t t'
+    pub became-less : {t' : List ℕ} (b i : ℕ) → Finds src k n (behind base t) (Ok i) → Stood b (n - 1) (remove_at i (rows n (behind base t))) limit t t'
         → Became src (take_out (key src) k (rows n (behind base t))) limit t (record { base = b; live = n - 1 }) t'
     became-less b i f p =
         let e : take_out (key src) k (rows n (behind base t)) ≡ remove_at i (rows n (behind base t))
@@ -109,7 +108,7 @@ module _ {src : Text} (base n limit : ℕ) {t : List ℕ} (h : Table src n (behi
         became-out b (n - 1) (stood-as (sym e) p)
 
     -- there is none
-    pub became-same : (i : ℕ) → base + n ≤ limit → Finds src k n (behind base t) (Place i)
+    pub became-same : (i : ℕ) → base + n ≤ limit → Finds src k n (behind base t) (Err i)
         → Became src (take_out (key src) k (rows n (behind base t))) limit t (record { base = base; live = n }) t
     became-same i l f =
         let e : take_out (key src) k (rows n (behind base t)) ≡ rows n (behind base t) =
@@ -126,7 +125,7 @@ module _ {src : Text} (base n limit : ℕ) {t : List ℕ} (h : Table src n (behi
         (All-change (key src) k (marked skips retry) (Spelled src) (rows n (behind base t)) h.spelled (λ c w. w))
         (ascends-change (key src) k (marked skips retry) (λ c. refl) (rows n (behind base t)) h.ascends)
 
-    pub became-marked : {t' : List ℕ} (i : ℕ) (c : Cells) → base + n ≤ limit → Finds src k n (behind base t) (Held i)
+    pub became-marked : {t' : List ℕ} (i : ℕ) (c : Cells) → base + n ≤ limit → Finds src k n (behind base t) (Ok i)
         → c ≡ row_at (rows (base + n) t) (base + i)
         → Changed (base + n) (set (rows (base + n) t) (base + i) (marked skips retry c)) (base + n) t t'
         → Became src (change (key src) k (marked skips retry) (rows n (behind base t))) limit t (record { base = base; live = n }) t'
@@ -137,7 +136,7 @@ module _ {src : Text} (base n limit : ℕ) {t : List ℕ} (h : Table src n (behi
         became-change (stood-as (sym e) (stood-over base n i limit t t' l room (marked skips retry c) f.0 p))
 
     -- there is none
-    pub became-unmarked : (i : ℕ) → base + n ≤ limit → Finds src k n (behind base t) (Place i)
+    pub became-unmarked : (i : ℕ) → base + n ≤ limit → Finds src k n (behind base t) (Err i)
         → Became src (change (key src) k (marked skips retry) (rows n (behind base t))) limit t (record { base = base; live = n }) t
     became-unmarked i l f =
         let e : change (key src) k (marked skips retry) (rows n (behind base t)) ≡ rows n (behind base t) =

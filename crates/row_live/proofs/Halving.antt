@@ -12,11 +12,11 @@ use Rattle.rules.proofs.Searching.{bracket-start, bracket-up, bracket-down, brac
 use Rattle.json_strings.specs.Decoded.{WellSpelled}
 use Rattle.bytes_values.specs.Answers.{order_is, order_of}
 use Rattle.bytes_values.proofs.Back.{order-back}
-use Rattle.bytes_values.specs.declared.Order.TheVariants.{Less, Equal, More}
+use Rattle.std.specs.Prelude.{Ok, Err}
 use Rattle.row_table.specs.Table.{wide, row, rows, row_at}
 use Rattle.row_table.specs.declared.Cells.{Cells}
-use Rattle.row_live.specs.declared.Found.TheVariants.{Held, Place}
 use Rattle.row_live.specs.Live.{path_at, key, Table, Finds}
+use Rattle.std.specs.declared.cmp.Ordering.TheVariants.{Less, Equal, Greater}
 
 -- what is left to look at: from row lo up to row hi
 pub record Halving (src : Text) (k : Bytes) (n : ℕ) (t : List ℕ) (lo hi : ℕ) : Type 0 where
@@ -30,7 +30,7 @@ module _ {src : Text} {k : Bytes} {n : ℕ} {t : List ℕ} where
     bracket = subst (Bracket (key src) k (rows n t) (row []) 0) (length-rows_of wide row n t) (bracket-start (key src) k (rows n t) (row []));
   }
 
-  pub halving-end : {lo hi : ℕ} → Halving src k n t lo hi → hi ≤ lo → Finds src k n t (Place lo)
+  pub halving-end : {lo hi : ℕ} → Halving src k n t lo hi → hi ≤ lo → Finds src k n t (Err lo)
   halving-end {lo} {hi} g h =
       let l : lo ≤ hi = g.bracket.lo-le in
       let e : hi ≡ lo = omega arith in
@@ -53,14 +53,14 @@ module _ {src : Text} {n : ℕ} {t : List ℕ} (h : Table src n t) {c : Cells} (
       bracket = bracket-up (key src) k (rows n t) (row []) h.ascends lo hi g.bracket m lm mh (told less a);
     }
 
-    pub halving-down : More ≡ order_is (order (key src c) k) → Halving src k n t lo m
+    pub halving-down : Greater ≡ order_is (order (key src c) k) → Halving src k n t lo m
     unfolding order_is
     halving-down a = record {
       within = omega (arith, g.within);
       bracket = bracket-down (key src) k (rows n t) (row []) h.ascends lo hi g.bracket m lm mh (told more a);
     }
 
-    pub halving-hit : Equal ≡ order_is (order (key src c) k) → Finds src k n t (Held m)
+    pub halving-hit : Equal ≡ order_is (order (key src c) k) → Finds src k n t (Ok m)
     unfolding order_is
     halving-hit a = (
       omega (arith, g.within),

@@ -9,8 +9,7 @@ use Rattle.json_strings.specs.Decoded.{decoded, WellSpelled}
 use Rattle.row_table.specs.Table.{row, rows, row_at, Room, behind}
 use Rattle.row_table.specs.declared.Cells.{Cells}
 use Rattle.row_live.specs.declared.Standing.{Standing}
-use Rattle.row_live.specs.declared.Found.{Found}
-use Rattle.row_live.specs.declared.Found.TheVariants.{Held, Place}
+use Rattle.std.specs.Prelude.{Result, Ok, Err}
 
 -- ---- a row while a log is read
 
@@ -44,9 +43,9 @@ pub record Table (src : Text) (n : ℕ) (t : List ℕ) : Type 0 where
   pub ascends : Ascends (key src) (rows n t)
 
 -- the key k is that of a row; or of none, and this is where it would stand: those before are below it, the others above
-abbrev pub Finds : Text → (k : Bytes) → ℕ → List ℕ → Found → Type 0
-Finds src k n t (Held i) = (i < n) × (key src (row_at (rows n t) i) ≡ k)
-Finds src k n t (Place i) = Bracket (key src) k (rows n t) (row []) i i
+abbrev pub Finds : Text → (k : Bytes) → ℕ → List ℕ → Result ℕ ℕ → Type 0
+Finds src k n t (Ok i) = (i < n) × (key src (row_at (rows n t) i) ≡ k)
+Finds src k n t (Err i) = Bracket (key src) k (rows n t) (row []) i i
 
 -- t became t': its rows are rs, and stand within a room of `limit` rows, behind which nothing changed
 pub record Became (src : Text) (rs : List Cells) (limit : ℕ) (t : List ℕ) (r : Standing) (t' : List ℕ) : Type 0 where

@@ -8,16 +8,10 @@ ghost use Rattle.row_table.specs.Table.{Room, rows, behind, Changed};
 ghost use Rattle.row_live.specs.Live.{places, path_at, key, Packed, Table, Finds, Became, marked, bared};
 
 use row_table::Cells;
+use std::cmp::Ordering;
 
 // Positions in a bundle are below this.
 pub const PLACES: u64 = 2_097_152;
-
-// Where a path's row stands in the table; or that it has none, and where it would stand.
-#[derive(Clone, Copy)]
-pub enum Found {
-    Held(usize),
-    Place(usize),
-}
 
 // The head of a row while a log is read: where its line stands in the bundle, and where its path is spelled.
 pub fn pack(place: usize, path: usize) -> u64
@@ -28,7 +22,7 @@ pub fn pack(place: usize, path: usize) -> u64
 }
 
 // Where among the n rows the path stands that is spelled in src behind `path`, or would stand. Each look halves what is left.
-pub fn find(src: &[u8], t: &[u64], n: usize, path: usize) -> Found
+pub fn find(src: &[u8], t: &[u64], n: usize, path: usize) -> Result<usize, usize>
     requires { Table src.now n t.now × WellSpelled src.now path }
     ensures { Finds src.now (decoded (drop path src.now)) n t.now result }
 {
@@ -41,18 +35,18 @@ pub fn find(src: &[u8], t: &[u64], n: usize, path: usize) -> Found
         let c = row_table::row_at(t, mid);
         let at = (c.head / PLACES) as usize;
         match json_strings::order_raw(src, at, src, path, end) {
-            bytes_values::Order::Less => {
+            Ordering::Less => {
                 lo = mid + 1;
             }
-            bytes_values::Order::Equal => {
-                return Found::Held(mid);
+            Ordering::Equal => {
+                return Ok(mid);
             }
-            bytes_values::Order::More => {
+            Ordering::Greater => {
                 hi = mid;
             }
         }
     }
-    Found::Place(lo)
+    Err(lo)
 }
 
 // Where the rows of a table stand in their room: how many free ones stand before them, and how many they are.
@@ -77,11 +71,11 @@ pub fn store(src: &[u8], t: &mut [u64], base: usize, n: usize, limit: usize, c: 
     let path = (c.head / PLACES) as usize;
     let from = base * row_table::ROW;
     match find(src, &t[from..], n, path) {
-        Found::Held(k) => {
+        Ok(k) => {
             row_table::set_row(t, base + k, c);
             Standing { base, live: n }
         }
-        Found::Place(k) => {
+        Err(k) => {
             let before = row_table::put_in(t, base, n, k, limit, c);
             Standing {
                 base: before,
@@ -111,14 +105,14 @@ pub fn take_out(
 {
     let from = base * row_table::ROW;
     match find(src, &t[from..], n, path) {
-        Found::Held(k) => {
+        Ok(k) => {
             let before = row_table::take_away(t, base, n, k, limit);
             Standing {
                 base: before,
                 live: n - 1,
             }
         }
-        Found::Place(_) => Standing { base, live: n },
+        Err(_) => Standing { base, live: n },
     }
 }
 
@@ -135,20 +129,17 @@ pub fn mark(src: &[u8], t: &mut [u64], base: usize, n: usize, path: usize, skips
 {
     let from = base * row_table::ROW;
     match find(src, &t[from..], n, path) {
-        Found::Held(k) => {
+        Ok(k) => {
             let at = base + k;
             let was = row_table::row_at(t, at);
             let c = Cells {
-                head: was.head,
-                len: was.len,
-                size: was.size,
-                time: was.time,
                 skips,
                 retry,
+                ..was
             };
             row_table::set_row(t, at, c);
         }
-        Found::Place(_) => {}
+        Err(_) => {}
     }
 }
 
@@ -157,10 +148,8 @@ pub fn bare(t: &mut [u64], n: usize)
     requires { Room n t.old }
     ensures { Changed n (map bared (rows n t.old)) n t.old t.new }
 {
-    let mut k = 0;
-    while k < n {
+    for k in 0..n {
         let at = k * row_table::ROW;
-        t[at] = t[at] % PLACES;
-        k += 1;
+        t[at] %= PLACES;
     }
 }

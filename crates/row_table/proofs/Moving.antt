@@ -27,17 +27,19 @@ module _ {n k : ℕ} where
     changed = changed-as (sym (open-start n (rows (n + 1) t₀) (length-rows_of wide row (n + 1) t₀))) (changed-none (n + 1) t₀);
   }
 
-  -- row j - 1 is written over row j
-  pub opening-turn : {t₀ t t' : List ℕ} {j : ℕ} → Opening n k t₀ t j → k < j
-      → Changed (n + 1) (set (rows (n + 1) t) j (row_at (rows (n + 1) t) (j - 1))) (n + 1) t t' → Opening n k t₀ t' (j - 1)
-  opening-turn {t₀} {t} {t'} {j} g h f =
+  -- row i is written over row j, the one behind it
+  pub opening-turn : {t₀ t t' : List ℕ} {i j m : ℕ} → Opening n k t₀ t m → k ≤ i → i + 1 ≡ m → j ≡ m
+      → Changed (n + 1) (set (rows (n + 1) t) j (row_at (rows (n + 1) t) i)) (n + 1) t t' → Opening n k t₀ t' i
+  opening-turn {t₀} {t} {t'} {i} {j} {m} g h e q f =
       let l : List Cells = rows (n + 1) t₀ in
-      let u : List Cells = moved_up j (n - j) 1 l in
-      let c : Cells = row_at (rows (n + 1) t) (j - 1) in
-      let v : c ≡ row_at u (j - 1) = ap (λ (rs : List Cells). row_at rs (j - 1)) g.changed.rows in
-      let s : set u j c ≡ moved_up (j - 1) (n - (j - 1)) 1 l =
-      ap (set u j) v ∙ open_step n l (length-rows_of wide row (n + 1) t₀) j (row []) (omega arith) g.high in
-      record { low = omega arith; high = omega arith; changed = changed-as s (changed-set j c g.changed f) }
+      let u : List Cells = moved_up m (n - m) 1 l in
+      let c : Cells = row_at (rows (n + 1) t) i in
+      let v : c ≡ row_at u i = ap (λ (rs : List Cells). row_at rs i) g.changed.rows in
+      let w : m - 1 ≡ i = omega arith in
+      let s : set u m (row_at u (m - 1)) ≡ moved_up (m - 1) (n - (m - 1)) 1 l =
+      open_step n l (length-rows_of wide row (n + 1) t₀) m (row []) (omega arith) g.high in
+      let r : set u j c ≡ moved_up i (n - i) 1 l = rw (q, v) (rw w at s) in
+      record { low = h; high = omega (arith, g.high); changed = changed-as r (changed-set j c g.changed f) }
 
   -- the new row is written over row k
   pub opening-end : {t₀ t t' : List ℕ} {j : ℕ} (c : Cells) → Opening n k t₀ t j → j ≤ k
@@ -65,16 +67,17 @@ module _ {n k : ℕ} where
     changed = changed-as (sym (close-start n k (rows n t₀) (length-rows_of wide row n t₀) h)) (changed-none n t₀);
   }
 
-  -- row j + 1 is written over row j
-  pub closing-turn : {t₀ t t' : List ℕ} {j : ℕ} → Closing n k t₀ t j → j < n - 1
-      → Changed n (set (rows n t) j (row_at (rows n t) (j + 1))) n t t' → Closing n k t₀ t' (j + 1)
-  closing-turn {t₀} {t} {t'} {j} g h f =
+  -- row i is written over row j, the one before it
+  pub closing-turn : {t₀ t t' : List ℕ} {i j m : ℕ} → Closing n k t₀ t j → j < n - 1 → i ≡ j + 1 → m ≡ j + 1
+      → Changed n (set (rows n t) j (row_at (rows n t) i)) n t t' → Closing n k t₀ t' m
+  closing-turn {t₀} {t} {t'} {i} {j} {m} g h e q f =
       let l : List Cells = rows n t₀ in
       let u : List Cells = moved_down k (j - k) 1 l in
-      let c : Cells = row_at (rows n t) (j + 1) in
-      let v : c ≡ row_at u (j + 1) = ap (λ (rs : List Cells). row_at rs (j + 1)) g.changed.rows in
-      let s : set u j c ≡ moved_down k (j + 1 - k) 1 l = ap (set u j) v ∙ close-step n k l (length-rows_of wide row n t₀) (omega arith) j (row []) g.low h in
-      record { low = omega arith; high = omega arith; changed = changed-as s (changed-set j c g.changed f) }
+      let c : Cells = row_at (rows n t) i in
+      let v : c ≡ row_at u (j + 1) = ap (λ (rs : List Cells). row_at rs i) g.changed.rows ∙ ap (row_at u) e in
+      let s : set u j c ≡ moved_down k (m - k) 1 l =
+      ap (set u j) v ∙ rw q (close-step n k l (length-rows_of wide row n t₀) (omega arith) j (row []) g.low h) in
+      record { low = omega (arith, g.low); high = omega arith; changed = changed-as s (changed-set j c g.changed f) }
 
   pub closing_end : {t₀ t : List ℕ} {j : ℕ} → k < n → Closing n k t₀ t j → n - 1 ≤ j → Changed (n - 1) (remove_at k (rows n t₀)) n t₀ t
   closing_end {t₀} {t} {j} q g h =

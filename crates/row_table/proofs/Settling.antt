@@ -39,12 +39,13 @@ module _ {base n : ℕ} where
   }
 
   -- row base + k is written over row k
-  pub settling-turn : {t₀ t t' : List ℕ} {k : ℕ} {c : Cells} → Settling base n t₀ t k → k < n → c ≡ row_at (rows (base + n) t) (base + k)
-      → Changed (base + n) (set (rows (base + n) t) k c) (base + n) t t' → Settling base n t₀ t' (k + 1)
-  settling-turn {t₀} {t} {t'} {k} {c} g h e f =
+  pub settling-turn : {t₀ t t' : List ℕ} {k : ℕ} → Settling base n t₀ t k → k < n
+      → Changed (base + n) (set (rows (base + n) t) k (row_at (rows (base + n) t) (base + k))) (base + n) t t' → Settling base n t₀ t' (k + 1)
+  settling-turn {t₀} {t} {t'} {k} g h f =
       let l : List Cells = rows (base + n) t₀ in
       let u : List Cells = moved_down 0 k base l in
-      let v : c ≡ row_at u (base + k) = e ∙ ap (λ (rs : List Cells). row_at rs (base + k)) g.changed.rows in
+      let c : Cells = row_at (rows (base + n) t) (base + k) in
+      let v : c ≡ row_at u (base + k) = ap (λ (rs : List Cells). row_at rs (base + k)) g.changed.rows in
       let s : set u k c ≡ moved_down 0 (k + 1) base l = ap (set u k) v ∙ settle_step base n l (length-rows_of wide row (base + n) t₀) k (row []) h in
       record { few = omega arith; changed = changed-as s (changed-set k c g.changed f) }
 

@@ -54,22 +54,13 @@ pub fn set_row(t: &mut [u64], k: usize, c: Cells)
     t[at + 5] = c.retry;
 }
 
-// Writes row j - 1 over row j; all else stays.
-fn lift(t: &mut [u64], j: usize)
-    requires { (0 < j) × Room (j + 1) t.old }
-    ensures { Copied (j - 1) j t.old t.new }
+// Writes row `from` over row `to`; all else stays.
+fn copy_row(t: &mut [u64], from: usize, to: usize)
+    requires { Room (from + 1) t.old × Room (to + 1) t.old }
+    ensures { Copied from to t.old t.new }
 {
-    let below = row_at(t, j - 1);
-    set_row(t, j, below);
-}
-
-// Writes row j + 1 over row j; all else stays.
-fn lower(t: &mut [u64], j: usize)
-    requires { Room (j + 2) t.old }
-    ensures { Copied (j + 1) j t.old t.new }
-{
-    let above = row_at(t, j + 1);
-    set_row(t, j, above);
+    let c = row_at(t, from);
+    set_row(t, to, c);
 }
 
 // Makes c row k of a table of n rows, which then has one more: the rows from k on move up, the last first, four a turn as long as there are.
@@ -79,15 +70,14 @@ pub fn insert_row(t: &mut [u64], n: usize, k: usize, c: Cells)
 {
     let mut j = n;
     while 4 <= j - k {
-        lift(t, j);
-        lift(t, j - 1);
-        lift(t, j - 2);
-        lift(t, j - 3);
+        copy_row(t, j - 1, j);
+        copy_row(t, j - 2, j - 1);
+        copy_row(t, j - 3, j - 2);
+        copy_row(t, j - 4, j - 3);
         j -= 4;
     }
-    while k < j {
-        lift(t, j);
-        j -= 1;
+    for i in (k..j).rev() {
+        copy_row(t, i, i + 1);
     }
     set_row(t, k, c);
 }
@@ -101,14 +91,13 @@ pub fn remove_row(t: &mut [u64], n: usize, k: usize)
     let last = n - 1;
     let mut j = k;
     while 4 <= last - j {
-        lower(t, j);
-        lower(t, j + 1);
-        lower(t, j + 2);
-        lower(t, j + 3);
+        copy_row(t, j + 1, j);
+        copy_row(t, j + 2, j + 1);
+        copy_row(t, j + 3, j + 2);
+        copy_row(t, j + 4, j + 3);
         j += 4;
     }
-    while j < last {
-        lower(t, j);
-        j += 1;
+    for i in j..last {
+        copy_row(t, i + 1, i);
     }
 }

@@ -3,7 +3,7 @@ ghost use Rattle.std.specs.Prelude.{◌≡◌, true, false, ◌+◌, ◌-◌, �
 ghost use Rattle.facts.specs.Rows.{insert_at, remove_at};
 ghost use Rattle.row_table.specs.Table.{Room, rows, behind, Changed, Stood};
 
-use crate::{Cells, insert_row, remove_row, row_at, set_row};
+use crate::{Cells, copy_row, insert_row, remove_row, row_at, set_row};
 
 // Whether the rows before row k move, to make room for it: where there is a free one
 // before them, and they are fewer than those behind or no free one is left there.
@@ -55,10 +55,7 @@ pub fn settle(t: &mut [u64], base: usize, n: usize)
     requires { Room (base + n) t.old }
     ensures { Changed n (rows n (behind base t.old)) (base + n) t.old t.new }
 {
-    let mut k = 0;
-    while k < n {
-        let c = row_at(t, base + k);
-        set_row(t, k, c);
-        k += 1;
+    for k in 0..n {
+        copy_row(t, base + k, k);
     }
 }

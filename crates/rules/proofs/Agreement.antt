@@ -2,7 +2,7 @@
 use mathlib.Core.Path.{◌≡◌, refl, sym, ap, ap₂, ◌∙◌, subst}
 use mathlib.Core.Logic.{◌⊎◌, inl, inr}
 use mathlib.Core.Bool.{Bool, true, false, ◌&&◌}
-use mathlib.Core.Option.{Option, none, some}
+use Rattle.std.specs.Prelude.{Option, None, Some}
 use mathlib.Core.List.{List, [], ◌∷◌}
 use Prim.Native.Nat.{ℕ}
 use lib.Dec.{eqb}
@@ -23,16 +23,16 @@ use Rattle.rules.proofs.Holding.{same_set-holds, holds-same_set}
 
 -- a test of two such values, by the test of what is there: it passes on equal ones alone
 module _ {A : Type 0} (agrees : Option A → Option A → Bool) where
-  agreed-true : ((y : A) → agrees none (some y) ≡ false) → ((x : A) → agrees (some x) none ≡ false) → ((x y : A) → agrees (some x) (some y) ≡ true → x ≡ y)
+  agreed-true : ((y : A) → agrees None (Some y) ≡ false) → ((x : A) → agrees (Some x) None ≡ false) → ((x y : A) → agrees (Some x) (Some y) ≡ true → x ≡ y)
       → (x y : Option A) → agrees x y ≡ true → x ≡ y
-  agreed-true f g both none none e = refl
-  agreed-true f g both none (some y) e = apart (cc (f y))
-  agreed-true f g both (some x) none e = apart (cc (g x))
-  agreed-true f g both (some x) (some y) e = ap some (both x y e)
+  agreed-true f g both None None e = refl
+  agreed-true f g both None (Some y) e = apart (cc (f y))
+  agreed-true f g both (Some x) None e = apart (cc (g x))
+  agreed-true f g both (Some x) (Some y) e = ap Some (both x y e)
 
-  agreed-refl : agrees none none ≡ true → ((x : A) → agrees (some x) (some x) ≡ true) → (x : Option A) → agrees x x ≡ true
-  agreed-refl n both none = n
-  agreed-refl n both (some x) = both x
+  agreed-refl : agrees None None ≡ true → ((x : A) → agrees (Some x) (Some x) ≡ true) → (x : Option A) → agrees x x ≡ true
+  agreed-refl n both None = n
+  agreed-refl n both (Some x) = both x
 
 pub agree_value-true : (x y : Option Bytes) → agree_value x y ≡ true → x ≡ y
 unfolding agree_value
@@ -61,7 +61,7 @@ agree_records-refl = agreed-refl agree_records refl (λ x. eq-eqb x x refl)
 -- ---- partition pairs
 
 module _ (column : Bytes) (p : Bytes × Option Bytes) (ps : Pairs) where
-  pub value_at-here : column ≡ p.0 → value_at column (p ∷ ps) ≡ some p.1
+  pub value_at-here : column ≡ p.0 → value_at column (p ∷ ps) ≡ Some p.1
   unfolding value_at
   value_at-here e = rw (eq-same e, value_at)
 
@@ -71,14 +71,14 @@ module _ (column : Bytes) (p : Bytes × Option Bytes) (ps : Pairs) where
 
 module _ (ps qs : Pairs) where
   -- a column of `these` has the same value in both
-  agree_on-at : (these : Pairs) → agree_on these ps qs ≡ true → (column : Bytes) → (value_at column these ≡ none) ⊎ (value_at column ps ≡ value_at column qs)
+  agree_on-at : (these : Pairs) → agree_on these ps qs ≡ true → (column : Bytes) → (value_at column these ≡ None) ⊎ (value_at column ps ≡ value_at column qs)
   unfolding agree_on value_at
   agree_on-at [] h column = inl refl
   agree_on-at (c ∷ these) h column = go (agree_found (value_at c.0 ps) (value_at c.0 qs)) refl h (λ e. agree_on-at these e column) (same_or_not column c.0)
     where
       go : (b : Bool) → agree_found (value_at c.0 ps) (value_at c.0 qs) ≡ b → elim b [ true ↦ agree_on these ps qs | false ↦ false ] ≡ true
-          → (agree_on these ps qs ≡ true → (value_at column these ≡ none) ⊎ (value_at column ps ≡ value_at column qs)) → (column ≡ c.0) ⊎ (column ≡ c.0 → ⊥)
-          → (value_at column (c ∷ these) ≡ none) ⊎ (value_at column ps ≡ value_at column qs)
+          → (agree_on these ps qs ≡ true → (value_at column these ≡ None) ⊎ (value_at column ps ≡ value_at column qs)) → (column ≡ c.0) ⊎ (column ≡ c.0 → ⊥)
+          → (value_at column (c ∷ these) ≡ None) ⊎ (value_at column ps ≡ value_at column qs)
       go true e h ih (inl q) = inr (rw q (agree_found-true (value_at c.0 ps) (value_at c.0 qs) e))
       go true e h ih (inr n) = rw (value_at-past column c these n) (ih h)
       go false e h ih q = apart (cc)
@@ -97,7 +97,7 @@ module _ (ps qs : Pairs) where
       (agree_on-at ps (and_left (agree_on ps ps qs) (agree_on qs ps qs) h) column)
       (agree_on-at qs (and_right (agree_on ps ps qs) (agree_on qs ps qs) h) column)
     where
-      go : (value_at column ps ≡ none) ⊎ (value_at column ps ≡ value_at column qs) → (value_at column qs ≡ none) ⊎ (value_at column ps ≡ value_at column qs)
+      go : (value_at column ps ≡ None) ⊎ (value_at column ps ≡ value_at column qs) → (value_at column qs ≡ None) ⊎ (value_at column ps ≡ value_at column qs)
           → value_at column ps ≡ value_at column qs
       go (inr e) d = e
       go (inl n) (inr e) = e

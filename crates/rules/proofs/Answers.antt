@@ -2,7 +2,7 @@
 use mathlib.Core.Path.{◌≡◌, refl, ap}
 use mathlib.Core.Logic.{◌⊎◌, inl, inr}
 use mathlib.Core.Bool.{Bool, true, false}
-use mathlib.Core.Option.{Option, none, some}
+use Rattle.std.specs.Prelude.{Option, None, Some}
 use Prim.Native.Nat.{ℕ}
 use Rattle.rules.specs.Refusals.{◌>>=◌, Refusal, Answer, accepted, refused, or_refuse, require}
 use Rattle.rules.specs.Same.{SameAnswer, both-accepted, both-refused}
@@ -20,8 +20,8 @@ module _ {A B : Type 0} {Same : B → B → Type 0} where
   -- one value is there or missing for both, and refused by the same number
   pub same-or_refuse : (r s : Refusal) → r.number ≡ s.number → (o : Option A) (f g : A → Answer B) → ((a : A) → SameAnswer Same (f a) (g a))
       → SameAnswer Same (or_refuse r o >>= f) (or_refuse s o >>= g)
-  same-or_refuse r s e none f g k = both-refused e
-  same-or_refuse r s e (some a) f g k = k a
+  same-or_refuse r s e None f g k = both-refused e
+  same-or_refuse r s e (Some a) f g k = k a
 
 module _ {B : Type 0} {Same : B → B → Type 0} where
   pub same-require : (r s : Refusal) → r.number ≡ s.number → (b : Bool) (x y : Answer B) → SameAnswer Same x y
@@ -51,14 +51,14 @@ pub bind-refused : {A B : Type 0} (a : Answer A) (f : A → Answer B) {r : Refus
 bind-refused (accepted x) f e = inr (x, refl, e)
 bind-refused (refused s) f e = inl (cc)
 
-pub or_refuse-refused : {A : Type 0} (r : Refusal) (o : Option A) {s : Refusal} → or_refuse r o ≡ refused s → (o ≡ none) × (r ≡ s)
-or_refuse-refused r none e = (refl, cc)
-or_refuse-refused r (some a) e = apart (cc)
+pub or_refuse-refused : {A : Type 0} (r : Refusal) (o : Option A) {s : Refusal} → or_refuse r o ≡ refused s → (o ≡ None) × (r ≡ s)
+or_refuse-refused r None e = (refl, cc)
+or_refuse-refused r (Some a) e = apart (cc)
 
 pub require-refused : (r : Refusal) (b : Bool) {s : Refusal} → require r b ≡ refused s → (b ≡ false) × (r ≡ s)
 require-refused r true e = apart (cc)
 require-refused r false e = (refl, cc)
 
-pub or_refuse-accepted : {A : Type 0} (r : Refusal) (o : Option A) {a : A} → or_refuse r o ≡ accepted a → o ≡ some a
-or_refuse-accepted r none e = apart (cc)
-or_refuse-accepted r (some x) e = cc
+pub or_refuse-accepted : {A : Type 0} (r : Refusal) (o : Option A) {a : A} → or_refuse r o ≡ accepted a → o ≡ Some a
+or_refuse-accepted r None e = apart (cc)
+or_refuse-accepted r (Some x) e = cc

@@ -1,7 +1,7 @@
 -- One line by what it says: an empty line, a malformed one, a foreign one, and one whose action has its effect, within the limit or not.
 use mathlib.Core.Path.{◌≡◌, refl, ap, ◌∙◌}
 use mathlib.Core.Bool.{Bool, true, false}
-use mathlib.Core.Option.{Option, none, some}
+use Rattle.std.specs.Prelude.{Option, None, Some}
 use mathlib.Core.List.{List, [], ◌∷◌}
 use Prim.Native.Nat.{ℕ, suc, ◌≤◌, ◌<◌}
 use native.Mathlib.Nat.{not-suc-le-zero}
@@ -17,7 +17,7 @@ use Rattle.rules.specs.Actions.{Action, action, line_member}
 use Rattle.rules.specs.Refusals.{Refusal, Answer, accepted, refused, ◌>>=◌, or_refuse, require, malformed, foreign_keys, too_many_live}
 use Rattle.rules.specs.History.{State, Origin, fits, Said, effect, within_limit, act, read_line, read_lines, read_file, zero_lines, read_zero}
 
-pub action-empty : action [] ≡ none
+pub action-empty : action [] ≡ None
 unfolding action line_member object_of byte ws
 action-empty = refl
 
@@ -38,7 +38,7 @@ unfolding read_line
 read_line-empty limit of e k at [] st h = refl
 read_line-empty limit of e k at (b ∷ bs) st h = absurd (omega arith)
 
-pub read_line-none : (limit : ℕ) (of : Origin) (e k at : ℕ) (l : Bytes) (st : State) → 0 < length l → action l ≡ none
+pub read_line-none : (limit : ℕ) (of : Origin) (e k at : ℕ) (l : Bytes) (st : State) → 0 < length l → action l ≡ None
     → read_line limit of e k at l st ≡ refused (malformed e k)
 unfolding read_line
 read_line-none limit of e k at [] st h q = absurd (not-suc-le-zero h)
@@ -46,20 +46,20 @@ read_line-none limit of e k at (b ∷ bs) st h q =
     ap (λ (o : Option Action). or_refuse (malformed e k) o >>= (λ a. act limit of e k at (length (b ∷ bs)) a st)) q
 
 -- an action, where the line is not malformed
-acts : (limit : ℕ) (of : Origin) (e k at : ℕ) (l : Bytes) (st : State) → 0 < length l → (a : Action) → action l ≡ some a
+acts : (limit : ℕ) (of : Origin) (e k at : ℕ) (l : Bytes) (st : State) → 0 < length l → (a : Action) → action l ≡ Some a
     → read_line limit of e k at l st ≡ act limit of e k at (length l) a st
 unfolding read_line
 acts limit of e k at [] st h a q = absurd (not-suc-le-zero h)
 acts limit of e k at (b ∷ bs) st h a q = ap (λ (o : Option Action). or_refuse (malformed e k) o >>= (λ a. act limit of e k at (length (b ∷ bs)) a st)) q
 
-pub read_line-some : (limit : ℕ) (of : Origin) (e k at : ℕ) (l : Bytes) (st : State) → 0 < length l → (a : Action) → action l ≡ some a
+pub read_line-some : (limit : ℕ) (of : Origin) (e k at : ℕ) (l : Bytes) (st : State) → 0 < length l → (a : Action) → action l ≡ Some a
     → fits of a st.table ≡ true → read_line limit of e k at l st ≡ within_limit limit e k (effect at (length l) a st)
 unfolding act
 read_line-some limit of e k at l st h a q t =
     acts limit of e k at l st h a q
     ∙ ap (λ (b : Bool). require (foreign_keys e k) b >>= (λ _. within_limit limit e k (effect at (length l) a st))) t
 
-pub read_line-foreign : (limit : ℕ) (of : Origin) (e k at : ℕ) (l : Bytes) (st : State) → 0 < length l → (a : Action) → action l ≡ some a
+pub read_line-foreign : (limit : ℕ) (of : Origin) (e k at : ℕ) (l : Bytes) (st : State) → 0 < length l → (a : Action) → action l ≡ Some a
     → fits of a st.table ≡ false → read_line limit of e k at l st ≡ refused (foreign_keys e k)
 unfolding act
 read_line-foreign limit of e k at l st h a q t =

@@ -2,7 +2,7 @@
 -- checkpoint there is one.
 use mathlib.Core.Path.{◌≡◌, refl, sym, ◌∙◌, ap, subst}
 use mathlib.Core.Bool.{Bool, true, false}
-use mathlib.Core.Option.{Option, none, some}
+use Rattle.std.specs.Prelude.{Option, None, Some}
 use mathlib.Core.List.{List, [], ◌∷◌}
 use Prim.Native.Nat.{ℕ, zero, suc, ◌+◌, ◌*◌, ◌≤◌}
 use native.Mathlib.Omega.{arith}
@@ -41,25 +41,25 @@ length-entries (suc n) s = ap suc (length-entries n (drop entry_bytes s))
 -- the name and the number of each file are its entry's
 data Told : ℕ → List Entry → List File → Type 0 where
   told-end : {k : ℕ} → Told k [] []
-  told : {k : ℕ} {e : Entry} {f : File} {es : List Entry} {fs : List File} → unpadded e.padded ≡ some f.name → f.entry ≡ k → Told (suc k) es fs
+  told : {k : ℕ} {e : Entry} {f : File} {es : List Entry} {fs : List File} → unpadded e.padded ≡ Some f.name → f.entry ≡ k → Told (suc k) es fs
       → Told k (e ∷ es) (f ∷ fs)
 
-files_from-told : (k at : ℕ) (es : List Entry) (rest : Bytes) (fs : List File) → files_from k at es rest ≡ some fs → Told k es fs
+files_from-told : (k at : ℕ) (es : List Entry) (rest : Bytes) (fs : List File) → files_from k at es rest ≡ Some fs → Told k es fs
 unfolding files_from name_in
 files_from-told k at [] rest fs e =
-    let r = bind-some (guard (is_empty rest)) (λ _. some []) e in
-    let q : some [] ≡ some fs = r.2 in
+    let r = bind-some (guard (is_empty rest)) (λ _. Some []) e in
+    let q : Some [] ≡ Some fs = r.2 in
     subst (Told k []) (cc) told-end
 files_from-told k at (e ∷ es) rest fs h =
     let a = bind-some (name_in e.padded)
-    (λ name. guard (eqb e.start at) >>= (λ _. guard (leb e.size (length rest)) >>= (λ _. further >>= (λ gs. some (this name ∷ gs))))) h in
-    let u = bind-some (unpadded e.padded) (λ name. guard (leb 1 (length name)) >>= (λ _. some name)) a.1 in
-    let b = bind-some (guard (leb 1 (length u.0))) (λ _. some u.0) u.2 in
-    let c = bind-some (guard (eqb e.start at)) (λ _. guard (leb e.size (length rest)) >>= (λ _. further >>= (λ gs. some (this a.0 ∷ gs)))) a.2 in
-    let d = bind-some (guard (leb e.size (length rest))) (λ _. further >>= (λ gs. some (this a.0 ∷ gs))) c.2 in
-    let g = bind-some further (λ gs. some (this a.0 ∷ gs)) d.2 in
-    let p : some u.0 ≡ some a.0 = b.2 in
-    let q : some (this a.0 ∷ g.0) ≡ some fs = g.2 in
+    (λ name. guard (eqb e.start at) >>= (λ _. guard (leb e.size (length rest)) >>= (λ _. further >>= (λ gs. Some (this name ∷ gs))))) h in
+    let u = bind-some (unpadded e.padded) (λ name. guard (leb 1 (length name)) >>= (λ _. Some name)) a.1 in
+    let b = bind-some (guard (leb 1 (length u.0))) (λ _. Some u.0) u.2 in
+    let c = bind-some (guard (eqb e.start at)) (λ _. guard (leb e.size (length rest)) >>= (λ _. further >>= (λ gs. Some (this a.0 ∷ gs)))) a.2 in
+    let d = bind-some (guard (leb e.size (length rest))) (λ _. further >>= (λ gs. Some (this a.0 ∷ gs))) c.2 in
+    let g = bind-some further (λ gs. Some (this a.0 ∷ gs)) d.2 in
+    let p : Some u.0 ≡ Some a.0 = b.2 in
+    let q : Some (this a.0 ∷ g.0) ≡ Some fs = g.2 in
     subst (Told k (e ∷ es)) (cc) (told {f = this a.0} (u.1 ∙ p) refl (files_from-told (suc k) (at + e.size) es (drop e.size rest) g.0 g.1))
   where
     this : Bytes → File
@@ -119,19 +119,19 @@ ascending-tail e (f ∷ es) h = (ascending-cons e f es h).1
 -- at most one file passes the test
 abbrev pub Lone : (Name → Bool) → List File → Type 0
 Lone test [] = Unit {0}
-Lone test (f ∷ fs) = (test (name_of f.name) ≡ true → find test fs ≡ none) × Lone test fs
+Lone test (f ∷ fs) = (test (name_of f.name) ≡ true → find test fs ≡ None) × Lone test fs
 
 module _ (test : Name → Bool) (one : OneName test) where
-  none-later : (p name : Bytes) → unpadded p ≡ some name → length p ≡ 96 → test (name_of name) ≡ true → {k : ℕ} {es : List Entry} {fs : List File}
-      → All (λ (e : Entry). order p e.padded ≡ less) es → All (λ (e : Entry). length e.padded ≡ 96) es → Told k es fs → find test fs ≡ none
+  none-later : (p name : Bytes) → unpadded p ≡ Some name → length p ≡ 96 → test (name_of name) ≡ true → {k : ℕ} {es : List Entry} {fs : List File}
+      → All (λ (e : Entry). order p e.padded ≡ less) es → All (λ (e : Entry). length e.padded ≡ 96) es → Told k es fs → find test fs ≡ None
   unfolding find All
   none-later p name u l t a w told-end = refl
   none-later p name u l t a w (told {e = e} {f = f} {es = es} {fs = fs} u' n r) = go (test (name_of f.name)) refl (none-later p name u l t a.1 w.1 r)
     where
-      go : (b : Bool) → test (name_of f.name) ≡ b → find test fs ≡ none → ◌≡◌ {A = Option File} (elim b [ true ↦ some f | false ↦ find test fs ]) none
+      go : (b : Bool) → test (name_of f.name) ≡ b → find test fs ≡ None → ◌≡◌ {A = Option File} (elim b [ true ↦ Some f | false ↦ find test fs ]) None
       go true h ih =
           let s : f.name ≡ name = one f.name name h t in
-          let d : p ≡ e.padded = unpadded-once p e.padded name (l ∙ sym w.0) u (u' ∙ ap some s) in
+          let d : p ≡ e.padded = unpadded-once p e.padded name (l ∙ sym w.0) u (u' ∙ ap Some s) in
           absurd (order-less-ne p e.padded a.0 d)
       go false h ih = ih
 
@@ -150,7 +150,7 @@ pub padded_name-same : (f g : File) → f.name ≡ g.name → padded_name f ≡ 
 unfolding padded_name
 padded_name-same f g e = ap (with_zeros 96) e
 
-padded-is : (e : Entry) (f : File) → unpadded e.padded ≡ some f.name → length e.padded ≡ 96 → e.padded ≡ padded_name f
+padded-is : (e : Entry) (f : File) → unpadded e.padded ≡ Some f.name → length e.padded ≡ 96 → e.padded ≡ padded_name f
 unfolding padded_name
 padded-is e f u w = unpadded-zeros e.padded f.name u ∙ ap (λ (n : ℕ). with_zeros n f.name) w
 
@@ -182,13 +182,13 @@ pub record Sound (fs : List File) : Type 0 where
   pub one_checkpoint : (c : ℕ) → Lone (λ n. is c (checkpoint_in n)) fs
   pub ascends : Ascends padded_name fs
 
-pub bundle-sound : (s : Bytes) (fs : List File) → bundle s ≡ some fs → Sound fs
+pub bundle-sound : (s : Bytes) (fs : List File) → bundle s ≡ Some fs → Sound fs
 unfolding bundle files_of entry_bytes
 bundle-sound s fs h =
     let a = bind-some (guard (among 4 most_bytes (length s))) (λ _. files_of (little (take 4 s)) s) h in
     go (little (take 4 s)) a.2
   where
-    go : (n : ℕ) → files_of n s ≡ some fs → Sound fs
+    go : (n : ℕ) → files_of n s ≡ Some fs → Sound fs
     go n h =
         let b = bind-some (guard (leb n most_entries))
         (λ _. guard (leb (4 + 112 * n) (length s))

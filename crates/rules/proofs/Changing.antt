@@ -2,7 +2,7 @@
 use mathlib.Core.Path.{◌≡◌, refl, sym, ap, ◌∙◌}
 use mathlib.Core.Logic.{◌⊎◌, inl, inr}
 use mathlib.Core.Bool.{false}
-use mathlib.Core.Option.{some}
+use Rattle.std.specs.Prelude.{Some}
 use mathlib.Core.List.{List, [], ◌∷◌, map}
 use Prim.Native.Nat.{ℕ, zero, suc, ◌≤◌, ◌<◌}
 use native.Mathlib.Nat.{le_of_suc-le-suc, not-suc-le-zero}
@@ -102,17 +102,17 @@ module _ {A : Type 0} (key : A → Bytes) (k : Bytes) (f : A → A) where
             rw (change-past x xs n) (All-change (Below key x) xs s.0 (λ y h. ap (λ (z : Bytes). order (key x) z) (keeps y) ∙ h), ih)
 
     -- the one at the key is changed, if there
-    pub lookup-change : (xs : List A) (r : A) → lookup key k xs ≡ some r → lookup key k (change key k f xs) ≡ some (f r)
+    pub lookup-change : (xs : List A) (r : A) → lookup key k xs ≡ Some r → lookup key k (change key k f xs) ≡ Some (f r)
     unfolding change lookup
     lookup-change [] r h = apart (cc)
     lookup-change (x ∷ xs) r h = go (lookup-change xs r) (same_or_not k (key x))
       where
-        go : (lookup key k xs ≡ some r → lookup key k (change key k f xs) ≡ some (f r)) → (k ≡ key x) ⊎ (k ≡ key x → ⊥)
-            → lookup key k (change key k f (x ∷ xs)) ≡ some (f r)
+        go : (lookup key k xs ≡ Some r → lookup key k (change key k f xs) ≡ Some (f r)) → (k ≡ key x) ⊎ (k ≡ key x → ⊥)
+            → lookup key k (change key k f (x ∷ xs)) ≡ Some (f r)
         go ih (inl e) =
-            let q : some x ≡ some r = sym (lookup-here key k x xs e) ∙ h in
+            let q : Some x ≡ Some r = sym (lookup-here key k x xs e) ∙ h in
             let p : x ≡ r = cc in
-            ap (lookup key k) (change-here x xs e) ∙ lookup-here key k (f x) xs (e ∙ sym (keeps x)) ∙ ap (λ (y : A). some (f y)) p
+            ap (lookup key k) (change-here x xs e) ∙ lookup-here key k (f x) xs (e ∙ sym (keeps x)) ∙ ap (λ (y : A). Some (f y)) p
         go ih (inr n) =
             ap (lookup key k) (change-past x xs n) ∙ lookup-past key k x (change key k f xs) n ∙ ih (sym (lookup-past key k x xs n) ∙ h)
 

@@ -2,7 +2,7 @@
 use mathlib.Core.Path.{◌≡◌, refl, sym, ◌∙◌}
 use mathlib.Core.Bool.{Bool, true, false}
 use mathlib.Core.List.{[], ◌∷◌}
-use mathlib.Core.Option.{none, some}
+use Rattle.std.specs.Prelude.{None, Some}
 use Prim.Native.Nat.{ℕ, suc, ◌+◌, ◌-◌, ◌*◌, ◌^◌, ◌≤◌, ◌<◌}
 use native.Mathlib.Numerals.{add-one}
 use native.Mathlib.Nat.{add-zero, pow-suc, pow-le-pow_right, le_trans}
@@ -11,7 +11,7 @@ use lib.ListN.{length, drop, get_or, drop_of_length-le}
 use Rattle.facts.proofs.Lists.{drop_here}
 use Rattle.rules.specs.Bytes.{Bytes}
 use Rattle.rules.specs.Numbers.{is_digit, decimal, decimal_from}
-use Rattle.rules.proofs.Ranges.{among-within, among_below, among-above}
+use Rattle.rules.proofs.Ranges.{among-within}
 use Rattle.rules.proofs.Tests.{apart}
 
 -- ---- a digit
@@ -20,14 +20,6 @@ pub digit-between : (b : ℕ) → 48 ≤ b → b ≤ 57 → is_digit b ≡ true
 unfolding is_digit
 digit-between b l h = among-within 48 57 b l h
 
-pub digit-below : (b : ℕ) → b < 48 → is_digit b ≡ false
-unfolding is_digit
-digit-below b h = among_below 48 57 b h
-
-pub digit-above : (b : ℕ) → 57 < b → is_digit b ≡ false
-unfolding is_digit
-digit-above b h = among-above 48 57 b (omega arith) h
-
 -- ---- one byte of digits
 
 module _ (b : ℕ) (t : Bytes) (n : ℕ) where
@@ -35,7 +27,7 @@ module _ (b : ℕ) (t : Bytes) (n : ℕ) where
   unfolding decimal_from
   decimal_digit e = rw (decimal_from, e)
 
-  pub decimal-other : is_digit b ≡ false → decimal_from n (b ∷ t) ≡ none
+  pub decimal-other : is_digit b ≡ false → decimal_from n (b ∷ t) ≡ None
   unfolding decimal_from
   decimal-other e = rw (decimal_from, e)
 
@@ -43,10 +35,10 @@ module _ (s : Bytes) (i n : ℕ) (h : i < length s) where
   pub decimal-at-digit : is_digit (get_or s i 0) ≡ true → decimal_from n (drop i s) ≡ decimal_from (n * 10 + (get_or s i 0 - 48)) (drop (i + 1) s)
   decimal-at-digit e = rw (drop_here s i 0 h) (decimal_digit (get_or s i 0) (drop (i + 1) s) n e)
 
-  pub decimal-at-other : is_digit (get_or s i 0) ≡ false → decimal_from n (drop i s) ≡ none
+  pub decimal-at-other : is_digit (get_or s i 0) ≡ false → decimal_from n (drop i s) ≡ None
   decimal-at-other e = rw (drop_here s i 0 h) (decimal-other (get_or s i 0) (drop (i + 1) s) n e)
 
-pub decimal-end : (s : Bytes) (i n : ℕ) → length s ≤ i → decimal_from n (drop i s) ≡ some n
+pub decimal-end : (s : Bytes) (i n : ℕ) → length s ≤ i → decimal_from n (drop i s) ≡ Some n
 unfolding decimal_from
 decimal-end s i n h = rw (drop_of_length-le s h)
 
@@ -60,7 +52,7 @@ room-left n i h k = le_trans h (pow-le-pow_right (omega arith) {i = i} {j = 18} 
 
 -- ---- a whole text
 
-pub decimal-empty : (s : Bytes) → length s < 1 → decimal s ≡ none
+pub decimal-empty : (s : Bytes) → length s < 1 → decimal s ≡ None
 unfolding decimal
 decimal-empty [] h = refl
 decimal-empty (b ∷ s) h = absurd (omega arith)
@@ -73,28 +65,28 @@ decimal-start (b ∷ s) h = refl
 -- ---- what digits stand for, and its size
 
 -- digits or not does not depend on what stands before them
-pub decimal-none : (t : Bytes) (j k : ℕ) → decimal_from j t ≡ none → decimal_from k t ≡ none
+pub decimal-none : (t : Bytes) (j k : ℕ) → decimal_from j t ≡ None → decimal_from k t ≡ None
 unfolding decimal_from
 decimal-none [] j k e = apart (cc)
 decimal-none (b ∷ t) j k e = go (decimal-none t (j * 10 + (b - 48)) (k * 10 + (b - 48))) (is_digit b) refl
   where
-    go : (decimal_from (j * 10 + (b - 48)) t ≡ none → decimal_from (k * 10 + (b - 48)) t ≡ none) → (x : Bool) → is_digit b ≡ x → decimal_from k (b ∷ t) ≡ none
+    go : (decimal_from (j * 10 + (b - 48)) t ≡ None → decimal_from (k * 10 + (b - 48)) t ≡ None) → (x : Bool) → is_digit b ≡ x → decimal_from k (b ∷ t) ≡ None
     go ih true p = decimal_digit b t k p ∙ ih (sym (decimal_digit b t j p) ∙ e)
     go ih false p = decimal-other b t k p
 
 -- each digit more is ten times more
-decimal-grows : (t : Bytes) (j k n : ℕ) → 10 ^ j ≤ k → decimal_from k t ≡ some n → 10 ^ (j + length t) ≤ n
+decimal-grows : (t : Bytes) (j k n : ℕ) → 10 ^ j ≤ k → decimal_from k t ≡ Some n → 10 ^ (j + length t) ≤ n
 unfolding decimal_from
 decimal-grows [] j k n h e = let q : k ≡ n = cc in rw add-zero (omega arith)
 decimal-grows (b ∷ t) j k n h e = go (decimal-grows t (suc j) (k * 10 + (b - 48)) n (rw pow-suc (omega arith))) (is_digit b) refl
   where
-    go : (decimal_from (k * 10 + (b - 48)) t ≡ some n → 10 ^ (suc j + length t) ≤ n) → (x : Bool) → is_digit b ≡ x → 10 ^ (j + suc (length t)) ≤ n
+    go : (decimal_from (k * 10 + (b - 48)) t ≡ Some n → 10 ^ (suc j + length t) ≤ n) → (x : Bool) → is_digit b ≡ x → 10 ^ (j + suc (length t)) ≤ n
     go ih true p =
         let q : j + suc (length t) ≡ suc j + length t = omega arith in
         rw q (ih (sym (decimal_digit b t k p) ∙ e))
-    go ih false p = let q : none ≡ some n = sym (decimal-other b t k p) ∙ e in apart (cc)
+    go ih false p = let q : None ≡ Some n = sym (decimal-other b t k p) ∙ e in apart (cc)
 
 -- nineteen digits behind one that is not zero
-pub decimal-large : (t : Bytes) (k n : ℕ) → 0 < k → 19 ≤ length t → decimal_from k t ≡ some n → 10_000_000_000_000_000_000 ≤ n
+pub decimal-large : (t : Bytes) (k n : ℕ) → 0 < k → 19 ≤ length t → decimal_from k t ≡ Some n → 10_000_000_000_000_000_000 ≤ n
 decimal-large t k n h l e =
     le_trans (pow-le-pow_right (omega arith) {i = 19} {j = 0 + length t} (omega arith)) (decimal-grows t 0 k n h e)

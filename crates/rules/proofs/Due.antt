@@ -1,7 +1,7 @@
 -- The due files of a list of rows: a filter, the same of the same rows, and none more than there are; what the due listing comes to.
 use mathlib.Core.Path.{◌≡◌, refl, ap, subst}
 use mathlib.Core.Bool.{Bool, true, false}
-use mathlib.Core.Option.{some}
+use Rattle.std.specs.Prelude.{Some}
 use mathlib.Core.List.{List, [], ◌∷◌, map}
 use Prim.Native.Nat.{ℕ, suc, ◌≤◌}
 use native.Mathlib.Omega.{arith}
@@ -61,7 +61,7 @@ unfolding due
 due-refused room s asked time e = ap (λ (o : Answer Listing). o >>= (λ l. accepted (due_listing time l))) e
 
 -- the query [] asks nothing
-pub query-none : query (ascii "[]") ≡ some []
+pub query-none : query (ascii "[]") ≡ Some []
 unfolding rules
 query-none = refl
 

@@ -1,7 +1,7 @@
 -- What holds of the answer of a list of tests: it is enough to look at what stands beside each test.
 use mathlib.Core.Path.{◌≡◌}
 use mathlib.Core.Bool.{Bool, true}
-use mathlib.Core.Option.{Option, none, some}
+use Rattle.std.specs.Prelude.{Option, None, Some}
 use mathlib.Core.List.{List, [], ◌∷◌}
 use Rattle.facts.specs.Lists.{All}
 use Rattle.rules.specs.Bytes.{first}
@@ -9,9 +9,9 @@ use Rattle.rules.proofs.Tests.{by, apart}
 
 -- what stands beside a test that passes is no answer, or one of which P holds
 abbrev pub Answers : {A : Type 0} → (A → Type 0) → Bool × Option A → Type 0
-Answers {A} P c = (c.0 ≡ true) → (x : A) → (c.1 ≡ some x) → P x
+Answers {A} P c = (c.0 ≡ true) → (x : A) → (c.1 ≡ Some x) → P x
 
-pub first-answers : {A : Type 0} (P : A → Type 0) (cs : List (Bool × Option A)) {a : A} → All (Answers P) cs → first cs none ≡ some a → P a
+pub first-answers : {A : Type 0} (P : A → Type 0) (cs : List (Bool × Option A)) {a : A} → All (Answers P) cs → first cs None ≡ Some a → P a
 unfolding first All
 first-answers P [] h e = apart (cc)
 first-answers P (c ∷ cs) {a} h e = by c.0

@@ -1,7 +1,7 @@
 -- Values out of range, as a loop over conditions or over rows meets them.
 use mathlib.Core.Path.{◌≡◌, refl, ap, ◌∙◌}
 use mathlib.Core.Bool.{Bool, true, false}
-use mathlib.Core.Option.{Option, none, some}
+use Rattle.std.specs.Prelude.{Option, None, Some}
 use mathlib.Core.List.{List, [], ◌∷◌}
 use Prim.Native.Nat.{ℕ, zero, suc, ◌<◌}
 use native.Mathlib.Nat.{le_of_suc-le-suc, not-suc-le-zero}
@@ -27,9 +27,9 @@ module _ (c : Condition) (cs : List Condition) (f : Facts) where
 -- a text is never out of range
 pub out_of-text : (c : Condition) (v : Option (Option Bytes)) → c.kind ≡ as_text → out_of c v ≡ false
 unfolding out_of out_of_as
-out_of-text c none e = refl
-out_of-text c (some none) e = refl
-out_of-text c (some (some x)) e = ap (λ (k : As). out_of_as k x) e
+out_of-text c None e = refl
+out_of-text c (Some None) e = refl
+out_of-text c (Some (Some x)) e = ap (λ (k : As). out_of_as k x) e
 
 pub any_out_of-text : (cs : List Condition) (f : Facts) → All (λ (c : Condition). c.kind ≡ as_text) cs → any_out_of cs f ≡ false
 unfolding any_out_of All

@@ -1,7 +1,7 @@
 -- Behind the test of the room nothing is refused by number 1: so the room holds what it must, whatever was written before.
 use mathlib.Core.Path.{◌≡◌, subst}
 use mathlib.Core.Bool.{Bool, true, false}
-use mathlib.Core.Option.{Option, none, some}
+use Rattle.std.specs.Prelude.{Option, None, Some}
 use mathlib.Core.List.{List, [], ◌∷◌, map}
 use Prim.Native.Nat.{ℕ, suc, ◌+◌}
 use native.Mathlib.Omega.{arith}
@@ -37,8 +37,8 @@ later-bind (refused r) f p q = p
 
 later-or_refuse : {A : Type 0} (r : Refusal) (o : Option A) → (r.number ≡ 1 → ⊥) → Later (or_refuse r o)
 unfolding Later
-later-or_refuse r none h = h
-later-or_refuse r (some a) h = tt
+later-or_refuse r None h = h
+later-or_refuse r (Some a) h = tt
 
 later-require : (r : Refusal) (b : Bool) → (r.number ≡ 1 → ⊥) → Later (require r b)
 unfolding Later

@@ -2,7 +2,7 @@
 use mathlib.Core.Path.{◌≡◌, refl, sym, ap, ◌∙◌}
 use mathlib.Core.Logic.{◌⊎◌, inl, inr}
 use mathlib.Core.Bool.{true, false}
-use mathlib.Core.Option.{none, some}
+use Rattle.std.specs.Prelude.{None, Some}
 use mathlib.Core.List.{List, [], ◌∷◌, map}
 use Prim.Native.Nat.{suc, ◌≤◌}
 use native.Mathlib.Omega.{arith}
@@ -42,7 +42,7 @@ module _ {A : Type 0} (key : A → Bytes) where
     unfolding take_out take_if
     take_out-past h = rw (ne_same k (key x) h, take_out)
 
-    pub lookup-here : k ≡ key x → lookup key k (x ∷ xs) ≡ some x
+    pub lookup-here : k ≡ key x → lookup key k (x ∷ xs) ≡ Some x
     unfolding lookup
     lookup-here e = rw (eq-same e, lookup)
 
@@ -148,12 +148,12 @@ module _ {A : Type 0} (key : A → Bytes) where
 
   -- ---- look-up
 
-  pub lookup-put : (r : A) (xs : List A) → lookup key (key r) (put key r xs) ≡ some r
+  pub lookup-put : (r : A) (xs : List A) → lookup key (key r) (put key r xs) ≡ Some r
   unfolding put
   lookup-put r [] = lookup-here (key r) r [] refl
   lookup-put r (x ∷ xs) = go (lookup-put r xs) (order (key r) (key x)) refl
     where
-      go : lookup key (key r) (put key r xs) ≡ some r → (o : Order) → order (key r) (key x) ≡ o → lookup key (key r) (put key r (x ∷ xs)) ≡ some r
+      go : lookup key (key r) (put key r xs) ≡ Some r → (o : Order) → order (key r) (key x) ≡ o → lookup key (key r) (put key r (x ∷ xs)) ≡ Some r
       go ih less e = rw (put-below r x xs e) (lookup-here (key r) r (x ∷ xs) refl)
       go ih equal e = rw (put-over r x xs (order-equal (key r) (key x) e)) (lookup-here (key r) r xs refl)
       go ih more e = rw (put-past r x xs e) (lookup-past (key r) x (put key r xs) (order-more-ne (key r) (key x) e) ∙ ih)
@@ -172,42 +172,42 @@ module _ {A : Type 0} (key : A → Bytes) where
       go ih more e (inl p) = rw (put-past r x xs e) (lookup-here k x (put key r xs) p ∙ sym (lookup-here k x xs p))
       go ih more e (inr p) = rw (put-past r x xs e) (lookup-past k x (put key r xs) p ∙ ih ∙ sym (lookup-past k x xs p))
 
-  pub lookup-none : (k : Bytes) (xs : List A) → holds k (map key xs) ≡ false → lookup key k xs ≡ none
+  pub lookup-none : (k : Bytes) (xs : List A) → holds k (map key xs) ≡ false → lookup key k xs ≡ None
   unfolding lookup
   lookup-none k [] h = refl
   lookup-none k (x ∷ xs) h = go (lookup-none k xs) (same_or_not k (key x))
     where
-      go : (holds k (map key xs) ≡ false → lookup key k xs ≡ none) → (k ≡ key x) ⊎ (k ≡ key x → ⊥) → lookup key k (x ∷ xs) ≡ none
+      go : (holds k (map key xs) ≡ false → lookup key k xs ≡ None) → (k ≡ key x) ⊎ (k ≡ key x → ⊥) → lookup key k (x ∷ xs) ≡ None
       go ih (inl e) = absurd (true-not-false (holds-head k (key x) (map key xs) e) h)
       go ih (inr n) = lookup-past k x xs n ∙ ih (sym (holds-past k (key x) (map key xs) n) ∙ h)
 
-  pub none-lookup : (k : Bytes) (xs : List A) → lookup key k xs ≡ none → holds k (map key xs) ≡ false
+  pub none-lookup : (k : Bytes) (xs : List A) → lookup key k xs ≡ None → holds k (map key xs) ≡ false
   unfolding holds
   none-lookup k [] h = refl
   none-lookup k (x ∷ xs) h = go (none-lookup k xs) (same_or_not k (key x))
     where
-      go : (lookup key k xs ≡ none → holds k (map key xs) ≡ false) → (k ≡ key x) ⊎ (k ≡ key x → ⊥) → holds k (key x ∷ map key xs) ≡ false
+      go : (lookup key k xs ≡ None → holds k (map key xs) ≡ false) → (k ≡ key x) ⊎ (k ≡ key x → ⊥) → holds k (key x ∷ map key xs) ≡ false
       go ih (inl e) = apart (cc (lookup-here k x xs e))
       go ih (inr n) = holds-past k (key x) (map key xs) n ∙ ih (sym (lookup-past k x xs n) ∙ h)
 
-  pub lookup_key : (k : Bytes) (xs : List A) (r : A) → lookup key k xs ≡ some r → key r ≡ k
+  pub lookup_key : (k : Bytes) (xs : List A) (r : A) → lookup key k xs ≡ Some r → key r ≡ k
   unfolding lookup
   lookup_key k [] r h = apart (cc)
   lookup_key k (x ∷ xs) r h = go (lookup_key k xs r) (same_or_not k (key x))
     where
-      go : (lookup key k xs ≡ some r → key r ≡ k) → (k ≡ key x) ⊎ (k ≡ key x → ⊥) → key r ≡ k
+      go : (lookup key k xs ≡ Some r → key r ≡ k) → (k ≡ key x) ⊎ (k ≡ key x → ⊥) → key r ≡ k
       go ih (inl e) =
-          let q : some x ≡ some r = sym (lookup-here k x xs e) ∙ h in
+          let q : Some x ≡ Some r = sym (lookup-here k x xs e) ∙ h in
           let p : x ≡ r = cc in
           rw (← p) (sym e)
       go ih (inr n) = ih (sym (lookup-past k x xs n) ∙ h)
 
-  pub lookup-take_out : (k : Bytes) (xs : List A) → Ascends key xs → lookup key k (take_out key k xs) ≡ none
+  pub lookup-take_out : (k : Bytes) (xs : List A) → Ascends key xs → lookup key k (take_out key k xs) ≡ None
   unfolding take_out lookup
   lookup-take_out k [] s = refl
   lookup-take_out k (x ∷ xs) s = go (lookup-take_out k xs s.1) (same_or_not k (key x))
     where
-      go : lookup key k (take_out key k xs) ≡ none → (k ≡ key x) ⊎ (k ≡ key x → ⊥) → lookup key k (take_out key k (x ∷ xs)) ≡ none
+      go : lookup key k (take_out key k xs) ≡ None → (k ≡ key x) ⊎ (k ≡ key x → ⊥) → lookup key k (take_out key k (x ∷ xs)) ≡ None
       go ih (inl e) = rw (take_out-here k x xs e) (lookup-none k xs (rw e (below-not-held key x xs s.0)))
       go ih (inr n) = rw (take_out-past k x xs n) (lookup-past k x (take_out key k xs) n ∙ ih)
 

@@ -1,7 +1,7 @@
 -- Where the values of an object's members stand: each member's text is read at its place, which is an end of the object's text.
 use mathlib.Core.Path.{◌≡◌, refl, sym, ◌∙◌, ap, subst}
 use mathlib.Core.Bool.{Bool, true, false}
-use mathlib.Core.Option.{Option, none, some}
+use Rattle.std.specs.Prelude.{Option, None, Some}
 use mathlib.Core.List.{List, [], ◌∷◌, ◌++◌}
 use Prim.Native.Nat.{ℕ}
 use Rattle.rules.specs.Bytes.{Bytes, same, is_empty}
@@ -23,7 +23,7 @@ use Rattle.rules.proofs.Suffixes.{Suffix, suffix_trans}
 -- a value whose text is x is read where v is left of t
 pub record Stands (read : Reader) (t x v : Text) : Type 0 where
   pub rest : Text
-  pub text : spelled read v ≡ some (x, rest)
+  pub text : spelled read v ≡ Some (x, rest)
   pub suffix : Suffix v t
 
 -- members by their texts, and by their places
@@ -58,8 +58,8 @@ module _ {read : Reader} (each : EachReads 1 read) (t : Text) (m : Member) (v r 
 
 -- ---- the members of an object
 
-pub contents-left : (d : ℕ) (t : Text) (ms : List Member) (r : Text) → contents (value d) t ≡ some (ms, r)
-    → (fs : List Member) × (list (member_left (value d)) 0x7D t ≡ some (fs, r)) × EachStands (value d) t ms fs
+pub contents-left : (d : ℕ) (t : Text) (ms : List Member) (r : Text) → contents (value d) t ≡ Some (ms, r)
+    → (fs : List Member) × (list (member_left (value d)) 0x7D t ≡ Some (fs, r)) × EachStands (value d) t ms fs
 contents-left d t ms r e =
     list_left (value d) (EachStands (value d))
     (λ u m v q b. stands (begins-stands (value-reads d) u m v q b) no_more)
@@ -73,39 +73,39 @@ contents-left d t ms r e =
     each-up (w.passed, w.split ∙ ap (λ (x : Text). w.passed ++ x) (sym (opening-onward 0x7D t u h))) hs)
     (sym (contents-list (value d) t) ∙ e)
 
-pub members_left-list : (d : ℕ) (t : Text) {r u : Text} {fs : List Member} → byte 0x7B (ws t) ≡ some r
-    → list (member_left (value d)) 0x7D r ≡ some (fs, u) → members_left d t ≡ some fs
+pub members_left-list : (d : ℕ) (t : Text) {r u : Text} {fs : List Member} → byte 0x7B (ws t) ≡ Some r
+    → list (member_left (value d)) 0x7D r ≡ Some (fs, u) → members_left d t ≡ Some fs
 unfolding members_left
 members_left-list d t e f = rw (members_left, e, f)
 
-pub object_of-left : (d : ℕ) (t : Text) (ms : List Member) → object_of d t ≡ some ms
-    → (fs : List Member) × (members_left d t ≡ some fs) × EachStands (value d) t ms fs
+pub object_of-left : (d : ℕ) (t : Text) (ms : List Member) → object_of d t ≡ Some ms
+    → (fs : List Member) × (members_left d t ≡ Some fs) × EachStands (value d) t ms fs
 unfolding object_of alone
 object_of-left d t ms e = bound (byte 0x7B (ws t)) _ e (λ r f g. go r f (contents (value d) r) refl g)
   where
-    go : (r : Text) → byte 0x7B (ws t) ≡ some r → (o : Option (List Member × Text)) → contents (value d) r ≡ o → alone o ≡ some ms
-        → (fs : List Member) × (members_left d t ≡ some fs) × EachStands (value d) t ms fs
-    go r f none h g = apart (cc)
-    go r f (some p) h g =
+    go : (r : Text) → byte 0x7B (ws t) ≡ Some r → (o : Option (List Member × Text)) → contents (value d) r ≡ o → alone o ≡ Some ms
+        → (fs : List Member) × (members_left d t ≡ Some fs) × EachStands (value d) t ms fs
+    go r f None h g = apart (cc)
+    go r f (Some p) h g =
         let w = ws-reads t in
         let b = byte_reads 0x7B (ws t) r f in
         let s : Suffix r t = suffix_trans r (ws t) t (b.passed, b.split) (w.passed, w.split) in
         let (fs, k, hs) = contents-left d r p.0 p.1 h in
         (fs, members_left-list d t f k, subst (λ (xs : List Member). EachStands (value d) t xs fs) (ended (is_empty (ws p.1)) g) (each-up s hs))
       where
-        ended : (b : Bool) → elim b [ true ↦ some p.0 | false ↦ none ] ≡ some ms → p.0 ≡ ms
+        ended : (b : Bool) → elim b [ true ↦ Some p.0 | false ↦ None ] ≡ Some ms → p.0 ≡ ms
         ended true i = some_same i
         ended false i = apart (cc)
 
 -- ---- one of them
 
 module _ {read : Reader} {t : Text} where
-  pub only_one-left : {ms fs : List Member} (m : Member) → EachStands read t ms fs → only_one ms ≡ some m
-      → (v : Text) × (only_one fs ≡ some (m.0, v)) × Stands read t m.1 v
+  pub only_one-left : {ms fs : List Member} (m : Member) → EachStands read t ms fs → only_one ms ≡ Some m
+      → (v : Text) × (only_one fs ≡ Some (m.0, v)) × Stands read t m.1 v
   unfolding only_one
   only_one-left m no_more e = apart (cc)
   only_one-left m (stands {v = v} h no_more) e =
-      (v, ap (λ (x : Member). some (x.0, v)) (some_same e), subst (λ (x : Member). Stands read t x.1 v) (some_same e) h)
+      (v, ap (λ (x : Member). Some (x.0, v)) (some_same e), subst (λ (x : Member). Stands read t x.1 v) (some_same e) h)
   only_one-left m (stands h (stands k hs)) e = apart (cc)
 
   pub under_left : (name : Bytes) {ms fs : List Member} → EachStands read t ms fs → EachText read t (under name ms) (under name fs)
@@ -118,7 +118,7 @@ module _ {read : Reader} {t : Text} where
       go true ih = stands h ih
       go false ih = ih
 
-  pub sole-left : {xs vs : List Text} (x : Text) → EachText read t xs vs → sole xs ≡ some x → (v : Text) × (sole vs ≡ some v) × Stands read t x v
+  pub sole-left : {xs vs : List Text} (x : Text) → EachText read t xs vs → sole xs ≡ Some x → (v : Text) × (sole vs ≡ Some v) × Stands read t x v
   unfolding sole
   sole-left x no_more e = apart (cc)
   sole-left x (stands {v = v} h no_more) e = (v, refl, subst (λ (y : Text). Stands read t y v) (some_same e) h)

@@ -1,7 +1,7 @@
 -- The bytes at the path's place are the path shown.
 use mathlib.Core.Path.{◌≡◌, refl, sym, ◌∙◌, ap}
 use mathlib.Core.Bool.{Bool, true, false}
-use mathlib.Core.Option.{Option, none, some}
+use Rattle.std.specs.Prelude.{Option, None, Some}
 use mathlib.Core.List.{List, [], ◌∷◌, ◌++◌, append_assoc}
 use Prim.Native.Nat.{ℕ, ◌+◌, ◌-◌, ◌≤◌}
 use native.Mathlib.Omega.{arith}
@@ -28,17 +28,17 @@ use Rattle.rules.proofs.MemberPlaces.{Stands, contents-left, members_left-list, 
 
 -- ---- the object and the string at a place
 
-object-at : (x v : Text) (ms : List Member) (t : Text) → Stands (value in_line) t x v → object_of in_action x ≡ some ms
-    → (r : Text) × (u : Text) × (v ≡ 0x7B ∷ r) × (contents (value in_action) r ≡ some (ms, u))
+object-at : (x v : Text) (ms : List Member) (t : Text) → Stands (value in_line) t x v → object_of in_action x ≡ Some ms
+    → (r : Text) × (u : Text) × (v ≡ 0x7B ∷ r) × (contents (value in_action) r ≡ Some (ms, u))
 unfolding in_line in_action
 object-at x [] ms t h e = answered-none (spelled-left (value in_line) [] h.text) (value-end in_line)
 object-at x (b ∷ r) ms t h e = by (eqb b 0x7B)
     (λ p. let q : b ≡ 0x7B = eqb-true b 0x7B p in
     let (ns, f, g) = object-text in_action r x h.rest (sym (ap (λ (c : ℕ). spelled (value in_line) (c ∷ r)) q) ∙ h.text) in
-    (r, h.rest, ap (λ (c : ℕ). c ∷ r) q, f ∙ ap (λ (xs : List Member). some (xs, h.rest)) (some_same (sym g ∙ e))))
+    (r, h.rest, ap (λ (c : ℕ). c ∷ r) q, f ∙ ap (λ (xs : List Member). Some (xs, h.rest)) (some_same (sym g ∙ e))))
     (λ p. answered-none e (object_of-other in_action in_line b r x h.rest (eqb-false b 0x7B p) h.text))
 
-string-at : (d : ℕ) (x v t : Text) {y : Bytes} → Stands (value d) t x v → string_of x ≡ some y
+string-at : (d : ℕ) (x v t : Text) {y : Bytes} → Stands (value d) t x v → string_of x ≡ Some y
     → (z : Text) × (behind : Text) × (v ≡ 0x22 ∷ z) × (z ≡ unquoted x ++ behind)
 unfolding unquoted
 string-at d x [] t h e = answered-none (spelled-left (value d) [] h.text) (value-end d)
@@ -72,25 +72,25 @@ pub record Written (line : Text) : Type 0 where
   pub text : Text
   pub left : Text
   pub behind : Text
-  pub written : path_written line ≡ some text
-  pub found : path_left line ≡ some left
+  pub written : path_written line ≡ Some text
+  pub found : path_left line ≡ Some left
   pub begins : left ≡ text ++ behind
   pub suffix : Suffix left line
 
-pub path_left-by : (line : Text) {ms fs : List Member} {m : Member} {v z : Text} → members_left in_line line ≡ some ms → only_one ms ≡ some m
-    → members_left in_action m.1 ≡ some fs → once "path" fs ≡ some v → byte 0x22 v ≡ some z → path_left line ≡ some z
+pub path_left-by : (line : Text) {ms fs : List Member} {m : Member} {v z : Text} → members_left in_line line ≡ Some ms → only_one ms ≡ Some m
+    → members_left in_action m.1 ≡ Some fs → once "path" fs ≡ Some v → byte 0x22 v ≡ Some z → path_left line ≡ Some z
 unfolding path_left
 path_left-by line a b c d e = rw (path_left, a, b, c, d) e
 
-pub brace-here : (v r : Text) → v ≡ 0x7B ∷ r → byte 0x7B (ws v) ≡ some r
+pub brace-here : (v r : Text) → v ≡ 0x7B ∷ r → byte 0x7B (ws v) ≡ Some r
 unfolding byte ws is_ws first
 brace-here v r e = ap (λ (t : Text). byte 0x7B (ws t)) e
 
-quote-here : (v z : Text) → v ≡ 0x22 ∷ z → byte 0x22 v ≡ some z
+quote-here : (v z : Text) → v ≡ 0x22 ∷ z → byte 0x22 v ≡ Some z
 unfolding byte
 quote-here v z e = ap (byte 0x22) e
 
-pub add-written : (line : Text) (f : Facts) → action line ≡ some (add f) → Written line
+pub add-written : (line : Text) (f : Facts) → action line ≡ Some (add f) → Written line
 unfolding action line_member path_written path_left once
 add-written line f e =
     let (m, a, (ms, g, h)) = action-add line f e in
@@ -129,15 +129,15 @@ kind line = go (is_line line) refl (action line) refl
 
     go : (b : Bool) → is_line line ≡ b → (a : Option Action) → action line ≡ a → Kind line
     go false l a e = none-by (rw (path_start, l)) (rw (path_shown, l))
-    go true l none e = none-by (rw (path_start, l, e)) (rw (path_shown, l, e))
-    go true l (some (add f)) e =
+    go true l None e = none-by (rw (path_start, l, e)) (rw (path_shown, l, e))
+    go true l (Some (add f)) e =
         let w = add-written line f e in
         adds f w (rw (path_start, l, e, w.found)) (rw (path_shown, l, e, w.written)) (rw (records_shown, l, e))
-    go true l (some (remove p)) e = none-by (rw (path_start, l, e)) (rw (path_shown, l, e))
-    go true l (some (protocol p)) e = none-by (rw (path_start, l, e)) (rw (path_shown, l, e))
-    go true l (some (meta_data m)) e = none-by (rw (path_start, l, e)) (rw (path_shown, l, e))
-    go true l (some (mergeskip p s)) e = none-by (rw (path_start, l, e)) (rw (path_shown, l, e))
-    go true l (some other) e = none-by (rw (path_start, l, e)) (rw (path_shown, l, e))
+    go true l (Some (remove p)) e = none-by (rw (path_start, l, e)) (rw (path_shown, l, e))
+    go true l (Some (protocol p)) e = none-by (rw (path_start, l, e)) (rw (path_shown, l, e))
+    go true l (Some (meta_data m)) e = none-by (rw (path_start, l, e)) (rw (path_shown, l, e))
+    go true l (Some (mergeskip p s)) e = none-by (rw (path_start, l, e)) (rw (path_shown, l, e))
+    go true l (Some other) e = none-by (rw (path_start, l, e)) (rw (path_shown, l, e))
 
 pub place-shown : (line : Text) → take (path_place line).1 (drop (path_place line).0 line) ≡ path_shown line
 unfolding path_place
@@ -172,8 +172,8 @@ unfolding records_of
 place-nothing line n = go (kind line)
   where
     stated : (o : Option ℕ) {P : Type 0} → records_of o ≡ no_add → P
-    stated none e = apart (cc)
-    stated (some m) e = apart (cc)
+    stated None e = apart (cc)
+    stated (Some m) e = apart (cc)
 
     go : Kind line → path_place line ≡ (0, 0)
     go (adds f w s p r) = stated f.num_records (sym r ∙ n)

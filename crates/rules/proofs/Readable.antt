@@ -1,7 +1,7 @@
 -- A body whose lines are all read is well formed.
 use mathlib.Core.Path.{◌≡◌, refl}
 use mathlib.Core.Bool.{true, false}
-use mathlib.Core.Option.{Option, none, some}
+use Rattle.std.specs.Prelude.{Option, None, Some}
 use mathlib.Core.List.{List, [], ◌∷◌}
 use Prim.Native.Nat.{ℕ, suc, ◌+◌}
 use lib.ListN.{length}
@@ -26,9 +26,9 @@ module _ (limit : ℕ) (of : Origin) where
           → ((or_refuse (malformed e k) o >>= (λ a. act limit of e k at (length (b ∷ bs)) a st))
           >>= (λ next. read_lines limit of e (suc k) (at + length (b ∷ bs) + 1) ls next)) ≡ accepted to
           → ((next : State) → read_lines limit of e (suc k) (at + length (b ∷ bs) + 1) ls next ≡ accepted to → every_line ls ≡ true)
-          → elim o [ none ↦ false | some a ↦ every_line ls ] ≡ true
-      go none h ih = apart (cc)
-      go (some a) h ih =
+          → elim o [ None ↦ false | Some a ↦ every_line ls ] ≡ true
+      go None h ih = apart (cc)
+      go (Some a) h ih =
           let r =
           bind-accepted
           (act limit of e k at (length (b ∷ bs)) a st)

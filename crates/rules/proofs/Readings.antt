@@ -1,7 +1,7 @@
 -- What reading comes to, once the room, the query, the bundle and its names are passed; rooms that are long enough are all one.
 use mathlib.Core.Path.{◌≡◌}
 use mathlib.Core.Bool.{false}
-use mathlib.Core.Option.{some}
+use Rattle.std.specs.Prelude.{Some}
 use mathlib.Core.List.{List}
 use Prim.Native.Nat.{ℕ, ◌≤◌}
 use borrow.Author.Tests.{le-leb}
@@ -13,7 +13,7 @@ use Rattle.rules.specs.Query.{Condition, query}
 use Rattle.rules.specs.Rooms.{rows_room}
 use Rattle.rules.specs.Reading.{Asked, version_asked, listing_at, reading}
 
-pub reading-is : (room : ℕ) (s q : Bytes) (asked : Asked) (cs : List Condition) (fs : List File) → rows_room ≤ room → query q ≡ some cs → bundle s ≡ some fs
+pub reading-is : (room : ℕ) (s q : Bytes) (asked : Asked) (cs : List Condition) (fs : List File) → rows_room ≤ room → query q ≡ Some cs → bundle s ≡ Some fs
     → any_too_large fs ≡ false
     → reading room s q asked ≡ listing_at cs (log_of fs) (version_asked asked (log_of fs))
 unfolding reading

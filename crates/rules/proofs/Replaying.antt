@@ -2,7 +2,7 @@
 use mathlib.Core.Path.{◌≡◌, refl, sym, ap, subst}
 use mathlib.Core.Logic.{◌⊎◌, inl, inr}
 use mathlib.Core.Bool.{Bool, true, false}
-use mathlib.Core.Option.{Option, none, some}
+use Rattle.std.specs.Prelude.{Option, None, Some}
 use mathlib.Core.List.{List, [], ◌∷◌}
 use Prim.Native.Nat.{ℕ, suc, ◌+◌, ◌≤◌, ◌<◌, zero-le}
 use lib.Dec.{leb}
@@ -71,7 +71,7 @@ act-accepted limit of e k at size a st h =
 -- a line that is accepted is empty, or its action's effect is within the limit
 pub record Applied (limit at : ℕ) (l : Bytes) (st to : State) : Type 0 where
   pub does : Action
-  pub said : action l ≡ some does
+  pub said : action l ≡ Some does
   pub reached : effect at (length l) does st ≡ to
   pub fits : length to.live ≤ limit
 
@@ -86,8 +86,8 @@ read_line-accepted limit of e k at (b ∷ bs) st to h = go (action (b ∷ bs)) r
 
     go : (o : Option Action) → action (b ∷ bs) ≡ o → (or_refuse (malformed e k) o >>= (λ a. act limit of e k at size a st)) ≡ accepted to
         → (st ≡ to) ⊎ Applied limit at (b ∷ bs) st to
-    go none q h = apart (cc)
-    go (some a) q h =
+    go None q h = apart (cc)
+    go (Some a) q h =
         let r = within_limit-accepted limit e k (effect at size a st) (act-accepted limit of e k at size a st h).1 in
         inr (record { does = a; said = q; reached = r.0; fits = subst (λ (x : State). length x.live ≤ limit) r.0 r.1 })
 

@@ -2,7 +2,7 @@
 use mathlib.Core.Path.{◌≡◌, refl, sym, ap, ◌∙◌}
 use mathlib.Core.Logic.{◌⊎◌, inl, inr}
 use mathlib.Core.Bool.{false}
-use mathlib.Core.Option.{none, some}
+use Rattle.std.specs.Prelude.{None, Some}
 use mathlib.Core.List.{List, [], ◌∷◌, map}
 use Prim.Native.Nat.{ℕ, zero, suc, ◌+◌, ◌≤◌, ◌<◌, zero-le, suc-le-suc}
 use native.Mathlib.Nat.{le_of_suc-le-suc, not-suc-le-zero, eq-or-lt_of_le, suc-add}
@@ -45,7 +45,7 @@ module _ {A : Type 0} (key : A → Bytes) where
       ∙ rw suc-add
 
   pub lookup-found : (k : Bytes) (xs : List A) (m : ℕ) (d : A) → Ascends key xs → m < length xs → key (get_or xs m d) ≡ k
-      → lookup key k xs ≡ some (get_or xs m d)
+      → lookup key k xs ≡ Some (get_or xs m d)
   lookup-found k [] m d s l e = absurd (not-suc-le-zero l)
   lookup-found k (x ∷ xs) zero d s l e = lookup-here key k x xs (sym e)
   lookup-found k (x ∷ xs) (suc m) d s l e =
@@ -96,7 +96,7 @@ module _ {A : Type 0} (key : A → Bytes) (k : Bytes) (xs : List A) (d : A) wher
     pub bracket-take_out : take_out key k xs ≡ xs
     bracket-take_out = take_out-none key k xs bracket-held
 
-    pub bracket-lookup : lookup key k xs ≡ none
+    pub bracket-lookup : lookup key k xs ≡ None
     bracket-lookup = lookup-none key k xs bracket-held
 
     pub bracket-put : (r : A) → key r ≡ k → put key r xs ≡ insert_at lo r xs

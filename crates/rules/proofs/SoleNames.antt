@@ -2,7 +2,7 @@
 use mathlib.Core.Path.{◌≡◌, refl, sym, ◌∙◌, ap, ap₂, subst}
 use mathlib.Core.Logic.{◌⊎◌, inl, inr}
 use mathlib.Core.Bool.{Bool, true, false}
-use mathlib.Core.Option.{Option, none, some}
+use Rattle.std.specs.Prelude.{Option, None, Some}
 use mathlib.Core.List.{◌++◌, [], ◌∷◌}
 use Prim.Native.Nat.{ℕ, suc, ◌+◌, ◌*◌, ◌-◌, ◌≤◌}
 use native.Mathlib.Omega.{arith}
@@ -20,17 +20,17 @@ use Rattle.rules.proofs.Choices.{bind-some}
 
 -- ---- twenty digits and an ending say one number, in one way
 
-digit-first : (sofar b : ℕ) (bs : Bytes) (n : ℕ) → decimal_from sofar (b ∷ bs) ≡ some n
-    → (0x30 ≤ b) × (b ≤ 0x39) × (decimal_from (sofar * 10 + (b - 0x30)) bs ≡ some n)
+digit-first : (sofar b : ℕ) (bs : Bytes) (n : ℕ) → decimal_from sofar (b ∷ bs) ≡ Some n
+    → (0x30 ≤ b) × (b ≤ 0x39) × (decimal_from (sofar * 10 + (b - 0x30)) bs ≡ Some n)
 unfolding decimal_from is_digit
 digit-first sofar b bs n e = go (is_digit b) refl e
   where
-    go : (t : Bool) → is_digit b ≡ t → elim t [ true ↦ decimal_from (sofar * 10 + (b - 0x30)) bs | false ↦ none ] ≡ some n
-        → (0x30 ≤ b) × (b ≤ 0x39) × (decimal_from (sofar * 10 + (b - 0x30)) bs ≡ some n)
+    go : (t : Bool) → is_digit b ≡ t → elim t [ true ↦ decimal_from (sofar * 10 + (b - 0x30)) bs | false ↦ None ] ≡ Some n
+        → (0x30 ≤ b) × (b ≤ 0x39) × (decimal_from (sofar * 10 + (b - 0x30)) bs ≡ Some n)
     go true h e = let r = among-true 0x30 0x39 b h in (r.0, r.1, e)
     go false h e = apart (cc)
 
-digits-once : (a b : ℕ) (xs ys : Bytes) (n : ℕ) → length xs ≡ length ys → decimal_from a xs ≡ some n → decimal_from b ys ≡ some n → (a ≡ b) × (xs ≡ ys)
+digits-once : (a b : ℕ) (xs ys : Bytes) (n : ℕ) → length xs ≡ length ys → decimal_from a xs ≡ Some n → decimal_from b ys ≡ Some n → (a ≡ b) × (xs ≡ ys)
 unfolding decimal_from
 digits-once a b [] [] n l e f = (cc, refl)
 digits-once a b [] (y ∷ ys) n l e f = absurd (omega arith)
@@ -44,14 +44,14 @@ digits-once a b (x ∷ xs) (y ∷ ys) n l e f =
     go : 0x30 ≤ x → x ≤ 0x39 → 0x30 ≤ y → y ≤ 0x39 → a * 10 + (x - 0x30) ≡ b * 10 + (y - 0x30) → xs ≡ ys → (a ≡ b) × (◌≡◌ {A = Bytes} (x ∷ xs) (y ∷ ys))
     go h₁ h₂ h₃ h₄ e t = (omega arith, ap₂ ◌∷◌ (omega arith) t)
 
-decimal-from : (xs : Bytes) (n : ℕ) → decimal xs ≡ some n → decimal_from 0 xs ≡ some n
+decimal-from : (xs : Bytes) (n : ℕ) → decimal xs ≡ Some n → decimal_from 0 xs ≡ Some n
 unfolding decimal
 decimal-from [] n e = apart (cc)
 decimal-from (x ∷ xs) n e = e
 
 -- the digits of w, and then the ending
 abbrev Says : (ending : Bytes) → ℕ → Bytes → Type 0
-Says ending w s = (decimal (take 20 s) ≡ some w) × (drop 20 s ≡ ending)
+Says ending w s = (decimal (take 20 s) ≡ Some w) × (drop 20 s ≡ ending)
 
 says-once : (ending : Bytes) (w : ℕ) (s t : Bytes) → 1 ≤ length ending → Says ending w s → Says ending w t → s ≡ t
 says-once ending w s t l (e, f) (g, h) =
@@ -79,23 +79,23 @@ numbered-checkpoint false false c n w e = apart (cc)
 
 -- a name that is no marker's, and says something, is digits and an ending
 module _ (s : Bytes) (n : Name) (n≢marker : n ≡ marker → ⊥) (n≢other : n ≡ other → ⊥) where
-  name_of-digits : name_of s ≡ n → (w : ℕ) × (decimal (take 20 s) ≡ some w)
+  name_of-digits : name_of s ≡ n → (w : ℕ) × (decimal (take 20 s) ≡ Some w)
       × (numbered (same (drop 20 s) (ascii ".json")) (same (drop 20 s) (ascii ".checkpoint.json")) (leb w most) w ≡ n)
   unfolding name_of with_ending
   name_of-digits e = go (same s (ascii "_last_checkpoint")) (decimal (take 20 s)) refl e
     where
       go : (m : Bool) (o : Option ℕ) → decimal (take 20 s) ≡ o → elim m [ true ↦ marker | false ↦ with_ending o (drop 20 s) ] ≡ n
-          → (w : ℕ) × (decimal (take 20 s) ≡ some w)
+          → (w : ℕ) × (decimal (take 20 s) ≡ Some w)
           × (numbered (same (drop 20 s) (ascii ".json")) (same (drop 20 s) (ascii ".checkpoint.json")) (leb w most) w ≡ n)
       go true o h e = absurd (n≢marker (sym e))
-      go false none h e = absurd (n≢other (sym e))
-      go false (some w) h e = (w, h, e)
+      go false None h e = absurd (n≢other (sym e))
+      go false (Some w) h e = (w, h, e)
 
 version-says : (s : Bytes) (w : ℕ) → name_of s ≡ version w → Says (ascii ".json") w s
 version-says s w e =
     let d = name_of-digits s (version w) (λ q. apart (cc)) (λ q. apart (cc)) e in
     let k = numbered-version (same (drop 20 s) (ascii ".json")) (same (drop 20 s) (ascii ".checkpoint.json")) (leb d.0 most) d.0 w d.2 in
-    (d.1 ∙ ap some k.1, same_true (drop 20 s) (ascii ".json") k.0)
+    (d.1 ∙ ap Some k.1, same_true (drop 20 s) (ascii ".json") k.0)
 
 numbered-small : (a b c : Bool) (n w : ℕ) → numbered a b c n ≡ version w → c ≡ true
 unfolding numbered
@@ -118,7 +118,7 @@ checkpoint-says : (s : Bytes) (w : ℕ) → name_of s ≡ checkpoint w → Says 
 checkpoint-says s w e =
     let d = name_of-digits s (checkpoint w) (λ q. apart (cc)) (λ q. apart (cc)) e in
     let k = numbered-checkpoint (same (drop 20 s) (ascii ".json")) (same (drop 20 s) (ascii ".checkpoint.json")) (leb d.0 most) d.0 w d.2 in
-    (d.1 ∙ ap some k.1, same_true (drop 20 s) (ascii ".checkpoint.json") k.0)
+    (d.1 ∙ ap Some k.1, same_true (drop 20 s) (ascii ".checkpoint.json") k.0)
 
 pub is-version : (w : ℕ) (n : Name) → is w (version_in n) ≡ true → n ≡ version w
 unfolding version_in is
@@ -175,35 +175,35 @@ zeros-once (x ∷ xs) (y ∷ ys) l e f =
     ap₂ ◌∷◌ (a.0 ∙ sym b.0) (zeros-once xs ys (omega arith) a.1 b.1)
 
 -- a padded name by its first byte: it stands before the rest of the name, or all are zeros
-unpadded-cases : (x : ℕ) (xs name : Bytes) → unpadded (x ∷ xs) ≡ some name
-    → ((m : Bytes) × (unpadded xs ≡ some m) × (x ∷ m ≡ name)) ⊎ ((zeros (x ∷ xs) ≡ true) × ([] ≡ name))
+unpadded-cases : (x : ℕ) (xs name : Bytes) → unpadded (x ∷ xs) ≡ Some name
+    → ((m : Bytes) × (unpadded xs ≡ Some m) × (x ∷ m ≡ name)) ⊎ ((zeros (x ∷ xs) ≡ true) × ([] ≡ name))
 unfolding unpadded
 unpadded-cases x xs name e = go (among 0x21 0x7E x) (zeros (x ∷ xs)) refl e
   where
     go : (b z : Bool) → zeros (x ∷ xs) ≡ z
-        → elim b [ true ↦ (unpadded xs >>= (λ m. some (x ∷ m))) | false ↦ elim z [ true ↦ some [] | false ↦ none ] ] ≡ some name
-        → ((m : Bytes) × (unpadded xs ≡ some m) × (x ∷ m ≡ name)) ⊎ ((zeros (x ∷ xs) ≡ true) × ([] ≡ name))
+        → elim b [ true ↦ (unpadded xs >>= (λ m. Some (x ∷ m))) | false ↦ elim z [ true ↦ Some [] | false ↦ None ] ] ≡ Some name
+        → ((m : Bytes) × (unpadded xs ≡ Some m) × (x ∷ m ≡ name)) ⊎ ((zeros (x ∷ xs) ≡ true) × ([] ≡ name))
     go true z h e =
-        let r = bind-some (unpadded xs) (λ m. some (x ∷ m)) e in
-        let q : some (x ∷ r.0) ≡ some name = r.2 in
+        let r = bind-some (unpadded xs) (λ m. Some (x ∷ m)) e in
+        let q : Some (x ∷ r.0) ≡ Some name = r.2 in
         inl (r.0, r.1, cc)
     go false true h e = inr (h, cc)
     go false false h e = apart (cc)
 
-pub unpadded-once : (p q name : Bytes) → length p ≡ length q → unpadded p ≡ some name → unpadded q ≡ some name → p ≡ q
+pub unpadded-once : (p q name : Bytes) → length p ≡ length q → unpadded p ≡ Some name → unpadded q ≡ Some name → p ≡ q
 unpadded-once [] [] name l e f = refl
 unpadded-once [] (y ∷ ys) name l e f = absurd (omega arith)
 unpadded-once (x ∷ xs) [] name l e f = absurd (omega arith)
 unpadded-once (x ∷ xs) (y ∷ ys) name l e f = go (unpadded-cases x xs name e) (unpadded-cases y ys name f) (λ m. unpadded-once xs ys m (omega arith))
   where
-    go : ((m : Bytes) × (unpadded xs ≡ some m) × (x ∷ m ≡ name)) ⊎ ((zeros (x ∷ xs) ≡ true) × ([] ≡ name))
-        → ((m : Bytes) × (unpadded ys ≡ some m) × (y ∷ m ≡ name)) ⊎ ((zeros (y ∷ ys) ≡ true) × ([] ≡ name))
-        → ((m : Bytes) → unpadded xs ≡ some m → unpadded ys ≡ some m → xs ≡ ys) → ◌≡◌ {A = Bytes} (x ∷ xs) (y ∷ ys)
+    go : ((m : Bytes) × (unpadded xs ≡ Some m) × (x ∷ m ≡ name)) ⊎ ((zeros (x ∷ xs) ≡ true) × ([] ≡ name))
+        → ((m : Bytes) × (unpadded ys ≡ Some m) × (y ∷ m ≡ name)) ⊎ ((zeros (y ∷ ys) ≡ true) × ([] ≡ name))
+        → ((m : Bytes) → unpadded xs ≡ Some m → unpadded ys ≡ Some m → xs ≡ ys) → ◌≡◌ {A = Bytes} (x ∷ xs) (y ∷ ys)
     go (inl (m, a, b)) (inl (k, c, d)) ih =
         let u : x ∷ m ≡ y ∷ k = b ∙ sym d in
         let v : x ≡ y = cc in
         let w : k ≡ m = cc in
-        ap₂ ◌∷◌ v (ih m a (c ∙ ap some w))
+        ap₂ ◌∷◌ v (ih m a (c ∙ ap Some w))
     go (inl (m, a, b)) (inr (z, d)) ih = apart (cc)
     go (inr (z, d)) (inl (m, a, b)) ih = apart (cc)
     go (inr (z, d)) (inr (z', d')) ih = zeros-once (x ∷ xs) (y ∷ ys) l z z'
@@ -216,13 +216,13 @@ zeros-replicate (x ∷ xs) h = let z = zeros-cons x xs h in ap₂ ◌∷◌ z.0 
 pub with_zeros : ℕ → Bytes → Bytes
 with_zeros n name = name ++ replicate (n - length name) 0
 
-pub unpadded-zeros : (p name : Bytes) → unpadded p ≡ some name → p ≡ with_zeros (length p) name
+pub unpadded-zeros : (p name : Bytes) → unpadded p ≡ Some name → p ≡ with_zeros (length p) name
 unfolding unpadded with_zeros
 unpadded-zeros [] name h = let e : [] ≡ name = cc in subst (λ (n : Bytes). [] ≡ n ++ replicate (0 - length n) 0) e refl
 unpadded-zeros (x ∷ xs) name h = go (unpadded-cases x xs name h) (λ m. unpadded-zeros xs m)
   where
-    go : ((m : Bytes) × (unpadded xs ≡ some m) × (x ∷ m ≡ name)) ⊎ ((zeros (x ∷ xs) ≡ true) × ([] ≡ name))
-        → ((m : Bytes) → unpadded xs ≡ some m → xs ≡ m ++ replicate (length xs - length m) 0) → x ∷ xs ≡ name ++ replicate (suc (length xs) - length name) 0
+    go : ((m : Bytes) × (unpadded xs ≡ Some m) × (x ∷ m ≡ name)) ⊎ ((zeros (x ∷ xs) ≡ true) × ([] ≡ name))
+        → ((m : Bytes) → unpadded xs ≡ Some m → xs ≡ m ++ replicate (length xs - length m) 0) → x ∷ xs ≡ name ++ replicate (suc (length xs) - length name) 0
     go (inl (m, a, b)) ih =
         let n : length xs - length m ≡ suc (length xs) - length (x ∷ m) = omega arith in
         subst (λ (y : Bytes). x ∷ xs ≡ y ++ replicate (suc (length xs) - length y) 0) b

@@ -2,7 +2,7 @@
 use mathlib.Core.Path.{◌≡◌, refl, sym, ◌∙◌, ap, subst}
 use mathlib.Core.Logic.{◌⊎◌, inl, inr}
 use mathlib.Core.Bool.{Bool, true, false}
-use mathlib.Core.Option.{Option, none, some}
+use Rattle.std.specs.Prelude.{Option, None, Some}
 use mathlib.Core.List.{List, [], ◌∷◌}
 use Prim.Native.Nat.{ℕ, suc, ◌+◌}
 use lib.Dec.{leb}
@@ -31,21 +31,21 @@ use Rattle.rules.proofs.Replaying.{bind-accepted, Applied, read_line-accepted, K
 abbrev pub HasId : MetaData → Type 0
 HasId m = m.id ≡ [] → ⊥
 
-meta_data-same : {m n : MetaData} → ◌≡◌ {A = Option Action} (some (meta_data m)) (some (meta_data n)) → m ≡ n
+meta_data-same : {m n : MetaData} → ◌≡◌ {A = Option Action} (Some (meta_data m)) (Some (meta_data n)) → m ≡ n
 meta_data-same e = cc
 
 not-empty : (i : Bytes) → leb 1 (length i) ≡ true → i ≡ [] → ⊥
 not-empty [] t e = apart (cc)
 not-empty (b ∷ bs) t e = apart (cc)
 
-id_at-id : (ms : List Member) (i : Bytes) → id_at ms ≡ some i → i ≡ [] → ⊥
+id_at-id : (ms : List Member) (i : Bytes) → id_at ms ≡ Some i → i ≡ [] → ⊥
 unfolding id_at
 id_at-id ms i e =
     bound (string_at "id" ms) _ e (λ x _ a.
     bound (guard (leb 1 (length x))) _ a (λ _ t b q.
     not-empty x (guard-some (leb 1 (length x)) t) (some_same b ∙ q)))
 
-meta_data_of-id : (ms : List Member) (m : MetaData) → meta_data_of ms ≡ some m → HasId m
+meta_data_of-id : (ms : List Member) (m : MetaData) → meta_data_of ms ≡ Some m → HasId m
 unfolding meta_data_of
 meta_data_of-id ms m e =
     bound (id_at ms) _ e (λ i t a.
@@ -56,7 +56,7 @@ meta_data_of-id ms m e =
     id_at-id ms i t (ap (λ (x : MetaData). x.id) (some_same g) ∙ q))))))
 
 -- only a metaData's key makes one
-action_by-id : (k : Key) (v : Text) (m : MetaData) → action_by k v ≡ some (meta_data m) → HasId m
+action_by-id : (k : Key) (v : Text) (m : MetaData) → action_by k v ≡ Some (meta_data m) → HasId m
 unfolding action_by
 action_by-id key_add v m h = bound (object_of in_action v) _ h (λ ms a b. bound (add_of ms) _ b (λ f c d. apart (cc)))
 action_by-id key_remove v m h = bound (object_of in_action v) _ h (λ ms a b. bound (path_at ms) _ b (λ p c d. apart (cc)))
@@ -67,7 +67,7 @@ action_by-id key_mergeskip v m h =
     bound (object_of in_action v) _ h (λ ms a b. bound (path_at ms) _ b (λ p c d. bound (skip_of ms) _ d (λ s g i. apart (cc))))
 action_by-id key_other v m h = apart (cc)
 
-pub action-id : (l : Bytes) (m : MetaData) → action l ≡ some (meta_data m) → HasId m
+pub action-id : (l : Bytes) (m : MetaData) → action l ≡ Some (meta_data m) → HasId m
 unfolding action
 action-id l m h = bound (line_member l) _ h (λ x a b. action_by-id (key_of x.0) x.1 m b)
 
@@ -77,7 +77,7 @@ pub id-kept : (limit : ℕ) → Kept limit (λ (st : State). HasId st.table)
 unfolding effect
 id-kept limit of e k at l st to h p = go (read_line-accepted limit of e k at l st to h)
   where
-    of-effect : (a : Action) → action l ≡ some a → HasId (effect at (length l) a st).table
+    of-effect : (a : Action) → action l ≡ Some a → HasId (effect at (length l) a st).table
     of-effect (add f) q = p
     of-effect (remove x) q = p
     of-effect (protocol x) q = p
@@ -94,7 +94,7 @@ read_line-table : (limit : ℕ) (of : Origin) (e k at : ℕ) (l : Bytes) (st to 
 unfolding effect is_table
 read_line-table limit of e k at l st to h n = go (read_line-accepted limit of e k at l st to h)
   where
-    of-effect : (a : Action) → is_table (some a) ≡ false → (effect at (length l) a st).table ≡ st.table
+    of-effect : (a : Action) → is_table (Some a) ≡ false → (effect at (length l) a st).table ≡ st.table
     of-effect (add f) q = refl
     of-effect (remove x) q = refl
     of-effect (protocol x) q = refl
@@ -154,22 +154,22 @@ is_start-both body w s = rw (is_start, w) s
 
 -- what was said of the table has an id
 SaidId : Said → Type 0
-SaidId s = (m : MetaData) → s.of_table ≡ some m → HasId m
+SaidId s = (m : MetaData) → s.of_table ≡ Some m → HasId m
 
-say-id : (a : Action) (l : Bytes) (s next : Said) → action l ≡ some a → say a s ≡ some next → SaidId s → SaidId next
+say-id : (a : Action) (l : Bytes) (s next : Said) → action l ≡ Some a → say a s ≡ Some next → SaidId s → SaidId next
 unfolding say say_table say_protocol SaidId
 say-id (add f) l s next q e p = apart (cc)
 say-id (remove x) l s next q e p = apart (cc)
 say-id (protocol x) l s next q e p = go s.of_protocol e
   where
-    go : (o : Option Protocol) → say_protocol o x s ≡ some next → SaidId next
-    go none e = subst SaidId (some_same e) p
-    go (some y) e = apart (cc)
+    go : (o : Option Protocol) → say_protocol o x s ≡ Some next → SaidId next
+    go None e = subst SaidId (some_same e) p
+    go (Some y) e = apart (cc)
 say-id (meta_data m) l s next q e p = go s.of_table e
   where
-    go : (o : Option MetaData) → say_table o m s ≡ some next → SaidId next
-    go none e = subst SaidId (some_same e) (λ n t. subst HasId (some_same t) (action-id l m q))
-    go (some n) e = apart (cc)
+    go : (o : Option MetaData) → say_table o m s ≡ Some next → SaidId next
+    go None e = subst SaidId (some_same e) (λ n t. subst HasId (some_same t) (action-id l m q))
+    go (Some n) e = apart (cc)
 say-id (mergeskip x y) l s next q e p = apart (cc)
 say-id other l s next q e p = subst SaidId (some_same e) p
 

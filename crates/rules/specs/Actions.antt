@@ -1,6 +1,6 @@
 -- What a line says: one JSON object with exactly one member, an action by its key.
 use Rattle.std.specs.Prelude.{Bool, true, false, List, [], ◌∷◌, ℕ, ◌-◌, eqb, leb, length}
-use Rattle.std.proofs.Math.Option.{Option, none, some}
+use Rattle.std.specs.Prelude.{Option, None, Some}
 use Prim.Native.String.{String}
 use Rattle.rules.specs.Bytes.{Bytes, ascii, ◌>>=◌, guard, first, among, non_empty, same, distinct, firsts}
 use Rattle.rules.specs.Json.Text.{Text, byte}
@@ -36,7 +36,7 @@ pub record Facts : Type 0 where
 abbrev pub path : Bytes → Option Bytes
 path p = do
   _ ← guard (among 1 512 (length p))
-  some p
+  Some p
 
 unfoldable pub path_at : List Member → Option Bytes
 path_at ms = do
@@ -44,11 +44,11 @@ path_at ms = do
   path p
 
 unfoldable pub pairs : List Member → Option Pairs
-pairs [] = some []
+pairs [] = Some []
 pairs (m ∷ ms) = do
   x ← string_or_null m.1
   xs ← pairs ms
-  some ((m.0, x) ∷ xs)
+  Some ((m.0, x) ∷ xs)
 
 -- partitionValues (object, distinct keys, each value a string or null)
 unfoldable pub partition_values_at : List Member → Option Pairs
@@ -68,7 +68,7 @@ add_of ms = do
   ps ← partition_values_at ms
   v ← optional "numRecords" ms
   n ← if_there whole v
-  some (record { path = p; size = s; modification_time = t; num_records = n; partition_values = ps })
+  Some (record { path = p; size = s; modification_time = t; num_records = n; partition_values = ps })
 
 -- ---- protocol
 
@@ -86,7 +86,7 @@ unstated = record { min_reader_version = 1; min_writer_version = 1; reader_featu
 abbrev pub protocol_number : ℕ → Option ℕ
 protocol_number n = do
   _ ← guard (among 1 2_147_483_647 n)
-  some n
+  Some n
 
 unfoldable pub protocol_number_at : String → List Member → Option ℕ
 protocol_number_at name ms = do
@@ -94,15 +94,15 @@ protocol_number_at name ms = do
   protocol_number n
 
 unfoldable pub or_empty : Option (List Bytes) → List Bytes
-or_empty none = []
-or_empty (some xs) = xs
+or_empty None = []
+or_empty (Some xs) = xs
 
 -- arrays of strings, which may be missing or null, meaning empty
 unfoldable pub features_at : String → List Member → Option (List Bytes)
 features_at name ms = do
   v ← optional name ms
   xs ← if_there (strings_of in_field) v
-  some (or_empty xs)
+  Some (or_empty xs)
 
 unfoldable pub protocol_of : List Member → Option Protocol
 protocol_of ms = do
@@ -110,7 +110,7 @@ protocol_of ms = do
   w ← protocol_number_at "minWriterVersion" ms
   rs ← features_at "readerFeatures" ms
   ws ← features_at "writerFeatures" ms
-  some (record { min_reader_version = r; min_writer_version = w; reader_features = rs; writer_features = ws })
+  Some (record { min_reader_version = r; min_writer_version = w; reader_features = rs; writer_features = ws })
 
 -- ---- metaData
 
@@ -135,7 +135,7 @@ meta_data_of ms = do
   cs ← strings_of in_field v
   _ ← guard (leb (length cs) most_columns)
   _ ← guard (distinct cs)
-  some (record { id = i; partition_columns = cs })
+  Some (record { id = i; partition_columns = cs })
 
 -- ---- mergeskip
 
@@ -152,27 +152,27 @@ no_skip = record { count = 0; retry_after = 0 }
 abbrev pub skip_number : ℕ → Option ℕ
 skip_number n = do
   _ ← guard (leb n 2_147_483_647)
-  some n
+  Some n
 
 -- 1 if missing; null is not as missing; twice is malformed
 unfoldable pub skip_count_in : List Text → Option ℕ
-skip_count_in [] = some 1
+skip_count_in [] = Some 1
 skip_count_in (v ∷ []) = do
   n ← whole v
   skip_number n
-skip_count_in (v ∷ w ∷ vs) = none
+skip_count_in (v ∷ w ∷ vs) = None
 
 -- zero, at once, if missing or null
 unfoldable pub or_at_once : Option ℕ → ℕ
-or_at_once none = 0
-or_at_once (some t) = t
+or_at_once None = 0
+or_at_once (Some t) = t
 
 unfoldable pub skip_of : List Member → Option Skip
 skip_of ms = do
   n ← skip_count_in (under (ascii "skipCount") ms)
   v ← optional "retryAfter" ms
   t ← if_there whole v
-  some (record { count = n; retry_after = or_at_once t })
+  Some (record { count = n; retry_after = or_at_once t })
 
 -- ---- the line
 
@@ -203,30 +203,30 @@ unfoldable pub action_by : Key → (value : Text) → Option Action
 action_by key_add v = do
   ms ← object_of in_action v
   f ← add_of ms
-  some (add f)
+  Some (add f)
 action_by key_remove v = do
   ms ← object_of in_action v
   p ← path_at ms
-  some (remove p)
+  Some (remove p)
 action_by key_protocol v = do
   ms ← object_of in_action v
   p ← protocol_of ms
-  some (protocol p)
+  Some (protocol p)
 action_by key_meta_data v = do
   ms ← object_of in_action v
   m ← meta_data_of ms
-  some (meta_data m)
+  Some (meta_data m)
 action_by key_mergeskip v = do
   ms ← object_of in_action v
   p ← path_at ms
   s ← skip_of ms
-  some (mergeskip p s)
-action_by key_other v = some other
+  Some (mergeskip p s)
+action_by key_other v = Some other
 
 unfoldable pub only_one : List Member → Option Member
-only_one [] = none
-only_one (m ∷ []) = some m
-only_one (m ∷ n ∷ ms) = none
+only_one [] = None
+only_one (m ∷ []) = Some m
+only_one (m ∷ n ∷ ms) = None
 
 -- the line's one member
 unfoldable pub line_member : Text → Option Member
@@ -248,8 +248,8 @@ is_line [] = true
 is_line (b ∷ bs) = elim (eqb b 0x0A) [ true ↦ false | false ↦ is_line bs ]
 
 unfoldable pub or_nothing : Option Text → Text
-or_nothing none = []
-or_nothing (some t) = t
+or_nothing None = []
+or_nothing (Some t) = t
 
 -- the path as the line's add writes it, between its quotes
 unfoldable pub path_written : Text → Option Text
@@ -257,16 +257,16 @@ path_written line = do
   m ← line_member line
   ms ← object_of in_action m.1
   v ← once "path" ms
-  some (unquoted v)
+  Some (unquoted v)
 
 unfoldable pub path_in : Option Action → Text → Text
-path_in none line = []
-path_in (some (add f)) line = or_nothing (path_written line)
-path_in (some (remove p)) line = []
-path_in (some (protocol p)) line = []
-path_in (some (meta_data m)) line = []
-path_in (some (mergeskip p s)) line = []
-path_in (some other) line = []
+path_in None line = []
+path_in (Some (add f)) line = or_nothing (path_written line)
+path_in (Some (remove p)) line = []
+path_in (Some (protocol p)) line = []
+path_in (Some (meta_data m)) line = []
+path_in (Some (mergeskip p s)) line = []
+path_in (Some other) line = []
 
 -- the raw path between its quotes; empty if the line is no well-formed add
 unfoldable pub path_shown : Text → Text
@@ -282,17 +282,17 @@ path_left line = do
   byte 0x22 v
 
 unfoldable pub start_of : Text → (left : Option Text) → ℕ
-start_of line none = 0
-start_of line (some t) = length line - length t
+start_of line None = 0
+start_of line (Some t) = length line - length t
 
 unfoldable pub start_in : Option Action → Text → ℕ
-start_in none line = 0
-start_in (some (add f)) line = start_of line (path_left line)
-start_in (some (remove p)) line = 0
-start_in (some (protocol p)) line = 0
-start_in (some (meta_data m)) line = 0
-start_in (some (mergeskip p s)) line = 0
-start_in (some other) line = 0
+start_in None line = 0
+start_in (Some (add f)) line = start_of line (path_left line)
+start_in (Some (remove p)) line = 0
+start_in (Some (protocol p)) line = 0
+start_in (Some (meta_data m)) line = 0
+start_in (Some (mergeskip p s)) line = 0
+start_in (Some other) line = 0
 
 unfoldable pub path_start : Text → ℕ
 path_start line = elim (is_line line) [ true ↦ start_in (action line) line | false ↦ 0 ]
@@ -307,17 +307,17 @@ pub data Records : Type 0 where
   no_add : Records
 
 unfoldable pub records_of : Option ℕ → Records
-records_of none = missing
-records_of (some n) = records n
+records_of None = missing
+records_of (Some n) = records n
 
 unfoldable pub records_in : Option Action → Records
-records_in none = no_add
-records_in (some (add f)) = records_of f.num_records
-records_in (some (remove p)) = no_add
-records_in (some (protocol p)) = no_add
-records_in (some (meta_data m)) = no_add
-records_in (some (mergeskip p s)) = no_add
-records_in (some other) = no_add
+records_in None = no_add
+records_in (Some (add f)) = records_of f.num_records
+records_in (Some (remove p)) = no_add
+records_in (Some (protocol p)) = no_add
+records_in (Some (meta_data m)) = no_add
+records_in (Some (mergeskip p s)) = no_add
+records_in (Some other) = no_add
 
 -- an add's number of records
 unfoldable pub records_shown : Text → Records

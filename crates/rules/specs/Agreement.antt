@@ -1,7 +1,7 @@
 -- Whether two states agree, as the cleaner tests it: id and partition columns, protocol numbers, feature sets, paths, size, modificationTime,
 -- numRecords, partition pairs, skipCount, retryAfter.
 use Rattle.std.specs.Prelude.{Bool, true, false, ◌&&◌, List, [], ◌∷◌, ℕ, eqb}
-use Rattle.std.proofs.Math.Option.{Option, none, some}
+use Rattle.std.specs.Prelude.{Option, None, Some}
 use Rattle.rules.specs.Bytes.{Bytes, same, same_set, same_each}
 use Rattle.rules.specs.Actions.{Facts, Pairs, Skip, Protocol, MetaData}
 use Rattle.rules.specs.Live.{Row}
@@ -10,16 +10,16 @@ use Rattle.rules.specs.History.{State}
 
 -- null is a value
 unfoldable pub agree_value : Option Bytes → Option Bytes → Bool
-agree_value none none = true
-agree_value none (some y) = false
-agree_value (some x) none = false
-agree_value (some x) (some y) = same x y
+agree_value None None = true
+agree_value None (Some y) = false
+agree_value (Some x) None = false
+agree_value (Some x) (Some y) = same x y
 
 unfoldable pub agree_found : Option (Option Bytes) → Option (Option Bytes) → Bool
-agree_found none none = true
-agree_found none (some y) = false
-agree_found (some x) none = false
-agree_found (some x) (some y) = agree_value x y
+agree_found None None = true
+agree_found None (Some y) = false
+agree_found (Some x) None = false
+agree_found (Some x) (Some y) = agree_value x y
 
 -- each column of `these` has the same value in ps and in qs
 unfoldable pub agree_on : (these ps qs : Pairs) → Bool
@@ -32,10 +32,10 @@ agree_pairs ps qs = agree_on ps ps qs && agree_on qs ps qs
 
 -- null is as missing
 unfoldable pub agree_records : Option ℕ → Option ℕ → Bool
-agree_records none none = true
-agree_records none (some y) = false
-agree_records (some x) none = false
-agree_records (some x) (some y) = eqb x y
+agree_records None None = true
+agree_records None (Some y) = false
+agree_records (Some x) None = false
+agree_records (Some x) (Some y) = eqb x y
 
 unfoldable pub agree_facts : Facts → Facts → Bool
 agree_facts f g =

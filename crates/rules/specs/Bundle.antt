@@ -1,6 +1,6 @@
 -- The bundle: a count, the contents entries, then the bodies, each where the last ended.
 use Rattle.std.specs.Prelude.{◌≡◌, Bool, true, false, List, [], ◌∷◌, ℕ, zero, suc, ◌+◌, ◌*◌, leb, eqb, length, take, drop}
-use Rattle.std.proofs.Math.Option.{Option, none, some}
+use Rattle.std.specs.Prelude.{Option, None, Some}
 use Rattle.rules.specs.Bytes.{Bytes, ◌>>=◌, guard, is_some, among, is_empty, non_empty, order, is_less}
 use Rattle.rules.specs.Numbers.{little}
 
@@ -45,12 +45,12 @@ zeros (b ∷ bs) = elim (eqb b 0) [ true ↦ zeros bs | false ↦ false ]
 
 -- bytes from 0x21 to 0x7E, then zeros: the bytes before the zeros
 unfoldable pub unpadded : Bytes → Option Bytes
-unpadded [] = some []
+unpadded [] = Some []
 unpadded (b ∷ bs) = elim (among 0x21 0x7E b) [
   | true ↦ do
     name ← unpadded bs
-    some (b ∷ name)
-  | false ↦ elim (zeros (b ∷ bs)) [ true ↦ some [] | false ↦ none ]
+    Some (b ∷ name)
+  | false ↦ elim (zeros (b ∷ bs)) [ true ↦ Some [] | false ↦ None ]
 ]
 
 -- a name has 1 byte at least
@@ -79,13 +79,13 @@ pub record File : Type 0 where
 unfoldable pub files_from : (k at : ℕ) → List Entry → (rest : Bytes) → Option (List File)
 files_from k at [] rest = do
   _ ← guard (is_empty rest)
-  some []
+  Some []
 files_from k at (e ∷ es) rest = do
   name ← name_in e.padded
   _ ← guard (eqb e.start at)
   _ ← guard (leb e.size (length rest))
   fs ← files_from (suc k) (at + e.size) es (drop e.size rest)
-  some (record { entry = k; name = name; start = at; time = e.time; body = take e.size rest } ∷ fs)
+  Some (record { entry = k; name = name; start = at; time = e.time; body = take e.size rest } ∷ fs)
 
 -- with the count read: n entries, then the bodies
 unfoldable pub files_of : (n : ℕ) → Bytes → Option (List File)

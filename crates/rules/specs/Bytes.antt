@@ -1,7 +1,7 @@
 -- Byte strings, and what every rule is written with: texts in ASCII, tests, answers that may be missing,
 -- the order of byte strings, lists of them.
 use Rattle.std.specs.Prelude.{Bool, true, false, ◌&&◌, List, [], ◌∷◌, ℕ, eqb, ltb, leb, length}
-use Rattle.std.proofs.Math.Option.{Option, none, some}
+use Rattle.std.specs.Prelude.{Option, None, Some}
 use Prim.Native.Char.{code}
 use Prim.Native.String.{String, [] as end, ◌∷◌ as ◌then◌}
 
@@ -18,17 +18,17 @@ ascii (c then s) = code c ∷ ascii s
 
 infixl 20 ◌>>=◌
 abbrev pub ◌>>=◌ : {A B : Type 0} → Option A → (A → Option B) → Option B
-◌>>=◌ none f = none
-◌>>=◌ (some a) f = f a
+◌>>=◌ None f = None
+◌>>=◌ (Some a) f = f a
 
 -- go on only where the test passes
 abbrev pub guard : Bool → Option (Unit {0})
-guard true = some tt
-guard false = none
+guard true = Some tt
+guard false = None
 
 unfoldable pub is_some : {A : Type 0} → Option A → Bool
-is_some none = false
-is_some (some a) = true
+is_some None = false
+is_some (Some a) = true
 
 -- what stands beside the first test that passes, and `otherwise` where none does
 unfoldable pub first : {A : Type 0} → List (Bool × A) → A → A
@@ -64,7 +64,7 @@ begins (x ∷ xs) (y ∷ ys) = elim (eqb x y) [ true ↦ begins xs ys | false �
 abbrev pub non_empty : Bytes → Option Bytes
 non_empty x = do
   _ ← guard (leb 1 (length x))
-  some x
+  Some x
 
 pub data Order : Type 0 where
   less equal more : Order

@@ -1,6 +1,6 @@
 -- The cleaner: which version files may go.
 use Rattle.std.specs.Prelude.{Bool, false, not, ◌&&◌, List, [], ◌∷◌, ℕ, ◌-◌, leb, ltb}
-use Rattle.std.proofs.Math.Option.{Option, none, some}
+use Rattle.std.specs.Prelude.{Option, None, Some}
 use Rattle.rules.specs.Bytes.{Bytes, keep_if}
 use Rattle.rules.specs.Bundle.{File, bundle}
 use Rattle.rules.specs.Names.{name_of, version_in, any_too_large}
@@ -18,8 +18,8 @@ use Rattle.rules.specs.Refusals.{version_too_large, no_version_zero, not_writabl
 
 -- version files w, 0 < w < c
 unfoldable pub is_between : ℕ → Option ℕ → Bool
-is_between c none = false
-is_between c (some w) = ltb 0 w && ltb w c
+is_between c None = false
+is_between c (Some w) = ltb 0 w && ltb w c
 
 -- now - modified > retention and now >= modified
 unfoldable pub is_old : (now retention modified : ℕ) → Bool
@@ -47,16 +47,16 @@ compared zf f w = do
 
 -- the checkpoint, where it is a start, and the way of the highest other start that reaches it; if there is none, nothing is named
 unfoldable pub cleaned_by : (zero-file : File) → Option File → Option Way → List ℕ → Answer (List ℕ)
-cleaned_by zf none w es = accepted []
-cleaned_by zf (some f) none es = accepted []
-cleaned_by zf (some f) (some w) es = do
+cleaned_by zf None w es = accepted []
+cleaned_by zf (Some f) None es = accepted []
+cleaned_by zf (Some f) (Some w) es = do
   _ ← compared zf f w
   accepted es
 
 -- no usable marker names nothing
 unfoldable pub cleaned_at : Option ℕ → (zero-file : File) → (now retention : ℕ) → List File → Answer (List ℕ)
-cleaned_at none zf now retention fs = accepted []
-cleaned_at (some c) zf now retention fs = cleaned_by zf (start_at (log_of fs) c) (other_way_to (log_of fs) c) (named c now retention fs)
+cleaned_at None zf now retention fs = accepted []
+cleaned_at (Some c) zf now retention fs = cleaned_by zf (start_at (log_of fs) c) (other_way_to (log_of fs) c) (named c now retention fs)
 
 -- rooms: how many u32 are lent for names, and u64 for each of the two reading tables
 pub record Lent : Type 0 where

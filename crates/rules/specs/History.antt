@@ -1,6 +1,6 @@
 -- Lines applied in order: one line, one file, version 0 with its own rules. Refusals 6, 21 and 7 come with the first line met.
 use Rattle.std.specs.Prelude.{Bool, true, List, [], ◌∷◌, ℕ, suc, ◌+◌, leb, length}
-use Rattle.std.proofs.Math.Option.{Option, none, some}
+use Rattle.std.specs.Prelude.{Option, None, Some}
 use Rattle.rules.specs.Bytes.{Bytes, same_set, firsts}
 use Rattle.rules.specs.Bundle.{File}
 use Rattle.rules.specs.Lines.{lines, any_object}
@@ -90,23 +90,23 @@ pub record Said : Type 0 where
   pub of_protocol : Option Protocol
 
 unfoldable pub said_nothing : Said
-said_nothing = record { of_table = none; of_protocol = none }
+said_nothing = record { of_table = None; of_protocol = None }
 
 unfoldable pub say_table : Option MetaData → MetaData → Said → Option Said
-say_table none m s = some (record { of_table = some m; of_protocol = s.of_protocol })
-say_table (some n) m s = none
+say_table None m s = Some (record { of_table = Some m; of_protocol = s.of_protocol })
+say_table (Some n) m s = None
 
 unfoldable pub say_protocol : Option Protocol → Protocol → Said → Option Said
-say_protocol none p s = some (record { of_table = s.of_table; of_protocol = some p })
-say_protocol (some q) p s = none
+say_protocol None p s = Some (record { of_table = s.of_table; of_protocol = Some p })
+say_protocol (Some q) p s = None
 
 unfoldable pub say : Action → Said → Option Said
-say (add f) s = none
-say (remove p) s = none
+say (add f) s = None
+say (remove p) s = None
 say (protocol p) s = say_protocol s.of_protocol p s
 say (meta_data m) s = say_table s.of_table m s
-say (mergeskip p k) s = none
-say other s = some s
+say (mergeskip p k) s = None
+say other s = Some s
 
 unfoldable pub zero_lines : (entry number : ℕ) → List Bytes → Said → Answer Said
 zero_lines e k [] s = accepted s
@@ -117,8 +117,8 @@ zero_lines e k ((b ∷ bs) ∷ ls) s = do
   zero_lines e (suc k) ls next
 
 unfoldable pub or_unstated : Option Protocol → Protocol
-or_unstated none = unstated
-or_unstated (some p) = p
+or_unstated None = unstated
+or_unstated (Some p) = p
 
 -- a missing metaData is met at the file's end (line 0)
 unfoldable pub read_zero : File → Answer State

@@ -1,7 +1,7 @@
 -- Things in a list by their keys, which are byte strings: keys that ascend, the thing of a key, and how far a search by halves has come.
 -- The paper's rules do not cite them; the promises of searches do.
 use Rattle.std.specs.Prelude.{◌≡◌, true, false, List, [], ◌∷◌, ℕ, ◌≤◌, ◌<◌, length, get_or}
-use Rattle.std.proofs.Math.Option.{Option, none, some}
+use Rattle.std.specs.Prelude.{Option, None, Some}
 use Rattle.facts.specs.Lists.{All}
 use Rattle.rules.specs.Bytes.{Bytes, less, more, order, same}
 
@@ -16,8 +16,8 @@ module _ {A : Type 0} (key : A → Bytes) where
 
 -- the one whose key is k
 unfoldable pub lookup : {A : Type 0} → (A → Bytes) → Bytes → List A → Option A
-lookup key k [] = none
-lookup key k (x ∷ xs) = elim (same k (key x)) [ true ↦ some x | false ↦ lookup key k xs ]
+lookup key k [] = None
+lookup key k (x ∷ xs) = elim (same k (key x)) [ true ↦ Some x | false ↦ lookup key k xs ]
 
 -- the keys before lo are below k, and those from hi on above
 pub record Bracket {A : Type 0} (key : A → Bytes) (k : Bytes) (xs : List A) (d : A) (lo hi : ℕ) : Type 0 where

@@ -1,6 +1,6 @@
 -- The state manifest: its text, which manifests a query keeps, and the directory of one.
 use Rattle.std.specs.Prelude.{Bool, true, false, not, ◌||◌, ◌&&◌, List, [], ◌∷◌, ℕ, suc, leb, eqb, length}
-use Rattle.std.proofs.Math.Option.{Option, none, some}
+use Rattle.std.specs.Prelude.{Option, None, Some}
 use Rattle.rules.specs.Bytes.{Bytes, ascii, ◌>>=◌, guard, same, begins, Order, order, is_less, is_more, distinct, firsts, keep_if}
 use Rattle.rules.specs.Json.Text.{Text}
 use Rattle.rules.specs.Json.Values.{Member, object_of, array_of}
@@ -43,14 +43,14 @@ bounds_of v = do
   min ← if_there string_of lo
   hi ← optional "max" ms
   max ← if_there string_of hi
-  some (record { min = min; max = max })
+  Some (record { min = min; max = max })
 
 unfoldable pub columns_in : List Member → Option (List (Bytes × Bounds))
-columns_in [] = some []
+columns_in [] = Some []
 columns_in (m ∷ ms) = do
   b ← bounds_of m.1
   bs ← columns_in ms
-  some ((m.0, b) ∷ bs)
+  Some ((m.0, b) ∷ bs)
 
 -- column to an object, no column twice
 unfoldable pub columns_of : Text → Option (List (Bytes × Bounds))
@@ -60,8 +60,8 @@ columns_of v = do
   columns_in ms
 
 unfoldable pub or_no_bounds : Option (List (Bytes × Bounds)) → List (Bytes × Bounds)
-or_no_bounds none = []
-or_no_bounds (some bs) = bs
+or_no_bounds None = []
+or_no_bounds (Some bs) = bs
 
 -- `path` (non-empty string), `partitionBounds` (missing, null, or column to an object)
 unfoldable pub manifest_of : Text → Option Manifest
@@ -71,14 +71,14 @@ manifest_of v = do
   _ ← guard (leb 1 (length p))
   b ← optional "partitionBounds" ms
   bs ← if_there columns_of b
-  some (record { path = p; bounds = or_no_bounds bs })
+  Some (record { path = p; bounds = or_no_bounds bs })
 
 unfoldable pub manifests_in : List Text → Option (List Manifest)
-manifests_in [] = some []
+manifests_in [] = Some []
 manifests_in (v ∷ vs) = do
   m ← manifest_of v
   ms ← manifests_in vs
-  some (m ∷ ms)
+  Some (m ∷ ms)
 
 -- none where the state manifest is malformed
 unfoldable pub manifests : Text → Option (List Manifest)
@@ -122,9 +122,9 @@ outside_as as_number op b lo hi = outside_numbers op (number_of b) (number_of lo
 
 -- both bounds are there
 unfoldable pub both_there : Condition → (min max : Option Bytes) → Bool
-both_there c none hi = false
-both_there c (some lo) none = false
-both_there c (some lo) (some hi) = outside_as c.kind c.op c.bound lo hi
+both_there c None hi = false
+both_there c (Some lo) None = false
+both_there c (Some lo) (Some hi) = outside_as c.kind c.op c.bound lo hi
 
 -- the condition drops a manifest that has these bounds
 unfoldable pub drops : Condition → List (Bytes × Bounds) → Bool

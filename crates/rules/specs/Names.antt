@@ -1,6 +1,6 @@
 -- What a name in the bundle says.
 use Rattle.std.specs.Prelude.{Bool, true, false, List, [], ◌∷◌, ℕ, leb, eqb, take, drop}
-use Rattle.std.proofs.Math.Option.{Option, none, some}
+use Rattle.std.specs.Prelude.{Option, None, Some}
 use Rattle.rules.specs.Bytes.{Bytes, ascii, same}
 use Rattle.rules.specs.Numbers.{decimal, most}
 use Rattle.rules.specs.Bundle.{File}
@@ -21,8 +21,8 @@ numbered false true false n = too_large
 numbered false false small n = other
 
 unfoldable pub with_ending : Option ℕ → (ending : Bytes) → Name
-with_ending none ending = other
-with_ending (some n) ending = numbered (same ending (ascii ".json")) (same ending (ascii ".checkpoint.json")) (leb n most) n
+with_ending None ending = other
+with_ending (Some n) ending = numbered (same ending (ascii ".json")) (same ending (ascii ".checkpoint.json")) (leb n most) n
 
 -- twenty decimal digits and an ending; what is shorter than the digits has no ending
 unfoldable pub name_of : Bytes → Name
@@ -31,18 +31,18 @@ name_of s = elim (same s (ascii "_last_checkpoint")) [ true ↦ marker | false �
 -- ---- one file among the others
 
 unfoldable pub version_in : Name → Option ℕ
-version_in (version n) = some n
-version_in (checkpoint n) = none
-version_in marker = none
-version_in other = none
-version_in too_large = none
+version_in (version n) = Some n
+version_in (checkpoint n) = None
+version_in marker = None
+version_in other = None
+version_in too_large = None
 
 unfoldable pub checkpoint_in : Name → Option ℕ
-checkpoint_in (version n) = none
-checkpoint_in (checkpoint n) = some n
-checkpoint_in marker = none
-checkpoint_in other = none
-checkpoint_in too_large = none
+checkpoint_in (version n) = None
+checkpoint_in (checkpoint n) = Some n
+checkpoint_in marker = None
+checkpoint_in other = None
+checkpoint_in too_large = None
 
 unfoldable pub is_marker : Name → Bool
 is_marker (version n) = false
@@ -59,8 +59,8 @@ is_too_large other = false
 is_too_large too_large = true
 
 unfoldable pub is : ℕ → Option ℕ → Bool
-is n none = false
-is n (some m) = eqb n m
+is n None = false
+is n (Some m) = eqb n m
 
 -- refusal 3: a version in some name is too large
 unfoldable pub any_too_large : List File → Bool

@@ -1,6 +1,6 @@
 -- Numbers as digits and as bytes.
 use Rattle.std.specs.Prelude.{Bool, true, false, [], ◌∷◌, ℕ, zero, suc, ◌+◌, ◌*◌, ◌-◌, ◌/◌, ◌%◌, ltb}
-use Rattle.std.proofs.Math.Option.{Option, none, some}
+use Rattle.std.specs.Prelude.{Option, None, Some}
 use Rattle.rules.specs.Bytes.{Bytes, among}
 
 -- 2^63 - 1: the highest version and the highest whole number
@@ -12,12 +12,12 @@ is_digit b = among 0x30 0x39 b
 
 -- decimal digits to the end of the text, behind digits that stand for `sofar`
 unfoldable pub decimal_from : ℕ → Bytes → Option ℕ
-decimal_from sofar [] = some sofar
-decimal_from sofar (b ∷ bs) = elim (is_digit b) [ true ↦ decimal_from (sofar * 10 + (b - 0x30)) bs | false ↦ none ]
+decimal_from sofar [] = Some sofar
+decimal_from sofar (b ∷ bs) = elim (is_digit b) [ true ↦ decimal_from (sofar * 10 + (b - 0x30)) bs | false ↦ None ]
 
 -- one decimal digit or more and nothing else, zeros in front allowed: the base is ten, whatever the first digit is
 unfoldable pub decimal : Bytes → Option ℕ
-decimal [] = none
+decimal [] = None
 decimal (b ∷ bs) = decimal_from 0 (b ∷ bs)
 
 -- little-endian

@@ -1,6 +1,6 @@
 -- Which files a query picks: a function of a file's facts alone. And whether a live file has a value out of range under it.
 use Rattle.std.specs.Prelude.{Bool, true, false, not, List, [], ◌∷◌, ℤ}
-use Rattle.std.proofs.Math.Option.{Option, none, some}
+use Rattle.std.specs.Prelude.{Option, None, Some}
 use Rattle.std.specs.Int.Signed.{lt_z}
 use Rattle.rules.specs.Bytes.{Bytes, same, Order, less, equal, more, order, is_less, is_equal, is_more, keep_if}
 use Rattle.rules.specs.Actions.{Facts, Pairs}
@@ -36,14 +36,14 @@ meets_as as_number op x b = meets_number op (number_of x) (number_of b)
 
 -- the value of a column: none where the column is missing, some none where it is null
 unfoldable pub value_at : Bytes → Pairs → Option (Option Bytes)
-value_at column [] = none
-value_at column (p ∷ ps) = elim (same column p.0) [ true ↦ some p.1 | false ↦ value_at column ps ]
+value_at column [] = None
+value_at column (p ∷ ps) = elim (same column p.0) [ true ↦ Some p.1 | false ↦ value_at column ps ]
 
 -- a missing or null value meets none
 unfoldable pub meets_value : Condition → Option (Option Bytes) → Bool
-meets_value c none = false
-meets_value c (some none) = false
-meets_value c (some (some x)) = meets_as c.kind c.op x c.bound
+meets_value c None = false
+meets_value c (Some None) = false
+meets_value c (Some (Some x)) = meets_as c.kind c.op x c.bound
 
 unfoldable pub meets_all : List Condition → Facts → Bool
 meets_all [] f = true
@@ -63,9 +63,9 @@ out_of_as as_number x = is_out_of_range (number_of x)
 
 -- a missing or null value is not out of range
 unfoldable pub out_of : Condition → Option (Option Bytes) → Bool
-out_of c none = false
-out_of c (some none) = false
-out_of c (some (some x)) = out_of_as c.kind x
+out_of c None = false
+out_of c (Some None) = false
+out_of c (Some (Some x)) = out_of_as c.kind x
 
 -- of some condition, whether the others are met or not
 unfoldable pub any_out_of : List Condition → Facts → Bool

@@ -1,6 +1,6 @@
 -- The program: what it prints for what it reads from standard input.
 use Rattle.std.specs.Prelude.{Bool, true, false, List, [], ◌∷◌, ◌++◌, ℕ, leb, length, take, drop}
-use Rattle.std.proofs.Math.Option.{Option, none, some}
+use Rattle.std.specs.Prelude.{Option, None, Some}
 use Rattle.rules.specs.Bytes.{Bytes, ascii}
 use Rattle.rules.specs.Numbers.{spell}
 use Rattle.rules.specs.Actions.{path_shown}
@@ -24,8 +24,8 @@ yes_no true = ascii "yes"
 yes_no false = ascii "no"
 
 unfoldable pub or_dash : Option ℕ → Bytes
-or_dash none = ascii "-"
-or_dash (some n) = spell n
+or_dash None = ascii "-"
+or_dash (Some n) = spell n
 
 -- the line that a row points at
 unfoldable pub line_of : Bytes → Row → Bytes

@@ -1,6 +1,6 @@
 -- The query: a JSON array of at most 8 conditions on partition columns, and the numbers that conditions read.
 use Rattle.std.specs.Prelude.{Bool, true, false, List, [], ◌∷◌, map, ℕ, suc, leb, eqb, length, ℤ, pos, neg_ℤ}
-use Rattle.std.proofs.Math.Option.{Option, none, some}
+use Rattle.std.specs.Prelude.{Option, None, Some}
 use Rattle.rules.specs.Bytes.{Bytes, ascii, ◌>>=◌, guard, first, same, distinct, firsts}
 use Rattle.rules.specs.Numbers.{decimal, most}
 use Rattle.rules.specs.Json.Text.{Text}
@@ -25,12 +25,12 @@ in_range false z = out_of_range
 
 -- by the value of the digits, none where they are not 1 to 20 digits
 unfoldable pub positive : Option ℕ → Number
-positive none = not_number
-positive (some n) = in_range (leb n most) (pos n)
+positive None = not_number
+positive (Some n) = in_range (leb n most) (pos n)
 
 unfoldable pub negative : Option ℕ → Number
-negative none = not_number
-negative (some n) = in_range (leb n (suc most)) (neg_ℤ (pos n))
+negative None = not_number
+negative (Some n) = in_range (leb n (suc most)) (neg_ℤ (pos n))
 
 unfoldable pub digits_in : Bytes → Option ℕ
 digits_in s = do
@@ -66,18 +66,18 @@ pub record Condition : Type 0 where
   pub bound : Bytes
 
 unfoldable pub as_of : Bytes → Option As
-as_of t = first ((same t (ascii "text"), some as_text) ∷ (same t (ascii "number"), some as_number) ∷ []) none
+as_of t = first ((same t (ascii "text"), Some as_text) ∷ (same t (ascii "number"), Some as_number) ∷ []) None
 
 unfoldable pub op_of : Bytes → Option Op
 op_of t =
     first
-    ((same t (ascii "eq"), some eq)
-    ∷ (same t (ascii "lt"), some lt)
-    ∷ (same t (ascii "le"), some le)
-    ∷ (same t (ascii "gt"), some gt)
-    ∷ (same t (ascii "ge"), some ge)
+    ((same t (ascii "eq"), Some eq)
+    ∷ (same t (ascii "lt"), Some lt)
+    ∷ (same t (ascii "le"), Some le)
+    ∷ (same t (ascii "gt"), Some gt)
+    ∷ (same t (ascii "ge"), Some ge)
     ∷ [])
-    none
+    None
 
 -- a `value` under "number" must be one
 unfoldable pub fits : As → Bytes → Bool
@@ -101,15 +101,15 @@ condition_in ms = do
   kind ← as_of a
   op ← op_of o
   _ ← guard (fits kind v)
-  some (record { column = column; kind = kind; op = op; bound = v })
+  Some (record { column = column; kind = kind; op = op; bound = v })
 
 unfoldable pub conditions_in : List Text → Option (List Condition)
-conditions_in [] = some []
+conditions_in [] = Some []
 conditions_in (v ∷ vs) = do
   ms ← object_of in_action v
   c ← condition_in ms
   cs ← conditions_in vs
-  some (c ∷ cs)
+  Some (c ∷ cs)
 
 unfoldable pub column_of : Condition → Bytes
 column_of c = c.column
@@ -128,4 +128,4 @@ query s = do
   _ ← guard (leb (length vs) most_conditions)
   cs ← conditions_in vs
   _ ← guard (distinct (map column_of cs))
-  some cs
+  Some cs

@@ -1,6 +1,6 @@
 -- Reading a bundle at a version, or at the latest, with a query and a lent room.
 use Rattle.std.specs.Prelude.{Bool, not, List, map, ℕ, leb, length}
-use Rattle.std.proofs.Math.Option.{Option}
+use Rattle.std.specs.Prelude.{Option}
 use Rattle.rules.specs.Bytes.{Bytes, all_among}
 use Rattle.rules.specs.Bundle.{bundle}
 use Rattle.rules.specs.Names.{any_too_large}

@@ -1,6 +1,6 @@
 -- The refusals by their numbers. All else in a refusal is zero, but that 6, 7 and 21 name entry and line.
 use Rattle.std.specs.Prelude.{Bool, true, false, ℕ}
-use Rattle.std.proofs.Math.Option.{Option, none, some}
+use Rattle.std.specs.Prelude.{Option, None, Some}
 
 pub record Refusal : Type 0 where
   pub number : ℕ
@@ -83,8 +83,8 @@ abbrev pub ◌>>=◌ : {A B : Type 0} → Answer A → (A → Answer B) → Answ
 
 -- what is missing is refused
 abbrev pub or_refuse : {A : Type 0} → Refusal → Option A → Answer A
-or_refuse r none = refused r
-or_refuse r (some a) = accepted a
+or_refuse r None = refused r
+or_refuse r (Some a) = accepted a
 
 -- go on only where the test passes
 abbrev pub require : Refusal → Bool → Answer (Unit {0})

@@ -1,6 +1,6 @@
 -- "Same answer" in the sense of demand 3, and when a checkpoint is true. Positions may differ; the facts may not.
 use Rattle.std.specs.Prelude.{◌≡◌, List, [], ◌∷◌, ℕ}
-use Rattle.std.proofs.Math.Option.{some}
+use Rattle.std.specs.Prelude.{Some}
 use Rattle.rules.specs.Bytes.{Bytes, holds}
 use Rattle.rules.specs.Bundle.{File}
 use Rattle.rules.specs.Actions.{Facts, Protocol}
@@ -54,6 +54,6 @@ pub data SameAnswer {A : Type 0} (Same : A → A → Type 0) : Answer A → Answ
 pub record IsTrue (log : Log) (c : ℕ) (f : File) : Type 0 where
   pub own : State
   pub history : State
-  pub own_read : state_by log (some (from_checkpoint f)) ≡ accepted own
+  pub own_read : state_by log (Some (from_checkpoint f)) ≡ accepted own
   pub history-read : state_by log (history_to log c) ≡ accepted history
   pub same : SameState own history

@@ -1,5 +1,6 @@
 -- `clean` meets its contract: the rooms, then what is ruled, and then the names.
-use mathlib.Core.Path.{subst}
+use mathlib.Core.Path.{subst, ap, ◌∙◌}
+use Rattle.std.specs.Prelude.{Ok}
 use Rattle.rules.specs.Live.{most_live}
 use Rattle.cleaning.specs.Ruled.{RulingIs}
 use Rattle.cleaning.proofs.Ending.{clean-names-short, clean-one-short, clean-two-short, clean-named, clean-nothing, clean-refused}
@@ -23,11 +24,11 @@ rule-ruling-requires c = (c.if-one-lt-ROWS_ROOM.false, c.if-two-lt-ROWS_ROOM.fal
 
 pub name_old-n-requires : goal.name_old-n-requires
 name_old-n-requires c =
-    ((subst (RulingIs _ _) c.in-Before.is c.rule-ruling.ensures.0).1, c.if-names-lt-NAMES_ROOM.false)
+    ((subst (RulingIs _ _) (c.in-Ok.is ∙ ap Ok c.in-Some.is) c.rule-ruling.ensures.0).1, c.if-names-lt-NAMES_ROOM.false)
 
-pub returns-in-Before : goal.returns-in-Before
-returns-in-Before c =
-    let d = subst (RulingIs _ _) c.in-Before.is c.rule-ruling.ensures.0 in
+pub returns-in-Some : goal.returns-in-Some
+returns-in-Some c =
+    let d = subst (RulingIs _ _) (c.in-Ok.is ∙ ap Ok c.in-Some.is) c.rule-ruling.ensures.0 in
     clean-named
     c.args.src.now
     c.args.today.0
@@ -51,9 +52,9 @@ returns-in-Before c =
     c.name_old-n.ensures
     c.zero_u32.ensures
 
-pub returns-in-Nothing : goal.returns-in-Nothing
-returns-in-Nothing c =
-    let d = subst (RulingIs _ _) c.in-Nothing.is c.rule-ruling.ensures.0 in
+pub returns-in-None : goal.returns-in-None
+returns-in-None c =
+    let d = subst (RulingIs _ _) (c.in-Ok.is ∙ ap Ok c.in-None.is) c.rule-ruling.ensures.0 in
     clean-nothing
     c.args.src.now
     c.args.today.0
@@ -72,11 +73,11 @@ returns-in-Nothing c =
     c.zero-2.ensures
     _
     (d c.args.today.0 c.args.retention.0)
-    c.zero_u32-in-Nothing.ensures
+    c.zero_u32-in-None.ensures
 
-pub returns-in-Refused : goal.returns-in-Refused
-returns-in-Refused c =
-    let d = subst (RulingIs _ _) c.in-Refused.is c.rule-ruling.ensures.0 in
+pub returns-in-Err : goal.returns-in-Err
+returns-in-Err c =
+    let d = subst (RulingIs _ _) c.in-Err.is c.rule-ruling.ensures.0 in
     clean-refused
     c.args.src.now
     c.args.today.0
@@ -94,7 +95,7 @@ returns-in-Refused c =
     c.zero.ensures
     c.zero-2.ensures
     _
-    c.in-Refused.x
+    c.in-Err.x
     (d.0 c.args.today.0 c.args.retention.0)
     d.1
-    c.zero_u32-in-Refused.ensures
+    c.zero_u32-in-Err.ensures

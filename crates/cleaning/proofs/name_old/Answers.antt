@@ -7,6 +7,7 @@ use lib.ListN.{length}
 use Rattle.file_bundle.specs.Files.{files_in}
 use Rattle.cleaning.proofs.Going.{files-few, going_start, going_end, going-place, going-named, going-past}
 use Rattle.cleaning.proofs.name_old.Goals as goal
+use Rattle.cleaning.proofs.name_old.Goals.{then-may_go, else-may_go}
 
 pub count-count-requires : goal.count-count-requires
 count-count-requires c = c.requires.0
@@ -48,53 +49,20 @@ pub overflow_add-n : goal.overflow_add-n
 overflow_add-n c =
     let few : c.loop-k.n ≤ c.loop-k.k = c.loop-k.invariant.few in let small = files-few c.args.src.now c.requires.0 in omega arith
 
-pub overflow_add-k : goal.overflow_add-k
-overflow_add-k c =
-    let small = files-few c.args.src.now c.requires.0 in omega arith
-
-pub loop-k-smaller-then-may_go : goal.loop-k-smaller-then-may_go
-loop-k-smaller-then-may_go c = omega (arith, c.loop-k-test.true)
-
-pub loop-k-preserved-then-may_go : goal.loop-k-preserved-then-may_go
-loop-k-preserved-then-may_go c =
-    going-named
-    c.args.c.0
-    c.args.today.0
-    c.args.retention.0
-    c.args.src.now
-    c.args.names.now
-    c.requires.0
-    c.requires.1
-    c.loop-k.names
-    c.loop-k.k
-    c.loop-k.n
-    c.loop-k.invariant
-    (omega (arith, c.loop-k-test.true, c.count-count.ensures))
-    (sym c.may_go.ensures ∙ c.if-may_go.true)
-
-pub overflow_add-k-else-may_go : goal.overflow_add-k-else-may_go
-overflow_add-k-else-may_go c =
-    let small = files-few c.args.src.now c.requires.0 in omega arith
-
-pub loop-k-smaller : goal.loop-k-smaller
-loop-k-smaller c = omega (arith, c.loop-k-test.true)
-
 pub loop-k-preserved : goal.loop-k-preserved
 loop-k-preserved c =
-    going-past
-    c.args.c.0
-    c.args.today.0
-    c.args.retention.0
-    c.args.src.now
-    c.args.names.now
-    c.requires.0
-    c.requires.1
-    c.loop-k.names
-    c.loop-k.k
-    c.loop-k.n
-    c.loop-k.invariant
-    (omega (arith, c.loop-k-test.true, c.count-count.ensures))
-    (sym c.may_go.ensures ∙ c.if-may_go.false)
+    elim c.if-may_go.branch [
+      | then-may_go w ↦
+          rw (w.names-is, w.n-is) (going-named c.args.c.0 c.args.today.0 c.args.retention.0 c.args.src.now c.args.names.now c.requires.0 c.requires.1
+          c.loop-k.names c.loop-k.k c.loop-k.n c.loop-k.invariant
+          (omega (arith, c.loop-k-test.true, c.count-count.ensures))
+          (sym c.may_go.ensures ∙ w.if-may_go.true))
+      | else-may_go w ↦
+          rw (w.names-is, w.n-is) (going-past c.args.c.0 c.args.today.0 c.args.retention.0 c.args.src.now c.args.names.now c.requires.0 c.requires.1
+          c.loop-k.names c.loop-k.k c.loop-k.n c.loop-k.invariant
+          (omega (arith, c.loop-k-test.true, c.count-count.ensures))
+          (sym c.may_go.ensures ∙ w.if-may_go.false))
+    ]
 
 pub shape_of-names : goal.shape_of-names
 shape_of-names c = c.loop-k.invariant.same

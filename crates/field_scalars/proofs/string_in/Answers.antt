@@ -1,5 +1,5 @@
 -- `string_in`: a field that stands once has the string of its text.
-use mathlib.Core.Option.{Option}
+use Rattle.std.specs.Prelude.{Option}
 use mathlib.Core.Path.{sym, subst}
 use Rattle.rules.specs.Bytes.{Bytes}
 use Rattle.rules.specs.Json.Fields.{string_of}

@@ -4,9 +4,6 @@ use mathlib.Core.Path.{sym, ◌∙◌}
 use Rattle.file_bundle.proofs.Padding.{name-none, name-some, name-more, name-other, name-end}
 use Rattle.file_bundle.proofs.name_fits.Goals as goal
 
-pub bounds-p-0 : goal.bounds-p-0
-bounds-p-0 c = omega (arith, c.requires)
-
 pub returns-then-not-visible : goal.returns-then-not-visible
 returns-then-not-visible c =
     sym (name-none c.args.p.now c.requires (sym c.visible.ensures ∙ c.if-not-visible.true))
@@ -15,27 +12,18 @@ pub loop-i-init : goal.loop-i-init
 loop-i-init c =
     name-some c.args.p.now c.requires (sym c.visible.ensures ∙ c.if-not-visible.false)
 
-pub bounds-p-i : goal.bounds-p-i
-bounds-p-i c = omega arith
-
 pub returns-then-not-visible-2 : goal.returns-then-not-visible-2
 returns-then-not-visible-2 c =
     c.zeros_from.ensures
     ∙ sym (c.loop-i.invariant
-    ∙ name-other c.args.p.now c.loop-i.i c.loop-i-test.true
+    ∙ name-other c.args.p.now c.loop-i.i (omega arith)
     (sym c.visible-in-loop-i.ensures ∙ c.if-not-visible-2.true))
-
-pub overflow_add-i : goal.overflow_add-i
-overflow_add-i c = omega arith
-
-pub loop-i-smaller : goal.loop-i-smaller
-loop-i-smaller c = omega arith
 
 pub loop-i-preserved : goal.loop-i-preserved
 loop-i-preserved c =
     c.loop-i.invariant
-    ∙ name-more c.args.p.now c.loop-i.i c.loop-i-test.true
+    ∙ name-more c.args.p.now c.loop-i.i (omega arith)
     (sym c.visible-in-loop-i.ensures ∙ c.if-not-visible-2.false)
 
 pub returns : goal.returns
-returns c = sym (c.loop-i.invariant ∙ name-end c.args.p.now c.loop-i.i c.loop-i-test.false)
+returns c = sym (c.loop-i.invariant ∙ name-end c.args.p.now c.loop-i.i (omega arith))

@@ -3,27 +3,15 @@ use native.Mathlib.Omega.{arith}
 use Rattle.file_bundle.proofs.Padding.{name_size-here, name_size-more, name_size-end}
 use Rattle.file_bundle.proofs.name_size.Goals as goal
 
-pub loop-i-init : goal.loop-i-init
-loop-i-init c = c.skip_filled-i.ensures
-
-pub bounds-p-i : goal.bounds-p-i
-bounds-p-i c = omega arith
-
 pub returns-then-p-i-eq0 : goal.returns-then-p-i-eq0
 returns-then-p-i-eq0 c =
     let z = name_size-here c.args.p.now c.loop-i.i (omega arith) c.if-p-i-eq0.true in
     (omega arith, omega arith)
 
-pub overflow_add-i : goal.overflow_add-i
-overflow_add-i c = omega arith
-
-pub loop-i-smaller : goal.loop-i-smaller
-loop-i-smaller c = omega arith
-
 pub loop-i-preserved : goal.loop-i-preserved
 loop-i-preserved c =
     let z = name_size-more c.args.p.now c.loop-i.i (omega arith) c.if-p-i-eq0.false in
-    (omega arith, omega arith)
+    omega arith
 
 pub returns : goal.returns
 returns c =

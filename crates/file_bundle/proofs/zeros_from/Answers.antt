@@ -4,24 +4,9 @@ use mathlib.Core.Path.{sym, ◌∙◌}
 use Rattle.file_bundle.proofs.Padding.{zeros-more, zeros-other, zeros-end}
 use Rattle.file_bundle.proofs.zeros_from.Goals as goal
 
-pub skip_zeros-i-requires : goal.skip_zeros-i-requires
-skip_zeros-i-requires c = c.requires
-
-pub loop-i-init : goal.loop-i-init
-loop-i-init c = c.skip_zeros-i.ensures.1
-
-pub bounds-p-i : goal.bounds-p-i
-bounds-p-i c = omega arith
-
 pub returns-then-p-i-ne0 : goal.returns-then-p-i-ne0
 returns-then-p-i-ne0 c =
     sym (c.loop-i.invariant ∙ zeros-other c.args.p.now c.loop-i.i (omega arith) c.if-p-i-ne0.true)
-
-pub overflow_add-i : goal.overflow_add-i
-overflow_add-i c = omega arith
-
-pub loop-i-smaller : goal.loop-i-smaller
-loop-i-smaller c = omega arith
 
 pub loop-i-preserved : goal.loop-i-preserved
 loop-i-preserved c =

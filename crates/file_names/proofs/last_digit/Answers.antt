@@ -1,33 +1,28 @@
 -- The twentieth digit: whether the number is at most 2^63 - 1 is known by then.
-use mathlib.Core.Path.{◌≡◌, ap, ◌∙◌}
-use Prim.Native.Nat.{ℕ, ◌+◌, ◌-◌, ◌*◌, ◌≤◌, ◌<◌}
+use mathlib.Core.Path.{◌≡◌, sym}
+use Prim.Native.Nat.{◌-◌}
 use native.Mathlib.Omega.{arith}
-use Rattle.file_names.specs.declared.Digits.TheVariants.{Number}
-use Rattle.rules.proofs.Decimals.{digit-between, digit-below, digit-above}
+use Rattle.rules.specs.Bytes.{among}
+use Rattle.rules.specs.Numbers.{is_digit}
 use Rattle.file_names.proofs.Twenty.{last-other, last-above, last-number}
 use Rattle.file_names.proofs.last_digit.Goals as goal
 
-pub returns-then-b-lt48 : goal.returns-then-b-lt48
-returns-then-b-lt48 c =
-    last-other c.args.n c.args.b (digit-below c.args.b c.if-b-lt48.true)
-
-pub returns-then-b-gt57 : goal.returns-then-b-gt57
-returns-then-b-gt57 c =
-    last-other c.args.n c.args.b (digit-above c.args.b c.if-b-gt57.true)
+pub returns-then-not-is_ascii_digit : goal.returns-then-not-is_ascii_digit
+unfolding is_digit among
+returns-then-not-is_ascii_digit c = last-other c.args.n c.args.b (sym c.if-not-is_ascii_digit.ensures.value)
 
 pub returns-then-n-gt-ROOM : goal.returns-then-n-gt-ROOM
-returns-then-n-gt-ROOM c =
-    last-above c.args.n c.args.b (digit-between c.args.b c.if-b-lt48.false c.if-b-gt57.false) (omega arith)
+unfolding is_digit among
+returns-then-n-gt-ROOM c = last-above c.args.n c.args.b (sym c.if-not-is_ascii_digit.ensures.value) (omega arith)
 
 pub returns-then-v-gt-MOST : goal.returns-then-v-gt-MOST
+unfolding is_digit among
 returns-then-v-gt-MOST c =
-    let e : c.wide.result ≡ c.args.b = c.wide.ensures in
-    let h : 9223372036854775807 < c.args.n * 10 + (c.wide.result - 48) = c.if-v-gt-MOST.true in
-    last-above c.args.n c.args.b (digit-between c.args.b c.if-b-lt48.false c.if-b-gt57.false) (rw e at h)
+    let e : c.from.result ≡ c.args.b - 48 = c.from.ensures in
+    last-above c.args.n c.args.b (sym c.if-not-is_ascii_digit.ensures.value) (omega (arith, c.if-v-gt-MOST.true))
 
 pub returns : goal.returns
+unfolding is_digit among
 returns c =
-    let e : c.wide.result ≡ c.args.b = c.wide.ensures in
-    let h : c.args.n * 10 + (c.wide.result - 48) ≤ 9223372036854775807 = omega arith in
-    ap (λ (x : ℕ). Number (c.args.n * 10 + (x - 48))) e
-    ∙ last-number c.args.n c.args.b (digit-between c.args.b c.if-b-lt48.false c.if-b-gt57.false) (rw e at h)
+    let e : c.from.result ≡ c.args.b - 48 = c.from.ensures in
+    rw e (last-number c.args.n c.args.b (sym c.if-not-is_ascii_digit.ensures.value) (omega (arith, c.if-v-gt-MOST.false)))

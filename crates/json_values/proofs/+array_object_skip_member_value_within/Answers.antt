@@ -10,7 +10,7 @@ use Rattle.rules.proofs.Json.TextReads.{spelled-reads}
 use Rattle.rules.proofs.Json.ValueReads.{member-reads, value-reads}
 use Rattle.rules.proofs.Json.Shadows.{behind-spelled}
 use Rattle.rules.proofs.Json.Steps.{value-end, value-object, value-array, value-no-object, value-no-array, value-scalar}
-use Rattle.json_tokens.specs.declared.tokens.Next.TheVariants.{At}
+use Rattle.std.specs.Prelude.{Some}
 use Rattle.json_tokens.proofs.Places.{here, here-is, ended, answer-from}
 use Rattle.json_values.proofs.Names.{member-nameless, member-named}
 use Rattle.json_values.proofs.Numbers.{numbered-none, numbered-at, numbered-from, numbered-anew}
@@ -136,8 +136,8 @@ skip_member-returns-in_default t c = numbered-none (member-nameless _ _ c.in_def
 
 pub skip_member-returns : goal.skip_member-returns
 skip_member-returns t c =
-    let n = c.in-At.ensures in
-    let behind-name : c.args.at + 1 ≤ c.in-At.v = n.1 in
+    let n = c.in-Some.ensures in
+    let behind-name : c.args.at + 1 ≤ c.in-Some.v = n.1 in
     numbered-from _ _
     c.args.s.now
     _ _ _
@@ -196,5 +196,5 @@ pub value_within-returns : goal.value_within-returns
 value_within-returns t c =
     let h = here _ _ c.if-s-at.false in
     numbered-at (omega arith)
-    (answer-from _ _ c.args.s.now (c.args.at + 1) (c.args.at + 1) (At c.in-At.end) c.in-At.ensures (omega arith)
+    (answer-from _ _ c.args.s.now (c.args.at + 1) (c.args.at + 1) (Some c.in-Some.end) c.in-Some.ensures (omega arith)
     (ap (rule_value c.args.depth) h ∙ value-scalar _ _ _ c.if-b-eq-OPEN_BRACE.false c.if-b-eq-OPEN_BRACKET.false ∙ ap scalar (sym h)))

@@ -5,17 +5,17 @@ use Rattle.json_values.proofs.Names.{member-bare}
 use Rattle.json_values.proofs.plain_member.Goals as goal
 
 pub plain_end-n-requires : goal.plain_end-n-requires
-plain_end-n-requires c = c.in-At.ensures.2
+plain_end-n-requires c = c.in-Some.ensures.2
 
 pub overflow_sub-s : goal.overflow_sub-s
 overflow_sub-s c =
-    let q = c.in-At.ensures in
+    let q = c.in-Some.ensures in
     let x = closes-answer c.args.s.now _ _ q.2 c.plain_end-n.ensures (omega arith) in
     x.2
 
 pub returns : goal.returns
 returns c d h =
-    let q = c.in-At.ensures in
+    let q = c.in-Some.ensures in
     member-bare d c.args.s.now _ _ _ _
     q.0
     q.1

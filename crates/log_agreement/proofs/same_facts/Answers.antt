@@ -11,5 +11,4 @@ same_adds-requires c = (
 
 pub returns : goal.returns
 unfolding part
-returns c =
-    c.same_adds.ensures _ _ c.add_of-x.ensures c.add_of-y.ensures
+returns c = c.same_adds.ensures _ _ c.add_of-x.ensures c.add_of-y.ensures

@@ -1,17 +1,27 @@
 -- `same_files` meets its contract: by the two numbers, then by the facts.
-use mathlib.Core.Path.{sym, ◌∙◌}
-use borrow.Author.Tests.{eq-eqb}
-use Rattle.log_agreement.proofs.Views.{rows-by, skips-differ, retries-differ}
+use mathlib.Core.Path.{◌≡◌, refl, sym, ◌∙◌}
+use mathlib.Core.Bool.{◌&&◌}
+use lib.Dec.{eqb}
+use borrow.Author.Tests.{eq-eqb, ne_eqb}
+use Rattle.rules.specs.Agreement.{agree_facts}
+use Rattle.log_replay.specs.Views.{facts_at}
+use Rattle.log_agreement.proofs.Stated.{and-then, and-else}
+use Rattle.log_agreement.proofs.Views.{row-by}
 use Rattle.log_agreement.proofs.same_files.Goals as goal
+use Rattle.log_agreement.proofs.same_files.Goals.{Joined-c-d, then-c-d, else-c-d}
 
-pub returns-then-c-d : goal.returns-then-c-d
-returns-then-c-d c = sym (skips-differ c.args.src.now c.args.c c.args.d c.if-c-d.true)
+skips : (c : Joined-c-d) → c.if-c-d.skips ≡ (eqb c.args.c.skips c.args.d.skips && eqb c.args.c.retry c.args.d.retry)
+skips c = elim c.if-c-d.branch [
+  | then-c-d w ↦ and-then refl w.skips-is (eq-eqb _ _ w.if-c-d.true)
+  | else-c-d w ↦ w.skips-is ∙ and-else (eqb c.args.c.retry c.args.d.retry) refl (ne_eqb _ _ w.if-c-d.false)
+]
 
-pub returns-then-c-d-2 : goal.returns-then-c-d-2
-returns-then-c-d-2 c =
-    sym (retries-differ c.args.src.now c.args.c c.args.d c.if-c-d-2.true)
+pub returns-then-skips : goal.returns-then-skips
+returns-then-skips c =
+    and-then (skips (goal.at.returns-then-skips c).Joined-c-d) c.same_facts.ensures c.if-skips.true ∙ sym (row-by c.args.src.now c.args.c c.args.d)
 
-pub returns : goal.returns
-returns c =
-    c.same_facts.ensures ∙ sym (rows-by c.args.src.now c.args.c c.args.d (eq-eqb c.args.c.skips c.args.d.skips c.if-c-d.false)
-    (eq-eqb c.args.c.retry c.args.d.retry c.if-c-d-2.false))
+pub returns-else-skips : goal.returns-else-skips
+returns-else-skips c =
+    and-else (agree_facts (facts_at c.args.src.now c.args.c) (facts_at c.args.src.now c.args.d)) (skips (goal.at.returns-else-skips c).Joined-c-d)
+    c.if-skips.false
+    ∙ sym (row-by c.args.src.now c.args.c c.args.d)

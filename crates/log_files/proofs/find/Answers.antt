@@ -60,7 +60,7 @@ loop-lo-preserved c =
     c.place_between-mid.ensures.0
     c.place_between-mid.ensures.1
     c.name_in.ensures
-    (sym c.in-More.is ∙ c.order_bytes.ensures)
+    (sym c.in-Greater.is ∙ c.order_bytes.ensures)
 
 pub returns : goal.returns
 returns c = bracket-lookup title _ _ no_file _ _ c.loop-lo.invariant (omega arith)

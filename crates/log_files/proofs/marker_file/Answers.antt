@@ -1,6 +1,6 @@
 -- The marker is the file of one name.
 use mathlib.Core.Path.{sym, subst}
-use mathlib.Core.Option.{Option}
+use Rattle.std.specs.Prelude.{Option}
 use Rattle.rules.specs.Bytes.{ascii}
 use Rattle.rules.specs.Bundle.{File}
 use Rattle.rules.specs.Names.{is_marker}

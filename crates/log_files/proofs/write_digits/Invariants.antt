@@ -7,7 +7,4 @@ use Rattle.log_files.proofs.Writing.{Writing}
 use Rattle.log_files.proofs.write_digits.Given as goal
 
 abbrev pub invariant-loop-i : goal.invariant-loop-i
-invariant-loop-i l = (l.i ≤ 20) × (20 ≤ length l.initial.t) × (take 20 l.initial.t ≡ digits 20 0) × Writing l.v l.initial.t l.t l.i l.left
-
-abbrev pub decreases-loop-i : goal.decreases-loop-i
-decreases-loop-i l = l.i
+invariant-loop-i l = (20 ≤ length l.initial.t) × (take 20 l.initial.t ≡ digits 20 0) × Writing l.v l.initial.t l.t l.i l.left

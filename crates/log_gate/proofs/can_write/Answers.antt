@@ -7,6 +7,6 @@ pub returns-then-p-le-KNOWN_WRITER : goal.returns-then-p-le-KNOWN_WRITER
 unfolding known_writer
 returns-then-p-le-KNOWN_WRITER c = rw (le-leb c.args.p.writer 3 c.if-p-le-KNOWN_WRITER.true)
 
-pub returns : goal.returns
+pub returns-else-p-le-KNOWN_WRITER : goal.returns-else-p-le-KNOWN_WRITER
 unfolding known_writer
-returns c = rw (lt-leb c.args.p.writer 3 c.if-p-le-KNOWN_WRITER.false)
+returns-else-p-le-KNOWN_WRITER c = rw (lt-leb c.args.p.writer 3 c.if-p-le-KNOWN_WRITER.false)

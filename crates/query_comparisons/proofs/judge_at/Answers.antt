@@ -5,18 +5,10 @@ use Rattle.query_conditions.specs.Words.{as_is, op_is}
 use Rattle.json_strings.specs.Decoded.{decoded}
 use Rattle.query_numbers.proofs.Back.{numeral-number, numeral-out, numeral-not}
 use Rattle.rules.specs.Query.{number_of}
-use Rattle.query_comparisons.specs.Judging.{judged_is}
+use Rattle.std.specs.Prelude.{Ok}
 use lib.ListN.{drop}
-use mathlib.Core.Bool.{false}
-use mathlib.Core.Path.{sym, ap, ◌∙◌}
+use mathlib.Core.Path.{ap, ◌∙◌}
 use Rattle.query_comparisons.proofs.judge_at.Goals as goal
-
-pub order_strings-requires : goal.order_strings-requires
-order_strings-requires c =
-    (c.requires.1, c.requires.0.bound)
-
-pub numeral_in-requires : goal.numeral_in-requires
-numeral_in-requires c = c.requires.1
 
 pub returns-in-Text : goal.returns-in-Text
 unfolding as_is
@@ -24,35 +16,33 @@ returns-in-Text c =
     let v = decoded (drop c.args.at c.args.s.now) in
     let b = decoded (drop c.args.c.bound c.args.q.now) in
     let op = op_is c.args.c.op in
-    c.in_range.ensures ∙ ap (judged_is false) c.meets.ensures
-    ∙ kind-judged op v b c.in-Text.is
-    (text-judged op v b c.order_strings.ensures)
+    ap Ok c.meets.ensures ∙ kind-judged op v b c.in-Text.is (text-judged op v b c.order_strings.ensures)
 
-pub returns-in-Number-numeral_in : goal.returns-in-Number-numeral_in
+pub returns-in-Ok : goal.returns-in-Ok
 unfolding as_is
-returns-in-Number-numeral_in c =
+returns-in-Ok c =
     let v = decoded (drop c.args.at c.args.s.now) in
     let b = decoded (drop c.args.c.bound c.args.q.now) in
     let op = op_is c.args.c.op in
-    c.in_range-in-Number-numeral_in.ensures ∙ ap (judged_is false) c.meets-in-Number-numeral_in.ensures
+    ap Ok c.meets-in-Ok.ensures
     ∙ kind-judged op v b c.in-Number.is
-    (number-judged op v b c.in-Number-numeral_in.n c.args.c.number
-    (numeral-number (number_of v) (sym c.in-Number-numeral_in.is ∙ c.numeral_in.ensures))
+    (number-judged op v b c.in-Ok.n c.args.c.number
+    (numeral-number (number_of v) c.in-Ok.ensures)
     (bound-number c.args.q.now c.args.c c.requires.0 c.in-Number.is)
     c.order_numbers.ensures)
 
-pub returns-in-OutOfRange : goal.returns-in-OutOfRange
+pub returns-in-Err-OutOfRange : goal.returns-in-Err-OutOfRange
 unfolding as_is
-returns-in-OutOfRange c =
+returns-in-Err-OutOfRange c =
     let v = decoded (drop c.args.at c.args.s.now) in
     let b = decoded (drop c.args.c.bound c.args.q.now) in
     let op = op_is c.args.c.op in
-    kind-judged op v b c.in-Number.is (out-judged op v b (numeral-out (number_of v) (sym c.in-OutOfRange.is ∙ c.numeral_in.ensures)))
+    kind-judged op v b c.in-Number.is (out-judged op v b (numeral-out (number_of v) (rw c.in-Err-OutOfRange.field-0-is at c.in-Err-OutOfRange.ensures)))
 
-pub returns-in-NotNumber : goal.returns-in-NotNumber
+pub returns-in-Err-NotNumber : goal.returns-in-Err-NotNumber
 unfolding as_is
-returns-in-NotNumber c =
+returns-in-Err-NotNumber c =
     let v = decoded (drop c.args.at c.args.s.now) in
     let b = decoded (drop c.args.c.bound c.args.q.now) in
     let op = op_is c.args.c.op in
-    kind-judged op v b c.in-Number.is (not-judged op v b (numeral-not (number_of v) (sym c.in-NotNumber.is ∙ c.numeral_in.ensures)))
+    kind-judged op v b c.in-Number.is (not-judged op v b (numeral-not (number_of v) (rw c.in-Err-NotNumber.field-0-is at c.in-Err-NotNumber.ensures)))

@@ -1,20 +1,16 @@
 -- `negative_of`: each answer by what the digits stand for.
 use mathlib.Core.Path.{sym, ap, ◌∙◌}
+use Rattle.std.specs.Prelude.{Ok}
+use Rattle.std.proofs.lemmas.Result.{err_from_is_err_and}
 use Rattle.query_numbers.specs.Answers.{numeral_is}
-use Rattle.query_numbers.specs.declared.Numeral.TheVariants.{Number}
-use Rattle.query_numbers.proofs.Queries.{negative-none, negative-large, negative-in, signed-minus}
+use Rattle.query_numbers.proofs.Queries.{negative-refused, negative-in, signed-minus}
 use Rattle.query_numbers.proofs.negative_of.Goals as goal
 
-pub returns-in-NoDigits : goal.returns-in-NoDigits
-unfolding numeral_is
-returns-in-NoDigits c = ap numeral_is (sym (negative-none _ (sym c.capped_digits.ensures ∙ c.in-NoDigits.is)))
+pub returns-in_err-n : goal.returns-in_err-n
+returns-in_err-n c =
+    let p = err_from_is_err_and c.from_residual.result c.from_residual.ensures.1 in
+    rw (p.1, p.2) (sym (negative-refused _ _ (sym c.in_err-n.ensures)))
 
-pub returns-in-TooBig : goal.returns-in-TooBig
+pub returns : goal.returns
 unfolding numeral_is
-returns-in-TooBig c = ap numeral_is (sym (negative-large _ (sym c.capped_digits.ensures ∙ c.in-TooBig.is)))
-
-pub returns-in-Below : goal.returns-in-Below
-unfolding numeral_is
-returns-in-Below c =
-    ap Number (sym (signed-minus c.in-Below.n))
-    ∙ ap numeral_is (sym (negative-in _ (sym c.capped_digits.ensures ∙ c.in-Below.is)))
+returns c = ap Ok (sym (signed-minus c.in_ok-n.n)) ∙ ap numeral_is (sym (negative-in _ (sym c.in_ok-n.ensures)))

@@ -1,10 +1,11 @@
 -- `judge_each` meets its contract: what all conditions say is what those from k on say, and whether those before are met.
-use mathlib.Core.Path.{◌≡◌, refl, sym, ◌∙◌}
+use mathlib.Core.Path.{◌≡◌, refl}
 use Prim.Native.Nat.{◌≤◌}
 use native.Mathlib.Omega.{arith}
 use borrow.Author.Rules.{rules}
 use lib.ListN.{length}
-use Rattle.query_picking.proofs.Each.{going-all, going-some, going-met, going-unmet, going-out}
+use Rattle.std.proofs.lemmas.Result.{err_from_is_err_and}
+use Rattle.query_picking.proofs.Each.{going-all, going-next, going-out}
 use Rattle.query_picking.proofs.judge_each.Goals as goal
 
 pub loop-k-init : goal.loop-k-init
@@ -22,60 +23,26 @@ pub judge_next-requires : goal.judge_next-requires
 judge_next-requires c =
     (c.requires.0, c.requires.1.each c.loop-k.k c.loop-k-test.true)
 
-pub loop-k-preserved-in-Met : goal.loop-k-preserved-in-Met
-loop-k-preserved-in-Met c =
-    let size : length c.args.conditions ≡ 8 = search rules in (
-      omega arith,
-      λ f w.
-          going-met
-          c.args.q.now
-          c.args.count
-          c.args.conditions
-          (omega (arith, size, c.requires.1.few))
-          f
-          c.loop-k.k
-          c.loop-k.met
-          (c.loop-k.invariant.1 f w)
-          c.loop-k-test.true
-          (sym c.in-Met.is ∙ c.judge_next.ensures f.partition_values w),
-    )
-
 pub loop-k-preserved : goal.loop-k-preserved
 loop-k-preserved c =
     let size : length c.args.conditions ≡ 8 = search rules in (
       omega arith,
       λ f w.
-          going-unmet
-          c.args.q.now
-          c.args.count
-          c.args.conditions
-          (omega (arith, size, c.requires.1.few))
-          f
-          c.loop-k.k
-          c.loop-k.met
-          (c.loop-k.invariant.1 f w)
-          c.loop-k-test.true
-          (sym c.in-Unmet.is ∙ c.judge_next.ensures f.partition_values w),
+          going-next c.args.q.now c.args.count c.args.conditions (omega (arith, size, c.requires.1.few)) f c.loop-k.k c.loop-k.met
+          (c.loop-k.invariant.1 f w) c.loop-k-test.true _ (c.in_ok-met.ensures f.partition_values w),
     )
 
-pub returns-in-OutOfRange : goal.returns-in-OutOfRange
-returns-in-OutOfRange c =
+pub returns-in_err-met : goal.returns-in_err-met
+returns-in_err-met c =
     let size : length c.args.conditions ≡ 8 = search rules in
-    λ f w.
+    let p = err_from_is_err_and c.from_residual.result c.from_residual.ensures.1 in
+    rw (p.1, p.2) (λ f w.
     going-out c.args.q.now c.args.count c.args.conditions (omega (arith, size, c.requires.1.few)) f c.loop-k.k c.loop-k.met (c.loop-k.invariant.1 f w)
-    c.loop-k-test.true
-    (sym c.in-OutOfRange.is ∙ c.judge_next.ensures f.partition_values w)
-
-pub returns-then-met : goal.returns-then-met
-returns-then-met c =
-    let size : length c.args.conditions ≡ 8 = search rules in
-    λ f w.
-    going-all c.args.q.now c.args.count c.args.conditions (omega (arith, size, c.requires.1.few)) f c.loop-k.k c.loop-k.met (c.loop-k.invariant.1 f w)
-    c.loop-k-test.false c.if-met.true
+    c.loop-k-test.true (c.in_err-met.ensures f.partition_values w))
 
 pub returns : goal.returns
 returns c =
     let size : length c.args.conditions ≡ 8 = search rules in
     λ f w.
-    going-some c.args.q.now c.args.count c.args.conditions (omega (arith, size, c.requires.1.few)) f c.loop-k.k c.loop-k.met (c.loop-k.invariant.1 f w)
-    c.loop-k-test.false c.if-met.false
+    going-all c.args.q.now c.args.count c.args.conditions (omega (arith, size, c.requires.1.few)) f c.loop-k.k c.loop-k.met (c.loop-k.invariant.1 f w)
+    c.loop-k-test.false

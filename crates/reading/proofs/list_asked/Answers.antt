@@ -17,17 +17,17 @@ returns-then-any_too_large c =
     (answering-large _ _ _ (sym c.any_too_large.ensures ∙ c.if-any_too_large.true))
     c.refuse.ensures
 
-pub returns-in-Latest : goal.returns-in-Latest
-returns-in-Latest c =
+pub returns-in-None : goal.returns-in-None
+returns-in-None c =
     answer-same _ _ _ _ _
     (answering-version _ _ _
     (sym c.any_too_large.ensures ∙ c.if-any_too_large.false) _
-    (asked-latest _ _ c.in-Latest.is))
+    (asked-latest _ _ c.in-None.is))
     c.list_latest.ensures
 
-pub returns-in-At : goal.returns-in-At
-returns-in-At c =
+pub returns-in-Some : goal.returns-in-Some
+returns-in-Some c =
     answer-same _ _ _ _ _
     (answering-version _ _ _ (sym c.any_too_large.ensures ∙ c.if-any_too_large.false) _
-    (asked-at _ _ _ c.in-At.is))
+    (asked-at _ _ _ c.in-Some.is))
     c.list_at.ensures

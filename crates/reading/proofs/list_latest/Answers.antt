@@ -14,25 +14,25 @@ state_at_latest-newest-requires c =
 
 pub list_state-requires : goal.list_state-requires
 list_state-requires c =
-    let d = subst (OutcomeIs _ _ _ _ _) c.in-Done.is
+    let d = subst (OutcomeIs _ _ _ _ _) c.in-Ok.is
     c.state_at_latest-newest.ensures.state in
     (d.1.carries, c.requires.2)
 
 pub refuse-requires : goal.refuse-requires
 refuse-requires c =
-    let d = subst (OutcomeIs _ _ _ _ _) c.in-Refused.is
+    let d = subst (OutcomeIs _ _ _ _ _) c.in-Err.is
     c.state_at_latest-newest.ensures.state in
     (left-long _ _ d.1 c.requires.1, later-refused _ _ d.0)
 
-pub returns-in-Done : goal.returns-in-Done
-returns-in-Done c =
-    let d = subst (OutcomeIs _ _ _ _ _) c.in-Done.is c.state_at_latest-newest.ensures.state in
+pub returns-in-Ok : goal.returns-in-Ok
+returns-in-Ok c =
+    let d = subst (OutcomeIs _ _ _ _ _) c.in-Ok.is c.state_at_latest-newest.ensures.state in
     answer-same _ _ _ _ _
     (listing_at-latest _ _ _ _ c.state_at_latest-newest.ensures.version d.0)
     (answer-left _ _ _ _ _ (later-listing _ _ _) d.1.left c.list_state.ensures)
 
-pub returns-in-Refused : goal.returns-in-Refused
+pub returns-in-Err : goal.returns-in-Err
 unfolding Later
-returns-in-Refused c =
-    let d = subst (OutcomeIs _ _ _ _ _) c.in-Refused.is c.state_at_latest-newest.ensures.state in
+returns-in-Err c =
+    let d = subst (OutcomeIs _ _ _ _ _) c.in-Err.is c.state_at_latest-newest.ensures.state in
     answer-same _ _ _ _ _ (listing_at-refused _ _ _ _ d.0) (answer-left _ _ _ _ _ (later-refused _ _ d.0) d.1 c.refuse.ensures)

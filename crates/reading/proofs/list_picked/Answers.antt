@@ -1,10 +1,9 @@
 -- `list_picked`: by the columns of the conditions, and then the picked rows as `Picked` says.
-use mathlib.Core.Path.{sym, subst, ◌∙◌}
+use mathlib.Core.Path.{sym, ◌∙◌}
 use Rattle.rules.specs.Live.{most_live}
 use Rattle.refusals.specs.Numbered.{numbered}
 use Rattle.query_conditions.specs.Reading.{columns_of}
 use Rattle.log_replay.specs.Views.{state_of}
-use Rattle.query_picking.specs.Picked.{PickedBy}
 use Rattle.reading.proofs.Rules.{listing-columns}
 use Rattle.reading.proofs.Rooms.{answer-same}
 use Rattle.reading.proofs.Picked.{settled-room, settled-stands, picks-few, picks-long, answer-listed, answer-range}
@@ -20,18 +19,18 @@ pick-requires c =
 
 pub bare-requires : goal.bare-requires
 bare-requires c =
-    let p = subst (PickedBy _ _ _ _ _) c.in-Rows.is c.pick.ensures in
+    let p = c.in-Ok.ensures in
     omega (arith, p.1.few, p.1.length, settled-room _ _ _ c.requires.0 _ c.settle.ensures)
 
 pub overflow_mul-end : goal.overflow_mul-end
 unfolding most_live
 overflow_mul-end c =
-    let p = subst (PickedBy _ _ _ _ _) c.in-Rows.is c.pick.ensures in
+    let p = c.in-Ok.ensures in
     omega (arith, p.1.few, c.requires.0.few)
 
 pub zero-requires : goal.zero-requires
 zero-requires c =
-    let p = subst (PickedBy _ _ _ _ _) c.in-Rows.is c.pick.ensures in (
+    let p = c.in-Ok.ensures in (
       omega (arith, picks-few _ _ _ _ c.requires.0 _ c.settle.ensures _ _ _ p.1 c.bare.ensures),
       picks-long _ _ _ _ c.requires.0 _ c.settle.ensures _ _ _ p.1 c.bare.ensures,
     )
@@ -39,20 +38,20 @@ zero-requires c =
 pub refuse-requires : goal.refuse-requires
 unfolding numbered
 refuse-requires c =
-    let p = subst (PickedBy _ _ _ _ _) c.in-OutOfRange.is c.pick.ensures in
+    let p = c.in-Err.ensures in
     (omega (arith, c.requires.0.room, c.settle.ensures.length, p.2), λ n. omega arith)
 
-pub returns-in-Rows : goal.returns-in-Rows
+pub returns-in-Ok : goal.returns-in-Ok
 unfolding state_of columns_of
-returns-in-Rows c =
-    let p = subst (PickedBy _ _ _ _ _) c.in-Rows.is c.pick.ensures in
+returns-in-Ok c =
+    let p = c.in-Ok.ensures in
     answer-listed _ _ _ _ c.requires.0 _ c.settle.ensures _ _ _ p.1 c.bare.ensures _ _ _ c.requires.2 (sym c.all_columns.ensures ∙ c.if-all_columns.true) p.0
     c.zero.ensures
 
-pub returns-in-OutOfRange : goal.returns-in-OutOfRange
+pub returns-in-Err : goal.returns-in-Err
 unfolding state_of columns_of numbered
-returns-in-OutOfRange c =
-    let p = subst (PickedBy _ _ _ _ _) c.in-OutOfRange.is c.pick.ensures in
+returns-in-Err c =
+    let p = c.in-Err.ensures in
     answer-range _ _ _ _ c.requires.0 _ c.settle.ensures _ _ _ _ _ c.requires.2 (sym c.all_columns.ensures ∙ c.if-all_columns.true) p c.refuse.ensures
 
 pub refuse-requires-2 : goal.refuse-requires-2

@@ -1,15 +1,6 @@
--- `zero` writes zeros: each turn writes one more, as `Zeroing` says.
-use Rattle.facts.proofs.Zeroing.{zeroing-start, zeroing-turn, zeroing-end}
+-- What `fill` writes is zeros.
+use Rattle.rooms.proofs.Filled.{filled}
 use Rattle.rooms.proofs.zero.Goals as goal
 
-pub loop-i-init : goal.loop-i-init
-loop-i-init c = zeroing-start c.args.t.now c.requires.0
-
-pub loop-i-preserved : goal.loop-i-preserved
-loop-i-preserved c = zeroing-turn c.requires.1 c.loop-i.invariant c.loop-i-test.true
-
-pub shape_of-t : goal.shape_of-t
-shape_of-t c = c.loop-i.invariant.length
-
 pub returns : goal.returns
-returns c = zeroing-end c.loop-i.invariant c.loop-i-test.false
+returns c = filled c.args.from c.args.to c.args.t.now _ c.requires.0 c.requires.1 (c.fill.ensures.after (λ y e. e))

@@ -70,7 +70,7 @@ loop-lo-preserved c =
     c.loop-lo.invariant
     (omega arith)
     (omega arith)
-    (sym c.in-More.is ∙ c.order_raw.ensures)
+    (sym c.in-Greater.is ∙ c.order_raw.ensures)
 
 pub returns : goal.returns
 returns c = halving-end c.loop-lo.invariant c.loop-lo-test.false

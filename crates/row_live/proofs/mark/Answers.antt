@@ -14,27 +14,27 @@ find-requires c =
 
 pub overflow_add-at : goal.overflow_add-at
 overflow_add-at c =
-    let f = held-onward c.args.src.now (decoded (drop c.args.path c.args.src.now)) c.args.base c.args.n c.in-Held.k c.args.t.now c.in-Held.is c.find.ensures in
+    let f = held-onward c.args.src.now (decoded (drop c.args.path c.args.src.now)) c.args.base c.args.n c.in-Ok.k c.args.t.now c.in-Ok.is c.find.ensures in
     omega (arith, f.0, c.requires.2, c.ranges)
 
 pub row_at-was-requires : goal.row_at-was-requires
 row_at-was-requires c =
-    let f = held-onward c.args.src.now (decoded (drop c.args.path c.args.src.now)) c.args.base c.args.n c.in-Held.k c.args.t.now c.in-Held.is c.find.ensures in
+    let f = held-onward c.args.src.now (decoded (drop c.args.path c.args.src.now)) c.args.base c.args.n c.in-Ok.k c.args.t.now c.in-Ok.is c.find.ensures in
     omega (arith, f.0, c.requires.2)
 
 pub set_row-requires : goal.set_row-requires
 set_row-requires c =
-    let f = held-onward c.args.src.now (decoded (drop c.args.path c.args.src.now)) c.args.base c.args.n c.in-Held.k c.args.t.now c.in-Held.is c.find.ensures in
+    let f = held-onward c.args.src.now (decoded (drop c.args.path c.args.src.now)) c.args.base c.args.n c.in-Ok.k c.args.t.now c.in-Ok.is c.find.ensures in
     omega (arith, f.0, c.requires.2)
 
-pub returns-in-Held : goal.returns-in-Held
-returns-in-Held c limit l room =
-    let f = held-onward c.args.src.now (decoded (drop c.args.path c.args.src.now)) c.args.base c.args.n c.in-Held.k c.args.t.now c.in-Held.is c.find.ensures in
+pub returns-in-Ok : goal.returns-in-Ok
+returns-in-Ok c limit l room =
+    let f = held-onward c.args.src.now (decoded (drop c.args.path c.args.src.now)) c.args.base c.args.n c.in-Ok.k c.args.t.now c.in-Ok.is c.find.ensures in
     became-marked c.args.base c.args.n limit c.requires.0 room _ c.args.skips c.args.retry _ c.row_at-was.result l f
     (c.row_at-was.ensures (c.args.base + c.args.n) (omega (arith, f.0)))
     (c.set_row.ensures (c.args.base + c.args.n) (omega (arith, f.0)) c.requires.2)
 
-pub returns-in-Place : goal.returns-in-Place
-returns-in-Place c limit l room =
+pub returns-in-Err : goal.returns-in-Err
+returns-in-Err c limit l room =
     became-unmarked c.args.base c.args.n limit c.requires.0 room _ c.args.skips c.args.retry _ l
-    (place-onward c.args.src.now (decoded (drop c.args.path c.args.src.now)) c.args.base c.args.n c.in-Place.field-0 c.args.t.now c.in-Place.is c.find.ensures)
+    (place-onward c.args.src.now (decoded (drop c.args.path c.args.src.now)) c.args.base c.args.n c.in-Err.field-0 c.args.t.now c.in-Err.is c.find.ensures)

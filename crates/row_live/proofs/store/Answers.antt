@@ -14,22 +14,22 @@ find-requires c =
 
 pub overflow_add-base : goal.overflow_add-base
 overflow_add-base c =
-    let f = held-onward c.args.src.now (key c.args.src.now c.args.c) c.args.base c.args.n c.in-Held.k c.args.t.now c.in-Held.is c.find.ensures in
+    let f = held-onward c.args.src.now (key c.args.src.now c.args.c) c.args.base c.args.n c.in-Ok.k c.args.t.now c.in-Ok.is c.find.ensures in
     omega (arith, f.0, c.requires.3, c.requires.4, c.ranges)
 
 pub set_row-requires : goal.set_row-requires
 set_row-requires c =
-    let f = held-onward c.args.src.now (key c.args.src.now c.args.c) c.args.base c.args.n c.in-Held.k c.args.t.now c.in-Held.is c.find.ensures in
+    let f = held-onward c.args.src.now (key c.args.src.now c.args.c) c.args.base c.args.n c.in-Ok.k c.args.t.now c.in-Ok.is c.find.ensures in
     omega (arith, f.0, c.requires.3, c.requires.4)
 
 pub put_in-before-requires : goal.put_in-before-requires
 put_in-before-requires c =
-    let g = place-onward c.args.src.now (key c.args.src.now c.args.c) c.args.base c.args.n c.in-Place.k c.args.t.now c.in-Place.is c.find.ensures in
+    let g = place-onward c.args.src.now (key c.args.src.now c.args.c) c.args.base c.args.n c.in-Err.k c.args.t.now c.in-Err.is c.find.ensures in
     (omega (arith, g.hi-le, length-rows_of wide row c.args.n (behind c.args.base c.args.t.now)), c.requires.2, c.requires.3, c.requires.4)
 
-pub returns-in-Held : goal.returns-in-Held
-returns-in-Held c =
-    let f = held-onward c.args.src.now (key c.args.src.now c.args.c) c.args.base c.args.n c.in-Held.k c.args.t.now c.in-Held.is c.find.ensures in
+pub returns-in-Ok : goal.returns-in-Ok
+returns-in-Ok c =
+    let f = held-onward c.args.src.now (key c.args.src.now c.args.c) c.args.base c.args.n c.in-Ok.k c.args.t.now c.in-Ok.is c.find.ensures in
     became-over
     c.args.base
     c.args.n
@@ -43,9 +43,9 @@ returns-in-Held c =
     f
     (c.set_row.ensures (c.args.base + c.args.n) (omega (arith, f.0)) (omega (arith, c.requires.3, c.requires.4)))
 
-pub returns-in-Place : goal.returns-in-Place
-returns-in-Place c =
-    let g = place-onward c.args.src.now (key c.args.src.now c.args.c) c.args.base c.args.n c.in-Place.k c.args.t.now c.in-Place.is c.find.ensures in
+pub returns-in-Err : goal.returns-in-Err
+returns-in-Err c =
+    let g = place-onward c.args.src.now (key c.args.src.now c.args.c) c.args.base c.args.n c.in-Err.k c.args.t.now c.in-Err.is c.find.ensures in
     became-more
     c.args.base
     c.args.n

@@ -13,20 +13,20 @@ find-requires c =
 
 pub take_away-before-requires : goal.take_away-before-requires
 take_away-before-requires c =
-    let f = held-onward c.args.src.now (decoded (drop c.args.path c.args.src.now)) c.args.base c.args.n c.in-Held.k c.args.t.now c.in-Held.is c.find.ensures in
+    let f = held-onward c.args.src.now (decoded (drop c.args.path c.args.src.now)) c.args.base c.args.n c.in-Ok.k c.args.t.now c.in-Ok.is c.find.ensures in
     (f.0, c.requires.2, c.requires.3)
 
 pub overflow_sub-result : goal.overflow_sub-result
 overflow_sub-result c =
-    let f = held-onward c.args.src.now (decoded (drop c.args.path c.args.src.now)) c.args.base c.args.n c.in-Held.k c.args.t.now c.in-Held.is c.find.ensures in
+    let f = held-onward c.args.src.now (decoded (drop c.args.path c.args.src.now)) c.args.base c.args.n c.in-Ok.k c.args.t.now c.in-Ok.is c.find.ensures in
     omega (arith, f.0)
 
-pub returns-in-Held : goal.returns-in-Held
-returns-in-Held c =
-    let f = held-onward c.args.src.now (decoded (drop c.args.path c.args.src.now)) c.args.base c.args.n c.in-Held.k c.args.t.now c.in-Held.is c.find.ensures in
+pub returns-in-Ok : goal.returns-in-Ok
+returns-in-Ok c =
+    let f = held-onward c.args.src.now (decoded (drop c.args.path c.args.src.now)) c.args.base c.args.n c.in-Ok.k c.args.t.now c.in-Ok.is c.find.ensures in
     became-less c.args.base c.args.n c.args.limit c.requires.0 c.requires.3 _ _ _ f c.take_away-before.ensures
 
-pub returns-in-Place : goal.returns-in-Place
-returns-in-Place c =
+pub returns-in-Err : goal.returns-in-Err
+returns-in-Err c =
     became-same c.args.base c.args.n c.args.limit c.requires.0 c.requires.3 _ _ c.requires.2
-    (place-onward c.args.src.now (decoded (drop c.args.path c.args.src.now)) c.args.base c.args.n c.in-Place.field-0 c.args.t.now c.in-Place.is c.find.ensures)
+    (place-onward c.args.src.now (decoded (drop c.args.path c.args.src.now)) c.args.base c.args.n c.in-Err.field-0 c.args.t.now c.in-Err.is c.find.ensures)

@@ -1,6 +1,6 @@
 -- Loops with a bound: any bound from the number of bytes on gives the same, because a loop takes a byte or more for each turn.
 use mathlib.Core.Path.{◌≡◌, refl, sym, ap, ◌∙◌, subst}
-use mathlib.Core.Option.{Option, none, some}
+use Rattle.std.specs.Prelude.{Option, None, Some}
 use mathlib.Core.List.{◌++◌, append_assoc}
 use Prim.Native.Nat.{ℕ, zero, suc, ◌+◌, ◌≤◌}
 use native.Mathlib.Omega.{arith}
@@ -28,13 +28,13 @@ within-reads h = record {
 }
 
 abbrev pub EachWithin : {A : Type 0} → (ℕ → Taker A) → Type 0
-EachWithin {A} read = (n : ℕ) (x : A) (t r : Text) → read n t ≡ some (x, r) → Within read (λ v. some (x, v)) t r
+EachWithin {A} read = (n : ℕ) (x : A) (t r : Text) → read n t ≡ Some (x, r) → Within read (λ v. Some (x, v)) t r
 
 module _ {A : Type 0} {read : ℕ → Taker A} (each : EachWithin read) where
   -- an answer is the answer under every bound from the number of bytes on
-  pub within_more : {n m : ℕ} {t : Text} {p : A × Text} → read n t ≡ some p → length t ≤ m → read m t ≡ some p
+  pub within_more : {n m : ℕ} {t : Text} {p : A × Text} → read n t ≡ Some p → length t ≤ m → read m t ≡ Some p
   within_more {n} {m} {t} {p} e l =
-      let h : Within read (λ v. some (p.0, v)) t p.1 = each n p.0 t p.1 e in
+      let h : Within read (λ v. Some (p.0, v)) t p.1 = each n p.0 t p.1 e in
       let k : length t ≡ length h.passed + length p.1 = ap length h.split ∙ length-append h.passed p.1 in
       ap (read m) h.split ∙ h.again m (omega arith) p.1 (beside_same p.1)
 
@@ -42,14 +42,14 @@ module _ {A : Type 0} {read : ℕ → Taker A} (each : EachWithin read) where
   within-bound {n} {m} {t} k l = go (read n t) refl (read m t) refl
     where
       go : (o : Option (A × Text)) → read n t ≡ o → (q : Option (A × Text)) → read m t ≡ q → read n t ≡ read m t
-      go (some p) e q f = e ∙ sym (within_more e l)
-      go none e (some p) f = apart (cc (within_more f k))
-      go none e none f = e ∙ sym f
+      go (Some p) e q f = e ∙ sym (within_more e l)
+      go None e (Some p) f = apart (cc (within_more f k))
+      go None e None f = e ∙ sym f
 
 -- the same answer, written in two ways
-pub within-taken : {A : Type 0} {read : ℕ → Taker A} {t : Text} {p q : A × Text} → some p ≡ some q
-    → Within read (λ v. some (p.0, v)) t p.1 → Within read (λ v. some (q.0, v)) t q.1
-within-taken {A} {read} {t} e h = subst (λ (y : A × Text). Within read (λ v. some (y.0, v)) t y.1) (some_same e) h
+pub within-taken : {A : Type 0} {read : ℕ → Taker A} {t : Text} {p q : A × Text} → Some p ≡ Some q
+    → Within read (λ v. Some (p.0, v)) t p.1 → Within read (λ v. Some (q.0, v)) t q.1
+within-taken {A} {read} {t} e h = subst (λ (y : A × Text). Within read (λ v. Some (y.0, v)) t y.1) (some_same e) h
 
 -- ---- loops, turn by turn
 

@@ -1,6 +1,6 @@
 -- A container looks at nothing behind its closing byte: where more text follows, the same is read, and more is left.
 use mathlib.Core.Path.{◌≡◌, refl, sym, ap, ◌∙◌}
-use mathlib.Core.Option.{Option, none, some}
+use Rattle.std.specs.Prelude.{Option, None, Some}
 use mathlib.Core.List.{List, [], ◌∷◌, ◌++◌, append_assoc}
 use Prim.Native.Nat.{ℕ, zero, suc, ◌+◌, ◌≤◌}
 use native.Mathlib.Omega.{arith}
@@ -84,71 +84,71 @@ module _ (close : ℕ) (w u : Text) where
 -- ---- items
 
 module _ {A : Type 0} {item : Taker A} (each : EachTakes 1 item) (close : ℕ) (u : Text) where
-  item-extends : (x : A) (t : Text) (b : ℕ) (w : Text) → item t ≡ some (x, b ∷ w) → item (t ++ u) ≡ some (x, b ∷ (w ++ u))
+  item-extends : (x : A) (t : Text) (b : ℕ) (w : Text) → item t ≡ Some (x, b ∷ w) → item (t ++ u) ≡ Some (x, b ∷ (w ++ u))
   item-extends x t b w e =
       let h = each x t (b ∷ w) e in
       ap (λ (v : Text). item (v ++ u)) h.split ∙ ap item (append_assoc h.passed (b ∷ w) u) ∙ h.again (b ∷ (w ++ u)) alike
 
-  items-step : (n : ℕ) (t : Text) {x : A} {r : Text} → item t ≡ some (x, r)
+  items-step : (n : ℕ) (t : Text) {x : A} {r : Text} → item t ≡ Some (x, r)
       → items item close (suc n) t ≡ after_item x (closing close r) (λ v. items item close n v)
   unfolding items
   items-step n t e = rw (items, e)
 
-  items-end : (n : ℕ) {p : List A × Text} → items item close n [] ≡ some p → ⊥
+  items-end : (n : ℕ) {p : List A × Text} → items item close n [] ≡ Some p → ⊥
   unfolding items
   items-end zero e = apart (cc)
   items-end (suc n) e = bound (item []) _ e (λ q f g. let few : length q.1 + 1 ≤ 0 = reads-fewer (each q.0 [] q.1 f) in absurd (omega arith))
 
-  items-extends : (n : ℕ) (t : Text) (xs : List A) (r : Text) → items item close n t ≡ some (xs, r) → items item close n (t ++ u) ≡ some (xs, r ++ u)
+  items-extends : (n : ℕ) (t : Text) (xs : List A) (r : Text) → items item close n t ≡ Some (xs, r) → items item close n (t ++ u) ≡ Some (xs, r ++ u)
   unfolding items after_item and_then closing closed_by ws
   items-extends zero t xs r e = apart (cc)
   items-extends (suc n) t xs r e = bound (item t) _ e (λ p f g. one (λ w ys q. items-extends n w ys q) p.0 p.1 f g)
     where
-      one : ((w : Text) (ys : List A) (q : Text) → items item close n w ≡ some (ys, q) → items item close n (w ++ u) ≡ some (ys, q ++ u))
-          → (x : A) (w : Text) → item t ≡ some (x, w) → after_item x (closing close w) (λ v. items item close n v) ≡ some (xs, r)
-          → items item close (suc n) (t ++ u) ≡ some (xs, r ++ u)
+      one : ((w : Text) (ys : List A) (q : Text) → items item close n w ≡ Some (ys, q) → items item close n (w ++ u) ≡ Some (ys, q ++ u))
+          → (x : A) (w : Text) → item t ≡ Some (x, w) → after_item x (closing close w) (λ v. items item close n v) ≡ Some (xs, r)
+          → items item close (suc n) (t ++ u) ≡ Some (xs, r ++ u)
       one ih x [] f g = apart (cc)
       one ih x (b ∷ w) f g = turn (closing close (b ∷ w)) refl g
         where
           here : items item close (suc n) (t ++ u) ≡ after_item x (closing close (b ∷ (w ++ u))) (λ v. items item close n v)
           here = items-step n (t ++ u) (item-extends x t b w f)
 
-          turn : (c : Behind) → closing close (b ∷ w) ≡ c → after_item x c (λ v. items item close n v) ≡ some (xs, r)
-              → items item close (suc n) (t ++ u) ≡ some (xs, r ++ u)
+          turn : (c : Behind) → closing close (b ∷ w) ≡ c → after_item x c (λ v. items item close n v) ≡ Some (xs, r)
+              → items item close (suc n) (t ++ u) ≡ Some (xs, r ++ u)
           turn (closed v) h k =
               here ∙ ap (λ c. after_item x c (λ v. items item close n v)) (closing-closed-more close (b ∷ w) u h)
-              ∙ ap (λ (p : List A × Text). some (p.0, p.1 ++ u)) (some_same k)
+              ∙ ap (λ (p : List A × Text). Some (p.0, p.1 ++ u)) (some_same k)
           turn neither h k = apart (cc)
           turn (onward []) h k = last (items item close n []) refl k
             where
-              last : (o : Option (List A × Text)) → items item close n [] ≡ o → and_then x o ≡ some (xs, r)
-                  → items item close (suc n) (t ++ u) ≡ some (xs, r ++ u)
-              last none i j = apart (cc)
-              last (some p) i j = absurd (items-end n i)
+              last : (o : Option (List A × Text)) → items item close n [] ≡ o → and_then x o ≡ Some (xs, r)
+                  → items item close (suc n) (t ++ u) ≡ Some (xs, r ++ u)
+              last None i j = apart (cc)
+              last (Some p) i j = absurd (items-end n i)
           turn (onward (c ∷ v)) h k = next (items item close n (c ∷ v)) refl k
             where
-              next : (o : Option (List A × Text)) → items item close n (c ∷ v) ≡ o → and_then x o ≡ some (xs, r)
-                  → items item close (suc n) (t ++ u) ≡ some (xs, r ++ u)
-              next none i j = apart (cc)
-              next (some p) i j =
+              next : (o : Option (List A × Text)) → items item close n (c ∷ v) ≡ o → and_then x o ≡ Some (xs, r)
+                  → items item close (suc n) (t ++ u) ≡ Some (xs, r ++ u)
+              next None i j = apart (cc)
+              next (Some p) i j =
                   here ∙ ap (λ c. after_item x c (λ v. items item close n v)) (closing-onward-more close (b ∷ w) u h)
-                  ∙ ap (and_then x) (ih (c ∷ v) p.0 p.1 i) ∙ ap (λ (p : List A × Text). some (p.0, p.1 ++ u)) (some_same j)
+                  ∙ ap (and_then x) (ih (c ∷ v) p.0 p.1 i) ∙ ap (λ (p : List A × Text). Some (p.0, p.1 ++ u)) (some_same j)
 
-  list-extends : (t : Text) (xs : List A) (r : Text) → list item close t ≡ some (xs, r) → list item close (t ++ u) ≡ some (xs, r ++ u)
+  list-extends : (t : Text) (xs : List A) (r : Text) → list item close t ≡ Some (xs, r) → list item close (t ++ u) ≡ Some (xs, r ++ u)
   unfolding list items_behind
   list-extends t xs r e = go (opening close t) refl e
     where
-      go : (c : Behind) → opening close t ≡ c → items_behind item close c ≡ some (xs, r) → list item close (t ++ u) ≡ some (xs, r ++ u)
-      go (closed v) h k = list-closed item close (t ++ u) (opening-closed-more close t u h) ∙ ap (λ (p : List A × Text). some (p.0, p.1 ++ u)) (some_same k)
+      go : (c : Behind) → opening close t ≡ c → items_behind item close c ≡ Some (xs, r) → list item close (t ++ u) ≡ Some (xs, r ++ u)
+      go (closed v) h k = list-closed item close (t ++ u) (opening-closed-more close t u h) ∙ ap (λ (p : List A × Text). Some (p.0, p.1 ++ u)) (some_same k)
       go neither h k = apart (cc)
       go (onward v) h k = list-onward item close (t ++ u) (opening-onward-more close t u h)
           ∙ within_more (items-within item close each) {n = suc (length v)} {m = suc (length (v ++ u))} (items-extends (suc (length v)) v xs r k) (omega arith)
 
-pub contents-extends : (d : ℕ) (t u : Text) (ms : List Member) (r : Text) → contents (value d) t ≡ some (ms, r)
-    → contents (value d) (t ++ u) ≡ some (ms, r ++ u)
+pub contents-extends : (d : ℕ) (t u : Text) (ms : List Member) (r : Text) → contents (value d) t ≡ Some (ms, r)
+    → contents (value d) (t ++ u) ≡ Some (ms, r ++ u)
 contents-extends d t u ms r e =
     contents-list (value d) (t ++ u) ∙ list-extends (member-reads (value-reads d)) 0x7D u t ms r (sym (contents-list (value d) t) ∙ e)
 
-pub elements-extends : (d : ℕ) (t u : Text) (vs : List Text) (r : Text) → elements (value d) t ≡ some (vs, r) → elements (value d) (t ++ u) ≡ some (vs, r ++ u)
+pub elements-extends : (d : ℕ) (t u : Text) (vs : List Text) (r : Text) → elements (value d) t ≡ Some (vs, r) → elements (value d) (t ++ u) ≡ Some (vs, r ++ u)
 elements-extends d t u vs r e =
     elements-list (value d) (t ++ u) ∙ list-extends (spelled-reads (value-reads d)) 0x5D u t vs r (sym (elements-list (value d) t) ∙ e)

@@ -1,7 +1,7 @@
 -- Fields by name: what stands under a name in a list that grows, and what a field is by the number of times that it stands there.
 use mathlib.Core.Path.{◌≡◌, refl, sym, ap, ◌∙◌}
 use mathlib.Core.Bool.{Bool, true, false}
-use mathlib.Core.Option.{Option, none, some}
+use Rattle.std.specs.Prelude.{Option, None, Some}
 use mathlib.Core.List.{List, [], ◌∷◌, ◌++◌, append-nil}
 use Prim.Native.Nat.{◌≤◌}
 use Prim.Native.String.{String}
@@ -47,13 +47,13 @@ module _ (name : Bytes) where
 
 -- ---- a field that stands twice or more
 
-pub sole-more : (vs : List Text) → 2 ≤ length vs → sole vs ≡ none
+pub sole-more : (vs : List Text) → 2 ≤ length vs → sole vs ≡ None
 unfolding sole
 sole-more [] n = refl
 sole-more (v ∷ []) n = absurd (omega (arith, n))
 sole-more (v ∷ w ∷ vs) n = refl
 
-pub sole_or_none-more : (vs : List Text) → 2 ≤ length vs → sole_or_none vs ≡ none
+pub sole_or_none-more : (vs : List Text) → 2 ≤ length vs → sole_or_none vs ≡ None
 unfolding sole_or_none
 sole_or_none-more [] n = absurd (omega (arith, n))
 sole_or_none-more (v ∷ []) n = absurd (omega (arith, n))
@@ -62,23 +62,23 @@ sole_or_none-more (v ∷ w ∷ vs) n = refl
 -- ---- fields, by what stands under their name
 
 module _ (name : String) (ms : List Member) where
-  pub once-missing : under (ascii name) ms ≡ [] → once name ms ≡ none
+  pub once-missing : under (ascii name) ms ≡ [] → once name ms ≡ None
   unfolding once sole
   once-missing e = rw (once, e)
 
-  pub once-there : {v : Text} → under (ascii name) ms ≡ v ∷ [] → once name ms ≡ some v
+  pub once-there : {v : Text} → under (ascii name) ms ≡ v ∷ [] → once name ms ≡ Some v
   unfolding once sole
   once-there e = rw (once, e)
 
-  pub once-twice : 2 ≤ length (under (ascii name) ms) → once name ms ≡ none
+  pub once-twice : 2 ≤ length (under (ascii name) ms) → once name ms ≡ None
   unfolding once
   once-twice n = sole-more (under (ascii name) ms) n
 
-  pub optional-missing : under (ascii name) ms ≡ [] → optional name ms ≡ some none
+  pub optional-missing : under (ascii name) ms ≡ [] → optional name ms ≡ Some None
   unfolding optional sole_or_none
   optional-missing e = rw (optional, e)
 
-  pub optional-twice : 2 ≤ length (under (ascii name) ms) → optional name ms ≡ none
+  pub optional-twice : 2 ≤ length (under (ascii name) ms) → optional name ms ≡ None
   unfolding optional
   optional-twice n = sole_or_none-more (under (ascii name) ms) n
 
@@ -93,52 +93,52 @@ module _ (name : String) (ms : List Member) where
 -- ---- a string or null, and lists of strings
 
 module _ (v : Text) where
-  pub string_or_null-null : is_null v ≡ true → string_or_null v ≡ some none
+  pub string_or_null-null : is_null v ≡ true → string_or_null v ≡ Some None
   unfolding string_or_null
   string_or_null-null n = rw (string_or_null, n)
 
-  pub string_or_null-there : {s : Bytes} → is_null v ≡ false → string_of v ≡ some s → string_or_null v ≡ some (some s)
+  pub string_or_null-there : {s : Bytes} → is_null v ≡ false → string_of v ≡ Some s → string_or_null v ≡ Some (Some s)
   unfolding string_or_null
   string_or_null-there n e = rw (string_or_null, n, e)
 
-  pub string_or_null-none : is_null v ≡ false → string_of v ≡ none → string_or_null v ≡ none
+  pub string_or_null-none : is_null v ≡ false → string_of v ≡ None → string_or_null v ≡ None
   unfolding string_or_null
   string_or_null-none n e = rw (string_or_null, n, e)
 
-null-no-string : string_of (ascii "null") ≡ none
+null-no-string : string_of (ascii "null") ≡ None
 unfolding ascii string_of byte
 null-no-string = refl
 
-pub string_or_null-text : (v : Text) {b : Bytes} → string_of v ≡ some b → string_or_null v ≡ some (some b)
+pub string_or_null-text : (v : Text) {b : Bytes} → string_of v ≡ Some b → string_or_null v ≡ Some (Some b)
 unfolding is_null
 string_or_null-text v e = by (is_null v)
     (λ n. answered-none e (ap string_of (same_true v (ascii "null") n) ∙ null-no-string))
     (λ n. string_or_null-there v n e)
 
 -- a value that is one of the two is the string where there is a string, and null where there is none
-module _ (v : Text) {x : Option Bytes} (f : string_or_null v ≡ some x) where
-  pub string_or_null-string : {b : Bytes} → string_of v ≡ some b → x ≡ some b
+module _ (v : Text) {x : Option Bytes} (f : string_or_null v ≡ Some x) where
+  pub string_or_null-string : {b : Bytes} → string_of v ≡ Some b → x ≡ Some b
   string_or_null-string e = some_same (sym f ∙ string_or_null-text v e)
 
-  pub string_or_null-no-string : string_of v ≡ none → x ≡ none
+  pub string_or_null-no-string : string_of v ≡ None → x ≡ None
   string_or_null-no-string e = by (is_null v) (λ n. some_same (sym f ∙ string_or_null-null v n)) (λ n. answered-none f (string_or_null-none v n e))
 
 -- one string more at the end
-pub strings-last : (vs : List Text) (v : Text) {ss : List Bytes} {s : Bytes} → strings vs ≡ some ss → string_of v ≡ some s
-    → strings (vs ++ (v ∷ [])) ≡ some (ss ++ (s ∷ []))
+pub strings-last : (vs : List Text) (v : Text) {ss : List Bytes} {s : Bytes} → strings vs ≡ Some ss → string_of v ≡ Some s
+    → strings (vs ++ (v ∷ [])) ≡ Some (ss ++ (s ∷ []))
 unfolding strings
 strings-last [] v {ss} {s} e f = rw (f, ← some_same e)
 strings-last (w ∷ vs) v {ss} {s} e f =
     bound (string_of w) _ e (λ x g h.
     bound (strings vs) _ h (λ xs i j.
-    rw (g, strings-last vs v i f) (ap (λ (l : List Bytes). some (l ++ (s ∷ []))) (some_same j))))
+    rw (g, strings-last vs v i f) (ap (λ (l : List Bytes). Some (l ++ (s ∷ []))) (some_same j))))
 
 -- one value that is none
-pub strings-none : (vs : List Text) (v : Text) (ws : List Text) → string_of v ≡ none → strings (vs ++ (v ∷ ws)) ≡ none
+pub strings-none : (vs : List Text) (v : Text) (ws : List Text) → string_of v ≡ None → strings (vs ++ (v ∷ ws)) ≡ None
 unfolding strings
 strings-none [] v ws f = rw f
 strings-none (w ∷ vs) v ws f = go (strings-none vs v ws f) (string_of w)
   where
-    go : strings (vs ++ (v ∷ ws)) ≡ none → (o : Option Bytes) → (o >>= (λ s. strings (vs ++ (v ∷ ws)) >>= (λ ss. some (s ∷ ss)))) ≡ none
-    go ih none = refl
-    go ih (some s) = rw ih
+    go : strings (vs ++ (v ∷ ws)) ≡ None → (o : Option Bytes) → (o >>= (λ s. strings (vs ++ (v ∷ ws)) >>= (λ ss. Some (s ∷ ss)))) ≡ None
+    go ih None = refl
+    go ih (Some s) = rw ih

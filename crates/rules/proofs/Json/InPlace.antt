@@ -1,7 +1,7 @@
 -- The text of a value, by its first byte: what the paper asks of the text is answered in its place, so that code reads it once.
 use mathlib.Core.Path.{◌≡◌, refl, sym, ap, ◌∙◌, subst}
 use mathlib.Core.Bool.{true, false}
-use mathlib.Core.Option.{Option, none, some}
+use Rattle.std.specs.Prelude.{Option, None, Some}
 use mathlib.Core.List.{List, ◌∷◌}
 use Prim.Native.Nat.{ℕ, suc, ◌+◌, ◌-◌, ◌≤◌}
 use native.Mathlib.Omega.{arith}
@@ -32,7 +32,7 @@ before-cons b t r h = ap (λ (n : ℕ). take n (b ∷ t)) n
     n : suc (length t) - length r ≡ suc (length t - length r)
     n = omega arith
 
-module _ (d b : ℕ) (t x r : Text) (e : spelled (value d) (b ∷ t) ≡ some (x, r)) where
+module _ (d b : ℕ) (t x r : Text) (e : spelled (value d) (b ∷ t) ≡ Some (x, r)) where
   pub value-text : x ≡ b ∷ before t r
   value-text =
       let fewer : length r + 1 ≤ length (b ∷ t) = reads-fewer (value-reads d (b ∷ t) r (spelled-left (value d) (b ∷ t) e)) in
@@ -50,68 +50,68 @@ ws-cases P b e p q r s =
     let z : is_ws b ≡ false = rw (is_ws, h, i, j, k) in
     apart (cc (e, z))))))
 
-pub value-ws : (d b : ℕ) (t : Text) → is_ws b ≡ true → value d (b ∷ t) ≡ none
+pub value-ws : (d b : ℕ) (t : Text) → is_ws b ≡ true → value d (b ∷ t) ≡ None
 unfolding scalar number minus int digits1 is_digit among
-value-ws d b t e = ws-cases (λ c. value d (c ∷ t) ≡ none) b e
+value-ws d b t e = ws-cases (λ c. value d (c ∷ t) ≡ None) b e
     (value-scalar d 0x20 t (λ h. omega arith) (λ h. omega arith))
     (value-scalar d 0x09 t (λ h. omega arith) (λ h. omega arith))
     (value-scalar d 0x0A t (λ h. omega arith) (λ h. omega arith))
     (value-scalar d 0x0D t (λ h. omega arith) (λ h. omega arith))
 
 -- so white space is not passed over in front of its text
-value-here : (d b : ℕ) (t y : Text) {r : Text} → value d (b ∷ t) ≡ some r → ws (b ∷ y) ≡ b ∷ y
+value-here : (d b : ℕ) (t y : Text) {r : Text} → value d (b ∷ t) ≡ Some r → ws (b ∷ y) ≡ b ∷ y
 value-here d b t y e = by (is_ws b)
     (λ p. answered-none e (value-ws d b t p))
     (λ p. ws-stop b y p)
 
 -- ---- what the text of a value holds, by a reader that begins behind its first byte
 
-module _ {A : Type 0} (of : Text → Option A) (d b : ℕ) (t x r : Text) (e : spelled (value d) (b ∷ t) ≡ some (x, r)) where
-  inside-text : (inside : Taker A) → value d (b ∷ t) ≡ behind (inside t) → ((a : A) → inside t ≡ some (a, r) → of (b ∷ before t r) ≡ some a)
-      → (a : A) × (inside t ≡ some (a, r)) × (of x ≡ some a)
+module _ {A : Type 0} (of : Text → Option A) (d b : ℕ) (t x r : Text) (e : spelled (value d) (b ∷ t) ≡ Some (x, r)) where
+  inside-text : (inside : Taker A) → value d (b ∷ t) ≡ behind (inside t) → ((a : A) → inside t ≡ Some (a, r) → of (b ∷ before t r) ≡ Some a)
+      → (a : A) × (inside t ≡ Some (a, r)) × (of x ≡ Some a)
   inside-text inside v h =
       let (a, f) = behind-some (inside t) (sym v ∙ spelled-left (value d) (b ∷ t) e) in
       (a, f, ap of (value-text d b t x r e) ∙ h a f)
 
   -- it begins with another byte than c
-  other_text : (c : ℕ) → ((u : Text) → byte c (ws u) ≡ none → of u ≡ none) → (b ≡ c → ⊥) → of x ≡ none
+  other_text : (c : ℕ) → ((u : Text) → byte c (ws u) ≡ None → of u ≡ None) → (b ≡ c → ⊥) → of x ≡ None
   other_text c h n = ap of (value-text d b t x r e) ∙ h (b ∷ before t r)
       (ap (byte c) (value-here d b t (before t r) (spelled-left (value d) (b ∷ t) e)) ∙ byte-other c b (before t r) (ne_eqb b c n))
 
 -- ---- objects
 
-pub object_of-alone : (d : ℕ) (ms : List Member) (t r : Text) → contents (value d) t ≡ some (ms, r) → object_of d (0x7B ∷ before t r) ≡ some ms
+pub object_of-alone : (d : ℕ) (ms : List Member) (t r : Text) → contents (value d) t ≡ Some (ms, r) → object_of d (0x7B ∷ before t r) ≡ Some ms
 unfolding ws is_ws first byte
 object_of-alone d ms t r e = object_of-contents d (0x7B ∷ before t r) refl ∙ alone-end (contents-alone d ms t r e) refl
 
-pub object-text : (d : ℕ) (t x r : Text) → spelled (value (suc d)) (0x7B ∷ t) ≡ some (x, r)
-    → (ms : List Member) × (contents (value d) t ≡ some (ms, r)) × (object_of d x ≡ some ms)
+pub object-text : (d : ℕ) (t x r : Text) → spelled (value (suc d)) (0x7B ∷ t) ≡ Some (x, r)
+    → (ms : List Member) × (contents (value d) t ≡ Some (ms, r)) × (object_of d x ≡ Some ms)
 object-text d t x r e = inside-text (object_of d) (suc d) 0x7B t x r e (contents (value d)) (value-object (suc d) d t refl) (λ ms f. object_of-alone d ms t r f)
 
-pub object_of-other : (c d b : ℕ) (t x r : Text) → (b ≡ 0x7B → ⊥) → spelled (value d) (b ∷ t) ≡ some (x, r) → object_of c x ≡ none
+pub object_of-other : (c d b : ℕ) (t x r : Text) → (b ≡ 0x7B → ⊥) → spelled (value d) (b ∷ t) ≡ Some (x, r) → object_of c x ≡ None
 object_of-other c d b t x r n e = other_text (object_of c) d b t x r e 0x7B (object_of-none c) n
 
 -- ---- arrays
 
-pub array_of-alone : (d : ℕ) (vs : List Text) (t r : Text) → elements (value d) t ≡ some (vs, r) → array_of d (0x5B ∷ before t r) ≡ some vs
+pub array_of-alone : (d : ℕ) (vs : List Text) (t r : Text) → elements (value d) t ≡ Some (vs, r) → array_of d (0x5B ∷ before t r) ≡ Some vs
 unfolding ws is_ws first byte
 array_of-alone d vs t r e = array_of-elements d (0x5B ∷ before t r) refl ∙ alone-end (elements-alone d vs t r e) refl
 
-pub array_of-other : (c d b : ℕ) (t x r : Text) → (b ≡ 0x5B → ⊥) → spelled (value d) (b ∷ t) ≡ some (x, r) → array_of c x ≡ none
+pub array_of-other : (c d b : ℕ) (t x r : Text) → (b ≡ 0x5B → ⊥) → spelled (value d) (b ∷ t) ≡ Some (x, r) → array_of c x ≡ None
 array_of-other c d b t x r n e = other_text (array_of c) d b t x r e 0x5B (array_of-none c) n
 
 -- ---- strings
 
-pub string_of-alone : (s : Bytes) (t r : Text) → string t ≡ some (s, r) → string_of (0x22 ∷ before t r) ≡ some s
+pub string_of-alone : (s : Bytes) (t r : Text) → string t ≡ Some (s, r) → string_of (0x22 ∷ before t r) ≡ Some s
 unfolding string_of byte is_empty
 string_of-alone s t r e = rw (string-alone s t r e)
 
-pub string_of-other : (b : ℕ) (y : Text) → (b ≡ 0x22 → ⊥) → string_of (b ∷ y) ≡ none
+pub string_of-other : (b : ℕ) (y : Text) → (b ≡ 0x22 → ⊥) → string_of (b ∷ y) ≡ None
 unfolding string_of
 string_of-other b y n = rw (byte-other 0x22 b y (ne_eqb b 0x22 n))
 
-pub string-text : (d : ℕ) (t x r : Text) → spelled (value d) (0x22 ∷ t) ≡ some (x, r)
-    → (s : Bytes) × (string t ≡ some (s, r)) × (string_of x ≡ some s)
+pub string-text : (d : ℕ) (t x r : Text) → spelled (value d) (0x22 ∷ t) ≡ Some (x, r)
+    → (s : Bytes) × (string t ≡ Some (s, r)) × (string_of x ≡ Some s)
 string-text d t x r e =
     inside-text string_of d 0x22 t x r e string (value-scalar d 0x22 t (λ h. omega arith) (λ h. omega arith) ∙ scalar-string t) (λ s f. string_of-alone s t r f)
 

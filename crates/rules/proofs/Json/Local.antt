@@ -1,6 +1,6 @@
 -- A reader looks no further than one byte behind what it reads. So the text of a value, taken out of its line and read again, reads as it did in its place.
 use mathlib.Core.Path.{◌≡◌, sym, ap, ◌∙◌}
-use mathlib.Core.Option.{some}
+use Rattle.std.specs.Prelude.{Some}
 use mathlib.Core.List.{List, [], append-nil}
 use Prim.Native.Nat.{ℕ}
 use Rattle.rules.specs.Bytes.{Bytes}
@@ -19,23 +19,23 @@ module _ {O : Type 0} {least : ℕ} {read answer : Text → O} where
   reads-alone {t} {r} h = ap read (reads-passed h ∙ sym (append-nil h.passed)) ∙ h.again [] nothing
 
 module _ {read : Reader} {least : ℕ} (each : EachReads least read) where
-  pub spelled-alone : (x t r : Text) → spelled read t ≡ some (x, r) → read x ≡ some []
+  pub spelled-alone : (x t r : Text) → spelled read t ≡ Some (x, r) → read x ≡ Some []
   spelled-alone x t r e = ap read (spelled-text read t e) ∙ reads-alone (each t r (spelled-left read t e))
 
 module _ {A : Type 0} {read : Taker A} {least : ℕ} (each : EachTakes least read) where
-  pub taken-alone : (x : A) (t r : Text) → read t ≡ some (x, r) → read (before t r) ≡ some (x, [])
+  pub taken-alone : (x : A) (t r : Text) → read t ≡ Some (x, r) → read (before t r) ≡ Some (x, [])
   taken-alone x t r e = reads-alone (each x t r e)
 
 -- ---- values
 
-pub value-alone : (d : ℕ) (x t r : Text) → spelled (value d) t ≡ some (x, r) → value d x ≡ some []
+pub value-alone : (d : ℕ) (x t r : Text) → spelled (value d) t ≡ Some (x, r) → value d x ≡ Some []
 value-alone d = spelled-alone (value-reads d)
 
-pub string-alone : (x : Bytes) (t r : Text) → string t ≡ some (x, r) → string (before t r) ≡ some (x, [])
+pub string-alone : (x : Bytes) (t r : Text) → string t ≡ Some (x, r) → string (before t r) ≡ Some (x, [])
 string-alone = taken-alone string-reads
 
-pub contents-alone : (d : ℕ) (ms : List Member) (t r : Text) → contents (value d) t ≡ some (ms, r) → contents (value d) (before t r) ≡ some (ms, [])
+pub contents-alone : (d : ℕ) (ms : List Member) (t r : Text) → contents (value d) t ≡ Some (ms, r) → contents (value d) (before t r) ≡ Some (ms, [])
 contents-alone d = taken-alone (contents-reads (value-reads d))
 
-pub elements-alone : (d : ℕ) (vs : List Text) (t r : Text) → elements (value d) t ≡ some (vs, r) → elements (value d) (before t r) ≡ some (vs, [])
+pub elements-alone : (d : ℕ) (vs : List Text) (t r : Text) → elements (value d) t ≡ Some (vs, r) → elements (value d) (before t r) ≡ Some (vs, [])
 elements-alone d = taken-alone (elements-reads (value-reads d))

@@ -1,7 +1,7 @@
 -- Numbers and their parts, by what they pass (`Reads`).
 use mathlib.Core.Path.{◌≡◌, refl, sym, ap, subst}
 use mathlib.Core.Bool.{true, false}
-use mathlib.Core.Option.{some}
+use Rattle.std.specs.Prelude.{Some}
 use mathlib.Core.List.{[], ◌∷◌}
 use Prim.Native.Nat.{ℕ}
 use native.Mathlib.Omega.{arith}
@@ -31,8 +31,8 @@ pub digits1-reads : EachReads 1 digits1
 unfolding digits1
 digits1-reads [] r e = apart (cc)
 digits1-reads (b ∷ t) r e = by (is_digit b)
-    (λ p. answered-after {other = λ w. some (digits w)} e (λ w. rw (digits1, p))
-    (λ q. subst (Reads 0 (λ w. some (digits w)) some t) (some_same q) (reads_made (λ w u d. ap some d) (digits-reads t))))
+    (λ p. answered-after {other = λ w. Some (digits w)} e (λ w. rw (digits1, p))
+    (λ q. subst (Reads 0 (λ w. Some (digits w)) Some t) (some_same q) (reads_made (λ w u d. ap Some d) (digits-reads t))))
     (λ p. answered-none e (rw (digits1, p)))
 
 pub minus-reads : (t : Text) → Reads 0 minus all t (minus t)
@@ -53,7 +53,7 @@ int-reads (b ∷ t) r e = by (eqb b 0x30)
 
 pub frac-reads : EachReads 0 frac
 unfolding frac
-frac-reads [] r e = subst (Reads 0 frac some []) (some_same e) (reads_end refl)
+frac-reads [] r e = subst (Reads 0 frac Some []) (some_same e) (reads_end refl)
 frac-reads (b ∷ t) r e = by (eqb b 0x2E)
     (λ p. reads-least (omega arith) (answered-after {other = digits1} e (λ w. rw (frac, p)) (digits1-reads t r)))
     (λ p. answered-here e refl (λ w. rw (frac, p)))
@@ -77,14 +77,14 @@ power-reads t r e = reads_then (sign_reads t) (digits1-reads (sign t) r e) (λ w
 
 pub exp-reads : EachReads 0 exp
 unfolding exp first
-exp-reads [] r e = subst (Reads 0 exp some []) (some_same e) (reads_end refl)
+exp-reads [] r e = subst (Reads 0 exp Some []) (some_same e) (reads_end refl)
 exp-reads (b ∷ t) r e = by (eqb b 0x65)
     (λ p. past (λ w. rw (exp, p)))
     (λ p. by (eqb b 0x45)
     (λ q. past (λ w. rw (exp, p, q)))
     (λ q. answered-here e refl (λ w. rw (exp, p, q))))
   where
-    past : ((w : Text) → exp (b ∷ w) ≡ digits1 (sign w)) → Reads 0 exp some (b ∷ t) r
+    past : ((w : Text) → exp (b ∷ w) ≡ digits1 (sign w)) → Reads 0 exp Some (b ∷ t) r
     past f = reads-least (omega arith) (answered-after {other = λ w. digits1 (sign w)} e f (power-reads t r))
 
 -- [ frac ] [ exp ]

@@ -1,6 +1,6 @@
 -- The laws of readers at a position of a text s: what is left is s from a later position on, and what is spelled stands between the two.
 use mathlib.Core.Path.{◌≡◌, sym, ap, ◌∙◌}
-use mathlib.Core.Option.{some}
+use Rattle.std.specs.Prelude.{Some}
 use mathlib.Core.List.{List, ◌∷◌}
 use Prim.Native.Nat.{ℕ, suc, ◌+◌, ◌-◌, ◌≤◌}
 use native.Mathlib.Omega.{arith}
@@ -43,14 +43,14 @@ module _ (s : Text) (i j : ℕ) (h : i ≤ j) (k : j ≤ length s) where
       n : length (drop i s) - length (drop j s) ≡ j - i
       n = simp length-drop (omega arith)
 
-  pub spelled-place : (read : Reader) → read (drop i s) ≡ some (drop j s) → spelled read (drop i s) ≡ some (take (j - i) (drop i s), drop j s)
-  spelled-place read e = spelled-some read (drop i s) e ∙ ap (λ (x : Text). some (x, drop j s)) between
+  pub spelled-place : (read : Reader) → read (drop i s) ≡ Some (drop j s) → spelled read (drop i s) ≡ Some (take (j - i) (drop i s), drop j s)
+  spelled-place read e = spelled-some read (drop i s) e ∙ ap (λ (x : Text). Some (x, drop j s)) between
 
 -- a member whose name is behind the quote at i, and whose value stands from v to e
 pub member-place : (read : Reader) (s : Text) (i v e : ℕ) {n r : Text} {name : Bytes} → v ≤ e → e ≤ length s
-    → byte 0x22 (drop i s) ≡ some n → string n ≡ some (name, r) → colon r ≡ some (drop v s) → read (drop v s) ≡ some (drop e s)
-    → member read (drop i s) ≡ some ((name, take (e - v) (drop v s)), drop e s)
-member-place read s i v e {name = name} h k a b c d = member-some read (drop i s) a b c d ∙ ap (λ (x : Text). some ((name, x), drop e s)) (between s v e h k)
+    → byte 0x22 (drop i s) ≡ Some n → string n ≡ Some (name, r) → colon r ≡ Some (drop v s) → read (drop v s) ≡ Some (drop e s)
+    → member read (drop i s) ≡ Some ((name, take (e - v) (drop v s)), drop e s)
+member-place read s i v e {name = name} h k a b c d = member-some read (drop i s) a b c d ∙ ap (λ (x : Text). Some ((name, x), drop e s)) (between s v e h k)
 
 -- ---- the text of an object, an array or a string, from its first byte at i to j
 
@@ -65,16 +65,16 @@ module _ (s : Text) (i j b : ℕ) (e : drop i s ≡ b ∷ drop (i + 1) s) (h : i
   text-before = text-cons ∙ ap (λ (x : Text). b ∷ x) (sym (between s (i + 1) j h k))
 
 module _ (s : Text) (i j : ℕ) (h : i + 1 ≤ j) (k : j ≤ length s) where
-  pub object_of-place : (d : ℕ) (ms : List Member) → drop i s ≡ 0x7B ∷ drop (i + 1) s → contents (value d) (drop (i + 1) s) ≡ some (ms, drop j s)
-      → object_of d (take (j - i) (drop i s)) ≡ some ms
+  pub object_of-place : (d : ℕ) (ms : List Member) → drop i s ≡ 0x7B ∷ drop (i + 1) s → contents (value d) (drop (i + 1) s) ≡ Some (ms, drop j s)
+      → object_of d (take (j - i) (drop i s)) ≡ Some ms
   object_of-place d ms e f = ap (object_of d) (text-before s i j 0x7B e h k) ∙ object_of-alone d ms (drop (i + 1) s) (drop j s) f
 
-  pub array_of-place : (d : ℕ) (vs : List Text) → drop i s ≡ 0x5B ∷ drop (i + 1) s → elements (value d) (drop (i + 1) s) ≡ some (vs, drop j s)
-      → array_of d (take (j - i) (drop i s)) ≡ some vs
+  pub array_of-place : (d : ℕ) (vs : List Text) → drop i s ≡ 0x5B ∷ drop (i + 1) s → elements (value d) (drop (i + 1) s) ≡ Some (vs, drop j s)
+      → array_of d (take (j - i) (drop i s)) ≡ Some vs
   array_of-place d vs e f = ap (array_of d) (text-before s i j 0x5B e h k) ∙ array_of-alone d vs (drop (i + 1) s) (drop j s) f
 
-  pub string_of-place : (x : Bytes) → drop i s ≡ 0x22 ∷ drop (i + 1) s → string (drop (i + 1) s) ≡ some (x, drop j s)
-      → string_of (take (j - i) (drop i s)) ≡ some x
+  pub string_of-place : (x : Bytes) → drop i s ≡ 0x22 ∷ drop (i + 1) s → string (drop (i + 1) s) ≡ Some (x, drop j s)
+      → string_of (take (j - i) (drop i s)) ≡ Some x
   string_of-place x e f = ap string_of (text-before s i j 0x22 e h k) ∙ string_of-alone x (drop (i + 1) s) (drop j s) f
 
   -- without the first byte and the last

@@ -1,6 +1,6 @@
 -- How strings, containers and values go on, by the byte or the item that they begin with: no bound is left in these laws.
 use mathlib.Core.Path.{◌≡◌, refl, sym, ap, ◌∙◌}
-use mathlib.Core.Option.{Option, none, some}
+use Rattle.std.specs.Prelude.{Option, None, Some}
 use mathlib.Core.List.{List, [], ◌∷◌, ◌++◌}
 use Prim.Native.Nat.{ℕ, zero, suc, ◌+◌, ◌-◌, ◌≤◌}
 use native.Mathlib.Omega.{arith}
@@ -18,7 +18,7 @@ use Rattle.rules.proofs.Json.ValueReads.{closing-onward, items-bound}
 
 -- ---- characters
 
-pub char-escape : (t : Text) → char (0x5C ∷ t) ≡ (escaped t >>= (λ p. some (utf8 p.0, p.1)))
+pub char-escape : (t : Text) → char (0x5C ∷ t) ≡ (escaped t >>= (λ p. Some (utf8 p.0, p.1)))
 unfolding char
 char-escape t = refl
 
@@ -28,24 +28,24 @@ char-plain b t n = rw (char, ne_eqb b 0x5C n)
 
 -- ---- strings, behind the opening quote
 
-pub string-end : string [] ≡ none
+pub string-end : string [] ≡ None
 unfolding string chars
 string-end = refl
 
-pub string-quote : (t : Text) → string (0x22 ∷ t) ≡ some ([], t)
+pub string-quote : (t : Text) → string (0x22 ∷ t) ≡ Some ([], t)
 unfolding string chars
 string-quote t = refl
 
-pub string-none : (b : ℕ) (t : Text) → (b ≡ 0x22 → ⊥) → char (b ∷ t) ≡ none → string (b ∷ t) ≡ none
+pub string-none : (b : ℕ) (t : Text) → (b ≡ 0x22 → ⊥) → char (b ∷ t) ≡ None → string (b ∷ t) ≡ None
 unfolding string
 string-none b t n e = chars-none (length (b ∷ t)) b t (ne_eqb b 0x22 n) e
 
-pub string-char : (b : ℕ) (t : Text) {r : Text} {x : Bytes} → (b ≡ 0x22 → ⊥) → char (b ∷ t) ≡ some (x, r)
-    → string (b ∷ t) ≡ (string r >>= (λ p. some (x ++ p.0, p.1)))
+pub string-char : (b : ℕ) (t : Text) {r : Text} {x : Bytes} → (b ≡ 0x22 → ⊥) → char (b ∷ t) ≡ Some (x, r)
+    → string (b ∷ t) ≡ (string r >>= (λ p. Some (x ++ p.0, p.1)))
 unfolding string
 string-char b t {r} {x} n e =
     let fewer : length r + 1 ≤ length (b ∷ t) = reads-fewer (char-reads x (b ∷ t) r e) in
-    chars-char (length (b ∷ t)) b t (ne_eqb b 0x22 n) e ∙ ap (λ o. o >>= (λ p. some (x ++ p.0, p.1))) (sym (string-bound (length (b ∷ t)) r (omega arith)))
+    chars-char (length (b ∷ t)) b t (ne_eqb b 0x22 n) e ∙ ap (λ o. o >>= (λ p. Some (x ++ p.0, p.1))) (sym (string-bound (length (b ∷ t)) r (omega arith)))
 
 -- ---- what stands behind the opening byte and behind an item, by the first byte that is no white space
 
@@ -78,11 +78,11 @@ module _ (close : ℕ) (t : Text) where
   unfolding closing closed_by
   closing-other {b} e n m = rw (closing, e, closed_by, ne_eqb b close n, ne_eqb b 0x2C m)
 
-pub colon-some : (t : Text) {u : Text} → byte 0x3A (ws t) ≡ some u → colon t ≡ some (ws u)
+pub colon-some : (t : Text) {u : Text} → byte 0x3A (ws t) ≡ Some u → colon t ≡ Some (ws u)
 unfolding colon
 colon-some t e = rw (colon, e)
 
-pub colon-none : (t : Text) → byte 0x3A (ws t) ≡ none → colon t ≡ none
+pub colon-none : (t : Text) → byte 0x3A (ws t) ≡ None → colon t ≡ None
 unfolding colon
 colon-none t e = rw (colon, e)
 
@@ -93,7 +93,7 @@ abbrev pub rest : {A : Type 0} → Taker A → (close : ℕ) → Taker (List A)
 rest item close t = items item close (suc (length t)) t
 
 module _ {A : Type 0} (item : Taker A) (close : ℕ) (t : Text) where
-  pub list-closed : {u : Text} → opening close t ≡ closed u → list item close t ≡ some ([], u)
+  pub list-closed : {u : Text} → opening close t ≡ closed u → list item close t ≡ Some ([], u)
   unfolding list items_behind
   list-closed e = rw (list, e)
 
@@ -101,20 +101,20 @@ module _ {A : Type 0} (item : Taker A) (close : ℕ) (t : Text) where
   unfolding list items_behind
   list-onward e = rw (list, e)
 
-  pub list-neither : opening close t ≡ neither → list item close t ≡ none
+  pub list-neither : opening close t ≡ neither → list item close t ≡ None
   unfolding list items_behind
   list-neither e = rw (list, e)
 
-  pub rest-none : item t ≡ none → rest item close t ≡ none
+  pub rest-none : item t ≡ None → rest item close t ≡ None
   unfolding items
   rest-none e = rw (items, e)
 
-  module _ {x : A} {r : Text} (e : item t ≡ some (x, r)) where
-    pub rest-closed : {u : Text} → closing close r ≡ closed u → rest item close t ≡ some (x ∷ [], u)
+  module _ {x : A} {r : Text} (e : item t ≡ Some (x, r)) where
+    pub rest-closed : {u : Text} → closing close r ≡ closed u → rest item close t ≡ Some (x ∷ [], u)
     unfolding items after_item
     rest-closed f = rw (items, e, f)
 
-    pub rest-neither : closing close r ≡ neither → rest item close t ≡ none
+    pub rest-neither : closing close r ≡ neither → rest item close t ≡ None
     unfolding items after_item
     rest-neither f = rw (items, e, f)
 
@@ -136,15 +136,15 @@ pub elements-list : (read : Reader) (t : Text) → elements read t ≡ list (spe
 unfolding elements
 elements-list read t = refl
 
-pub member-some : (read : Reader) (t : Text) {n r v u : Text} {name : Bytes} → byte 0x22 t ≡ some n → string n ≡ some (name, r) → colon r ≡ some v
-    → read v ≡ some u
-    → member read t ≡ some ((name, take (length v - length u) v), u)
+pub member-some : (read : Reader) (t : Text) {n r v u : Text} {name : Bytes} → byte 0x22 t ≡ Some n → string n ≡ Some (name, r) → colon r ≡ Some v
+    → read v ≡ Some u
+    → member read t ≡ Some ((name, take (length v - length u) v), u)
 unfolding member spelled
 member-some read t a b c d = rw (member, a, b, c, spelled, d)
 
 -- ---- values
 
-pub value-end : (d : ℕ) → value d [] ≡ none
+pub value-end : (d : ℕ) → value d [] ≡ None
 unfolding value value_by
 value-end zero = refl
 value-end (suc d) = refl
@@ -159,11 +159,11 @@ unfolding value value_by
 value-array d c t e = ap (λ (n : ℕ). value n (0x5B ∷ t)) e
 
 -- no deeper
-pub value-no-object : (d : ℕ) (t : Text) → d ≡ 0 → value d (0x7B ∷ t) ≡ none
+pub value-no-object : (d : ℕ) (t : Text) → d ≡ 0 → value d (0x7B ∷ t) ≡ None
 unfolding value value_by
 value-no-object d t e = ap (λ (n : ℕ). value n (0x7B ∷ t)) e
 
-pub value-no-array : (d : ℕ) (t : Text) → d ≡ 0 → value d (0x5B ∷ t) ≡ none
+pub value-no-array : (d : ℕ) (t : Text) → d ≡ 0 → value d (0x5B ∷ t) ≡ None
 unfolding value value_by
 value-no-array d t e = ap (λ (n : ℕ). value n (0x5B ∷ t)) e
 
@@ -195,30 +195,30 @@ scalar-number b t q f n w = rw (scalar, ne_eqb b 0x22 q, ne_eqb b 0x66 f, ne_eqb
 -- ---- a text that is one object, or one array
 
 module _ {A : Type 0} {o : Option (A × Text)} where
-  pub alone-none : o ≡ none → alone o ≡ none
+  pub alone-none : o ≡ None → alone o ≡ None
   unfolding alone
   alone-none e = rw (alone, e)
 
-  pub alone-end : {x : A} {u : Text} → o ≡ some (x, u) → ws u ≡ [] → alone o ≡ some x
+  pub alone-end : {x : A} {u : Text} → o ≡ Some (x, u) → ws u ≡ [] → alone o ≡ Some x
   unfolding alone is_empty
   alone-end e f = rw (alone, e, f)
 
-  pub alone-more : {x : A} {b : ℕ} {u w : Text} → o ≡ some (x, u) → ws u ≡ b ∷ w → alone o ≡ none
+  pub alone-more : {x : A} {b : ℕ} {u w : Text} → o ≡ Some (x, u) → ws u ≡ b ∷ w → alone o ≡ None
   unfolding alone is_empty
   alone-more e f = rw (alone, e, f)
 
-pub object_of-contents : (d : ℕ) (t : Text) {r : Text} → byte 0x7B (ws t) ≡ some r → object_of d t ≡ alone (contents (value d) r)
+pub object_of-contents : (d : ℕ) (t : Text) {r : Text} → byte 0x7B (ws t) ≡ Some r → object_of d t ≡ alone (contents (value d) r)
 unfolding object_of
 object_of-contents d t e = rw (object_of, e)
 
-pub object_of-none : (d : ℕ) (t : Text) → byte 0x7B (ws t) ≡ none → object_of d t ≡ none
+pub object_of-none : (d : ℕ) (t : Text) → byte 0x7B (ws t) ≡ None → object_of d t ≡ None
 unfolding object_of
 object_of-none d t e = rw (object_of, e)
 
-pub array_of-elements : (d : ℕ) (t : Text) {r : Text} → byte 0x5B (ws t) ≡ some r → array_of d t ≡ alone (elements (value d) r)
+pub array_of-elements : (d : ℕ) (t : Text) {r : Text} → byte 0x5B (ws t) ≡ Some r → array_of d t ≡ alone (elements (value d) r)
 unfolding array_of
 array_of-elements d t e = rw (array_of, e)
 
-pub array_of-none : (d : ℕ) (t : Text) → byte 0x5B (ws t) ≡ none → array_of d t ≡ none
+pub array_of-none : (d : ℕ) (t : Text) → byte 0x5B (ws t) ≡ None → array_of d t ≡ None
 unfolding array_of
 array_of-none d t e = rw (array_of, e)

@@ -1,7 +1,7 @@
 -- A reader leaves a suffix of its text, and looks no further than one byte behind what it reads.
 -- Both are one relation, `Reads`, so that each reader is taken apart once.
 use mathlib.Core.Path.{◌≡◌, refl, sym, ap, ◌∙◌, subst}
-use mathlib.Core.Option.{Option, none, some}
+use Rattle.std.specs.Prelude.{Option, None, Some}
 use mathlib.Core.List.{[], ◌∷◌, ◌++◌, append_assoc}
 use Prim.Native.Nat.{ℕ, suc, ◌+◌, ◌-◌, ◌≤◌}
 use native.Mathlib.Omega.{arith}
@@ -37,10 +37,10 @@ pub record Reads {O : Type 0} (least : ℕ) (read answer : Text → O) (t r : Te
 
 -- a reader whose every answer is so, and a taker
 abbrev pub EachReads : ℕ → Reader → Type 0
-EachReads least read = (t r : Text) → read t ≡ some r → Reads least read some t r
+EachReads least read = (t r : Text) → read t ≡ Some r → Reads least read Some t r
 
 abbrev pub EachTakes : {A : Type 0} → ℕ → Taker A → Type 0
-EachTakes {A} least read = (x : A) (t r : Text) → read t ≡ some (x, r) → Reads least read (λ v. some (x, v)) t r
+EachTakes {A} least read = (x : A) (t r : Text) → read t ≡ Some (x, r) → Reads least read (λ v. Some (x, v)) t r
 
 module _ {O : Type 0} {least : ℕ} {read answer : Text → O} {t r : Text} (h : Reads least read answer t r) where
   pub reads-length : length t ≡ length h.passed + length r
@@ -138,35 +138,35 @@ reads-least n h = record { passed = h.passed; split = h.split; enough = omega (a
 
 -- ---- how a proof takes a reader's answer apart
 
-pub some_same : {A : Type 0} {a b : A} → some a ≡ some b → a ≡ b
+pub some_same : {A : Type 0} {a b : A} → Some a ≡ Some b → a ≡ b
 some_same e = cc
 
-pub value_same : {A B : Type 0} {p q : A × B} → some p ≡ some q → p.0 ≡ q.0
+pub value_same : {A B : Type 0} {p q : A × B} → Some p ≡ Some q → p.0 ≡ q.0
 value_same e = ap (λ p. p.0) (some_same e)
 
-pub left-same : {A B : Type 0} {p q : A × B} → some p ≡ some q → p.1 ≡ q.1
+pub left-same : {A B : Type 0} {p q : A × B} → Some p ≡ Some q → p.1 ≡ q.1
 left-same e = ap (λ p. p.1) (some_same e)
 
 -- by the answer that another answer was made from
-pub bound : {A B P : Type 0} {b : B} (o : Option A) (f : A → Option B) → (o >>= f) ≡ some b → ((a : A) → o ≡ some a → f a ≡ some b → P) → P
-bound none f e k = apart (cc)
-bound (some a) f e k = k a refl e
+pub bound : {A B P : Type 0} {b : B} (o : Option A) (f : A → Option B) → (o >>= f) ≡ Some b → ((a : A) → o ≡ Some a → f a ≡ Some b → P) → P
+bound None f e k = apart (cc)
+bound (Some a) f e k = k a refl e
 
 -- the same answer, written in two ways
-pub taken : {A : Type 0} {least : ℕ} {read : Taker A} {t : Text} {p q : A × Text} → some p ≡ some q
-    → Reads least read (λ v. some (p.0, v)) t p.1 → Reads least read (λ v. some (q.0, v)) t q.1
-taken {A} {least} {read} {t} e h = subst (λ (y : A × Text). Reads least read (λ v. some (y.0, v)) t y.1) (some_same e) h
+pub taken : {A : Type 0} {least : ℕ} {read : Taker A} {t : Text} {p q : A × Text} → Some p ≡ Some q
+    → Reads least read (λ v. Some (p.0, v)) t p.1 → Reads least read (λ v. Some (q.0, v)) t q.1
+taken {A} {least} {read} {t} e h = subst (λ (y : A × Text). Reads least read (λ v. Some (y.0, v)) t y.1) (some_same e) h
 
 -- the laws by the first byte, where an answer is known
 
-module _ {read : Reader} {b : ℕ} {t r : Text} (e : read (b ∷ t) ≡ some r) where
-  pub answered-here : read [] ≡ some [] → ((w : Text) → read (b ∷ w) ≡ some (b ∷ w)) → Reads 0 read some (b ∷ t) r
-  answered-here n f = subst (Reads 0 read some (b ∷ t)) (some_same (sym (f t) ∙ e)) (reads_here t n f)
+module _ {read : Reader} {b : ℕ} {t r : Text} (e : read (b ∷ t) ≡ Some r) where
+  pub answered-here : read [] ≡ Some [] → ((w : Text) → read (b ∷ w) ≡ Some (b ∷ w)) → Reads 0 read Some (b ∷ t) r
+  answered-here n f = subst (Reads 0 read Some (b ∷ t)) (some_same (sym (f t) ∙ e)) (reads_here t n f)
 
-  pub answered_byte : ((w : Text) → read (b ∷ w) ≡ some w) → Reads 1 read some (b ∷ t) r
-  answered_byte f = subst (Reads 1 read some (b ∷ t)) (some_same (sym (f t) ∙ e)) (reads_byte t f)
+  pub answered_byte : ((w : Text) → read (b ∷ w) ≡ Some w) → Reads 1 read Some (b ∷ t) r
+  answered_byte f = subst (Reads 1 read Some (b ∷ t)) (some_same (sym (f t) ∙ e)) (reads_byte t f)
 
-pub answered-none : {A P : Type 0} {o : Option A} {a : A} → o ≡ some a → o ≡ none → P
+pub answered-none : {A P : Type 0} {o : Option A} {a : A} → o ≡ Some a → o ≡ None → P
 answered-none e n = apart (cc)
 
 module _ {O : Type 0} {read answer other : Text → O} {least b : ℕ} {t r : Text} (e : read (b ∷ t) ≡ answer r) where

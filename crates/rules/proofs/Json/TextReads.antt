@@ -1,7 +1,7 @@
 -- White space, bytes, words and spelled texts, by what they pass (`Reads`).
 use mathlib.Core.Path.{◌≡◌, refl, sym, ap, ◌∙◌, subst}
 use mathlib.Core.Bool.{Bool, true, false}
-use mathlib.Core.Option.{none, some}
+use Rattle.std.specs.Prelude.{None, Some}
 use mathlib.Core.List.{[], ◌∷◌, ◌++◌}
 use Prim.Native.Nat.{ℕ, suc, ◌-◌}
 use native.Mathlib.Omega.{arith}
@@ -46,11 +46,11 @@ ws-reads = passes-reads is_ws refl ws-more ws-stop
 
 -- ---- bytes
 
-pub byte-same : (c b : ℕ) (t : Text) → eqb b c ≡ true → byte c (b ∷ t) ≡ some t
+pub byte-same : (c b : ℕ) (t : Text) → eqb b c ≡ true → byte c (b ∷ t) ≡ Some t
 unfolding byte
 byte-same c b t e = rw (byte, e)
 
-pub byte-other : (c b : ℕ) (t : Text) → eqb b c ≡ false → byte c (b ∷ t) ≡ none
+pub byte-other : (c b : ℕ) (t : Text) → eqb b c ≡ false → byte c (b ∷ t) ≡ None
 unfolding byte
 byte-other c b t e = rw (byte, e)
 
@@ -74,28 +74,28 @@ pub word_more : (c : ℕ) (w : Bytes) (b : ℕ) (t : Text) → eqb b c ≡ true 
 unfolding word
 word_more c w b t e = rw (word, e)
 
-pub word-other : (c : ℕ) (w : Bytes) (b : ℕ) (t : Text) → eqb b c ≡ false → word (c ∷ w) (b ∷ t) ≡ none
+pub word-other : (c : ℕ) (w : Bytes) (b : ℕ) (t : Text) → eqb b c ≡ false → word (c ∷ w) (b ∷ t) ≡ None
 unfolding word
 word-other c w b t e = rw (word, e)
 
 pub word-reads : (w : Bytes) → EachReads (length w) (word w)
 unfolding word
-word-reads [] t r e = subst (Reads 0 (word []) some t) (some_same e) (reads_none (λ v. refl))
+word-reads [] t r e = subst (Reads 0 (word []) Some t) (some_same e) (reads_none (λ v. refl))
 word-reads (c ∷ w) [] r e = apart (cc)
 word-reads (c ∷ w) (b ∷ t) r e = go (word-reads w t r) (eqb b c) refl
   where
-    go : (word w t ≡ some r → Reads (length w) (word w) some t r) → (test : Bool) → eqb b c ≡ test → Reads (suc (length w)) (word (c ∷ w)) some (b ∷ t) r
+    go : (word w t ≡ Some r → Reads (length w) (word w) Some t r) → (test : Bool) → eqb b c ≡ test → Reads (suc (length w)) (word (c ∷ w)) Some (b ∷ t) r
     go ih true p = answered-after e (λ u. word_more c w b u p) ih
     go ih false p = answered-none e (word-other c w b t p)
 
 -- a word is passed byte for byte
-pub word-text : (w t r : Text) → word w t ≡ some r → t ≡ w ++ r
+pub word-text : (w t r : Text) → word w t ≡ Some r → t ≡ w ++ r
 unfolding word
 word-text [] t r e = some_same e
 word-text (c ∷ w) [] r e = apart (cc)
 word-text (c ∷ w) (b ∷ t) r e = go (word-text w t r) (eqb b c) refl
   where
-    go : (word w t ≡ some r → t ≡ w ++ r) → (test : Bool) → eqb b c ≡ test → b ∷ t ≡ c ∷ (w ++ r)
+    go : (word w t ≡ Some r → t ≡ w ++ r) → (test : Bool) → eqb b c ≡ test → b ∷ t ≡ c ∷ (w ++ r)
     go ih true p =
         let same_byte : b ≡ c = eqb-true b c p in
         let same_rest : t ≡ w ++ r = ih (sym (word_more c w b t p) ∙ e) in
@@ -108,25 +108,25 @@ word-text (c ∷ w) (b ∷ t) r e = go (word-text w t r) (eqb b c) refl
 abbrev pub before : (t r : Text) → Text
 before t r = take (length t - length r) t
 
-pub spelled-some : (read : Reader) (t : Text) {r : Text} → read t ≡ some r → spelled read t ≡ some (before t r, r)
+pub spelled-some : (read : Reader) (t : Text) {r : Text} → read t ≡ Some r → spelled read t ≡ Some (before t r, r)
 unfolding spelled
 spelled-some read t e = rw (spelled, e)
 
-pub spelled_none : (read : Reader) (t : Text) → read t ≡ none → spelled read t ≡ none
+pub spelled_none : (read : Reader) (t : Text) → read t ≡ None → spelled read t ≡ None
 unfolding spelled
 spelled_none read t e = rw (spelled, e)
 
-pub spelled-left : (read : Reader) (t : Text) {x r : Text} → spelled read t ≡ some (x, r) → read t ≡ some r
+pub spelled-left : (read : Reader) (t : Text) {x r : Text} → spelled read t ≡ Some (x, r) → read t ≡ Some r
 unfolding spelled
-spelled-left read t e = bound (read t) _ e (λ u p q. p ∙ ap some (left-same q))
+spelled-left read t e = bound (read t) _ e (λ u p q. p ∙ ap Some (left-same q))
 
-pub spelled-text : (read : Reader) (t : Text) {x r : Text} → spelled read t ≡ some (x, r) → x ≡ before t r
+pub spelled-text : (read : Reader) (t : Text) {x r : Text} → spelled read t ≡ Some (x, r) → x ≡ before t r
 spelled-text read t e = value_same (sym e ∙ spelled-some read t (spelled-left read t e))
 
 -- what is spelled is what was passed
-pub spelled-of : (read : Reader) (p v : Text) → read (p ++ v) ≡ some v → spelled read (p ++ v) ≡ some (p, v)
+pub spelled-of : (read : Reader) (p v : Text) → read (p ++ v) ≡ Some v → spelled read (p ++ v) ≡ Some (p, v)
 unfolding spelled
-spelled-of read p v e = rw (spelled, e) (ap (λ (x : Text). some (x, v)) (take_at p v _ n))
+spelled-of read p v e = rw (spelled, e) (ap (λ (x : Text). Some (x, v)) (take_at p v _ n))
   where
     n : length p ≡ length (p ++ v) - length v
     n = omega (arith, length-append p v)
@@ -135,8 +135,8 @@ module _ {read : Reader} {least : ℕ} (each : EachReads least read) where
   pub spelled-reads : EachTakes least (spelled read)
   unfolding spelled
   spelled-reads x t r e = bound (read t) _ e (λ u p q.
-      let h : Reads least read some t u = each t u p in
-      taken (ap (λ (w : Text). some (w, u)) (sym (reads-passed h)) ∙ q) (record {
+      let h : Reads least read Some t u = each t u p in
+      taken (ap (λ (w : Text). Some (w, u)) (sym (reads-passed h)) ∙ q) (record {
         passed = h.passed;
         split = h.split;
         enough = h.enough;

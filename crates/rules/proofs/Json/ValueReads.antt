@@ -1,6 +1,6 @@
 -- Containers and values, by what they pass (`Reads`), over any reader of their items that passes a byte or more.
 use mathlib.Core.Path.{◌≡◌, refl, sym, ap, ◌∙◌, subst}
-use mathlib.Core.Option.{Option, none, some}
+use Rattle.std.specs.Prelude.{Option, None, Some}
 use mathlib.Core.List.{List, [], ◌∷◌}
 use Prim.Native.Nat.{ℕ, zero, suc, ◌≤◌}
 use native.Mathlib.Omega.{arith}
@@ -73,37 +73,37 @@ module _ (close : ℕ) where
 module _ {A : Type 0} (item : Taker A) (close : ℕ) where
   -- an item, and what stands behind it
   item_then : Text → Option (A × Behind)
-  item_then t = item t >>= (λ p. some (p.0, closing close p.1))
+  item_then t = item t >>= (λ p. Some (p.0, closing close p.1))
 
-  items-turn : (n : ℕ) (t : Text) (x : A) (c : Behind) → item_then t ≡ some (x, c) → items item close (suc n) t ≡ after_item x c (λ u. items item close n u)
+  items-turn : (n : ℕ) (t : Text) (x : A) (c : Behind) → item_then t ≡ Some (x, c) → items item close (suc n) t ≡ after_item x c (λ u. items item close n u)
   unfolding item_then items
   items-turn n t x c e = bound (item t) _ e (λ y p q.
       rw (items, p) (ap (λ (z : A × Behind). after_item z.0 z.1 (λ u. items item close n u)) (some_same q)))
 
   module _ (each : EachTakes 1 item) where
-    item_then-reads : (next : Text → Behind) (x : A) (t r u : Text) → item t ≡ some (x, r) → Reads 1 (closing close) next r u
-        → Reads 1 item_then (λ v. some (x, next v)) t u
+    item_then-reads : (next : Text → Behind) (x : A) (t r u : Text) → item t ≡ Some (x, r) → Reads 1 (closing close) next r u
+        → Reads 1 item_then (λ v. Some (x, next v)) t u
     unfolding item_then
     item_then-reads next x t r u e h =
         reads-least
         (omega arith)
-        (reads_then {both = item_then} (each x t r e) (reads_made {made = λ w. some (x, closing close w)} (λ w v s. ap (λ c. some (x, c)) s) h) (λ w v s. rw s))
+        (reads_then {both = item_then} (each x t r e) (reads_made {made = λ w. Some (x, closing close w)} (λ w v s. ap (λ c. Some (x, c)) s) h) (λ w v s. rw s))
 
     pub items-within : EachWithin (items item close)
     unfolding items after_item and_then
     items-within zero xs t r e = apart (cc)
     items-within (suc n) xs t r e = bound (item t) _ e (λ p f g. go (items-within n) p f (closing close p.1) refl g)
       where
-        go : ((ys : List A) (w u : Text) → items item close n w ≡ some (ys, u) → Within (items item close) (λ v. some (ys, v)) w u)
-            → (p : A × Text) → item t ≡ some p → (c : Behind) → closing close p.1 ≡ c → after_item p.0 c (λ u. items item close n u) ≡ some (xs, r)
-            → Within (items item close) (λ v. some (xs, v)) t r
+        go : ((ys : List A) (w u : Text) → items item close n w ≡ Some (ys, u) → Within (items item close) (λ v. Some (ys, v)) w u)
+            → (p : A × Text) → item t ≡ Some p → (c : Behind) → closing close p.1 ≡ c → after_item p.0 c (λ u. items item close n u) ≡ Some (xs, r)
+            → Within (items item close) (λ v. Some (xs, v)) t r
         go ih p f (closed u) h g = within-taken g
             (within-last (item_then-reads closed p.0 t p.1 u f (closing-closed close p.1 u h)) (λ m w v s. items-turn m w p.0 (closed v) s))
         go ih p f (onward u) h g = one (items item close n u) refl g
           where
-            one : (o : Option (List A × Text)) → items item close n u ≡ o → and_then p.0 o ≡ some (xs, r) → Within (items item close) (λ v. some (xs, v)) t r
-            one none i k = apart (cc)
-            one (some q) i k = within-taken k
+            one : (o : Option (List A × Text)) → items item close n u ≡ o → and_then p.0 o ≡ Some (xs, r) → Within (items item close) (λ v. Some (xs, v)) t r
+            one None i k = apart (cc)
+            one (Some q) i k = within-taken k
                 (within-turn (item_then-reads onward p.0 t p.1 u f (closing-onward close p.1 u h)) (ih q.0 u q.1 i)
                 (λ m w s v a b. items-turn m w p.0 (onward s) a ∙ ap (and_then p.0) b))
         go ih p f neither h g = apart (cc)
@@ -116,7 +116,7 @@ module _ {A : Type 0} (item : Taker A) (close : ℕ) where
     unfolding items_behind opened_by
     list_by-reads xs [] r e = apart (cc)
     list_by-reads xs (b ∷ t) r e = by (eqb b close)
-        (λ p. let f : (w : Text) → items_behind item close (opened_by close (b ∷ w)) ≡ some ([], w) = λ w. rw (opened_by, p) in
+        (λ p. let f : (w : Text) → items_behind item close (opened_by close (b ∷ w)) ≡ Some ([], w) = λ w. rw (opened_by, p) in
         taken (sym (f t) ∙ e) (reads_byte t f))
         (λ p. answered-as {other = λ u. items item close (suc (length u)) u} e (λ w. rw (opened_by, p))
         (λ q. within-reads (items-within (suc (length (b ∷ t))) xs (b ∷ t) r q)))
@@ -131,14 +131,14 @@ module _ {A : Type 0} (item : Taker A) (close : ℕ) where
 pub colon-reads : EachReads 1 colon
 unfolding colon
 colon-reads t r e = bound (byte 0x3A (ws t)) _ e (λ u f g.
-    subst (Reads 1 colon some t) (some_same g) (reads_then {both = colon}
+    subst (Reads 1 colon Some t) (some_same g) (reads_then {both = colon}
     (reads_then {both = λ w. byte 0x3A (ws w)} (ws-reads t) (byte_reads 0x3A (ws t) u f) (λ w x s. ap (byte 0x3A) s))
-    (reads_made {made = λ w. some (ws w)} (λ w v s. ap some s) (ws-reads u)) (λ w x s. rw (colon, s))))
+    (reads_made {made = λ w. Some (ws w)} (λ w v s. ap Some s) (ws-reads u)) (λ w x s. rw (colon, s))))
 
 module _ {value : Reader} (each : EachReads 1 value) where
   -- a member behind its name
   valued : Bytes → Taker Member
-  valued name t = colon t >>= (λ v. spelled value v >>= (λ p. some ((name, p.0), p.1)))
+  valued name t = colon t >>= (λ v. spelled value v >>= (λ p. Some ((name, p.0), p.1)))
 
   valued-reads : (name : Bytes) → EachTakes 2 (valued name)
   unfolding valued
@@ -146,7 +146,7 @@ module _ {value : Reader} (each : EachReads 1 value) where
       bound (colon t) _ e (λ v f g.
       bound (spelled value v) _ g (λ p h k.
       taken k (reads_then {both = valued name} (colon-reads t v f)
-      (reads_made {made = λ w. spelled value w >>= (λ p. some ((name, p.0), p.1))} (λ w u s. rw s) (spelled-reads each p.0 v p.1 h)) (λ w x s. rw s))))
+      (reads_made {made = λ w. spelled value w >>= (λ p. Some ((name, p.0), p.1))} (λ w u s. rw s) (spelled-reads each p.0 v p.1 h)) (λ w x s. rw s))))
 
   -- a member behind its quote
   named : Taker Member
@@ -175,9 +175,9 @@ module _ {value : Reader} (each : EachReads 1 value) where
 pub behind-reads : {A : Type 0} {least : ℕ} {take : Taker A} → EachTakes least take → EachReads least (λ t. behind (take t))
 behind-reads {A} {least} {take} each t r e = go (take t) refl e
   where
-    go : (o : Option (A × Text)) → take t ≡ o → behind o ≡ some r → Reads least (λ t. behind (take t)) some t r
-    go none p q = apart (cc)
-    go (some x) p q = subst (Reads least (λ t. behind (take t)) some t) (some_same q) (reads_made (λ w u s. ap behind s) (each x.0 t x.1 p))
+    go : (o : Option (A × Text)) → take t ≡ o → behind o ≡ Some r → Reads least (λ t. behind (take t)) Some t r
+    go None p q = apart (cc)
+    go (Some x) p q = subst (Reads least (λ t. behind (take t)) Some t) (some_same q) (reads_made (λ w u s. ap behind s) (each x.0 t x.1 p))
 
 pub scalar-reads : EachReads 1 scalar
 unfolding scalar
@@ -203,7 +203,7 @@ value_by-reads object array o a (b ∷ t) r e =
 
 pub value-reads : (d : ℕ) → EachReads 1 (value d)
 unfolding value
-value-reads zero = value_by-reads (λ t. none) (λ t. none) (λ t r e. apart (cc)) (λ t r e. apart (cc))
+value-reads zero = value_by-reads (λ t. None) (λ t. None) (λ t r e. apart (cc)) (λ t r e. apart (cc))
 value-reads (suc d) = value_by-reads (λ t. behind (contents (value d) t)) (λ t. behind (elements (value d) t))
     (λ t r e. reads-least (omega arith) (behind-reads (contents-reads (value-reads d)) t r e))
     (λ t r e. reads-least (omega arith) (behind-reads (elements-reads (value-reads d)) t r e))

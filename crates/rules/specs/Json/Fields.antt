@@ -1,6 +1,6 @@
 -- What the paper asks of members and of the texts of values: there, missing, null or twice; a string, a boolean, an array of strings.
 use Rattle.std.specs.Prelude.{Bool, true, false, List, [], ◌∷◌, ℕ, ◌-◌, length, take, drop}
-use Rattle.std.proofs.Math.Option.{Option, none, some}
+use Rattle.std.specs.Prelude.{Option, None, Some}
 use Prim.Native.String.{String}
 use Rattle.rules.specs.Bytes.{Bytes, ascii, ◌>>=◌, guard, first, same, is_empty}
 use Rattle.rules.specs.Json.Text.{Text, byte}
@@ -16,9 +16,9 @@ under name [] = []
 under name (m ∷ ms) = elim (same m.0 name) [ true ↦ m.1 ∷ under name ms | false ↦ under name ms ]
 
 unfoldable pub sole : List Text → Option Text
-sole [] = none
-sole (v ∷ []) = some v
-sole (v ∷ w ∷ vs) = none
+sole [] = None
+sole (v ∷ []) = Some v
+sole (v ∷ w ∷ vs) = None
 
 -- a field that must be there; twice is malformed
 unfoldable pub once : String → List Member → Option Text
@@ -28,9 +28,9 @@ unfoldable pub is_null : Text → Bool
 is_null v = same v (ascii "null")
 
 unfoldable pub sole_or_none : List Text → Option (Option Text)
-sole_or_none [] = some none
-sole_or_none (v ∷ []) = elim (is_null v) [ true ↦ some none | false ↦ some (some v) ]
-sole_or_none (v ∷ w ∷ vs) = none
+sole_or_none [] = Some None
+sole_or_none (v ∷ []) = elim (is_null v) [ true ↦ Some None | false ↦ Some (Some v) ]
+sole_or_none (v ∷ w ∷ vs) = None
 
 -- a field that may be missing or null, which are alike; twice is malformed
 unfoldable pub optional : String → List Member → Option (Option Text)
@@ -48,7 +48,7 @@ string_of v = do
   t ← byte 0x22 v
   (s, r) ← string t
   _ ← guard (is_empty r)
-  some s
+  Some s
 
 -- a string as it is written, without its quotes
 unfoldable pub unquoted : Text → Text
@@ -56,28 +56,28 @@ unquoted v = take (length v - 2) (drop 1 v)
 
 unfoldable pub string_or_null : Text → Option (Option Bytes)
 string_or_null v = elim (is_null v) [
-  | true ↦ some none
+  | true ↦ Some None
   | false ↦ do
     s ← string_of v
-    some (some s)
+    Some (Some s)
 ]
 
 unfoldable pub bool_of : Text → Option Bool
-bool_of v = first ((same v (ascii "true"), some true) ∷ (same v (ascii "false"), some false) ∷ []) none
+bool_of v = first ((same v (ascii "true"), Some true) ∷ (same v (ascii "false"), Some false) ∷ []) None
 
 -- what `of` makes of a value that is there
 unfoldable pub if_there : {A : Type 0} → (Text → Option A) → Option Text → Option (Option A)
-if_there of none = some none
-if_there of (some v) = do
+if_there of None = Some None
+if_there of (Some v) = do
   x ← of v
-  some (some x)
+  Some (Some x)
 
 unfoldable pub strings : List Text → Option (List Bytes)
-strings [] = some []
+strings [] = Some []
 strings (v ∷ vs) = do
   s ← string_of v
   ss ← strings vs
-  some (s ∷ ss)
+  Some (s ∷ ss)
 
 -- an array of strings
 unfoldable pub strings_of : (d : ℕ) → Text → Option (List Bytes)

@@ -1,6 +1,6 @@
 -- Numbers of RFC 8259, and the paper's whole numbers among them.
 use Rattle.std.specs.Prelude.{true, false, [], ◌∷◌, ℕ, eqb, leb}
-use Rattle.std.proofs.Math.Option.{Option, none, some}
+use Rattle.std.specs.Prelude.{Option, None, Some}
 use Rattle.rules.specs.Bytes.{◌>>=◌, guard, first, is_empty}
 use Rattle.rules.specs.Numbers.{is_digit, decimal, most}
 use Rattle.rules.specs.Json.Text.{Text, Reader}
@@ -12,8 +12,8 @@ digits (b ∷ t) = elim (is_digit b) [ true ↦ digits t | false ↦ b ∷ t ]
 
 -- 1*DIGIT
 unfoldable pub digits1 : Reader
-digits1 [] = none
-digits1 (b ∷ t) = elim (is_digit b) [ true ↦ some (digits t) | false ↦ none ]
+digits1 [] = None
+digits1 (b ∷ t) = elim (is_digit b) [ true ↦ Some (digits t) | false ↦ None ]
 
 -- [ minus ], minus = %x2D
 unfoldable pub minus : Text → Text
@@ -22,13 +22,13 @@ minus (b ∷ t) = elim (eqb b 0x2D) [ true ↦ t | false ↦ b ∷ t ]
 
 -- int = zero / ( digit1-9 *DIGIT )
 unfoldable pub int : Reader
-int [] = none
-int (b ∷ t) = elim (eqb b 0x30) [ true ↦ some t | false ↦ digits1 (b ∷ t) ]
+int [] = None
+int (b ∷ t) = elim (eqb b 0x30) [ true ↦ Some t | false ↦ digits1 (b ∷ t) ]
 
 -- [ frac ], frac = decimal-point 1*DIGIT
 unfoldable pub frac : Reader
-frac [] = some []
-frac (b ∷ t) = elim (eqb b 0x2E) [ true ↦ digits1 t | false ↦ some (b ∷ t) ]
+frac [] = Some []
+frac (b ∷ t) = elim (eqb b 0x2E) [ true ↦ digits1 t | false ↦ Some (b ∷ t) ]
 
 -- [ minus / plus ]
 unfoldable pub sign : Text → Text
@@ -37,8 +37,8 @@ sign (b ∷ t) = first ((eqb b 0x2D, t) ∷ (eqb b 0x2B, t) ∷ []) (b ∷ t)
 
 -- [ exp ], exp = e [ minus / plus ] 1*DIGIT
 unfoldable pub exp : Reader
-exp [] = some []
-exp (b ∷ t) = first ((eqb b 0x65, digits1 (sign t)) ∷ (eqb b 0x45, digits1 (sign t)) ∷ []) (some (b ∷ t))
+exp [] = Some []
+exp (b ∷ t) = first ((eqb b 0x65, digits1 (sign t)) ∷ (eqb b 0x45, digits1 (sign t)) ∷ []) (Some (b ∷ t))
 
 -- number = [ minus ] int [ frac ] [ exp ]
 unfoldable pub number : Reader
@@ -54,4 +54,4 @@ whole t = do
   _ ← guard (is_empty r)
   n ← decimal t
   _ ← guard (leb n most)
-  some n
+  Some n

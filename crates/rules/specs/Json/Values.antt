@@ -1,6 +1,6 @@
 -- Objects, arrays and values. What a container holds is a list; how deep values nest is a number that falls.
 use Rattle.std.specs.Prelude.{true, false, List, [], ◌∷◌, ℕ, zero, suc, eqb, length}
-use Rattle.std.proofs.Math.Option.{Option, none, some}
+use Rattle.std.specs.Prelude.{Option, None, Some}
 use Rattle.rules.specs.Bytes.{Bytes, ascii, ◌>>=◌, is_empty}
 use Rattle.rules.specs.Json.Text.{Text, Reader, Taker, behind, spelled, ws, byte, word}
 use Rattle.rules.specs.Json.Numbers.{number}
@@ -33,25 +33,25 @@ closing close t = closed_by close (ws t)
 module _ {A : Type 0} where
   -- one more in front
   unfoldable pub and_then : A → Option (List A × Text) → Option (List A × Text)
-  and_then x none = none
-  and_then x (some p) = some (x ∷ p.0, p.1)
+  and_then x None = None
+  and_then x (Some p) = Some (x ∷ p.0, p.1)
 
   unfoldable pub after_item : A → Behind → Taker (List A) → Option (List A × Text)
-  after_item x (closed t) others = some (x ∷ [], t)
+  after_item x (closed t) others = Some (x ∷ [], t)
   after_item x (onward t) others = and_then x (others t)
-  after_item x neither others = none
+  after_item x neither others = None
 
   -- one item or more, fewer than the bound
   unfoldable pub items : Taker A → (close bound : ℕ) → Taker (List A)
-  items item close zero t = none
+  items item close zero t = None
   items item close (suc n) t = do
     (x, r) ← item t
     after_item x (closing close r) (λ u. items item close n u)
 
   unfoldable pub items_behind : Taker A → (close : ℕ) → Behind → Option (List A × Text)
-  items_behind item close (closed t) = some ([], t)
+  items_behind item close (closed t) = Some ([], t)
   items_behind item close (onward t) = items item close (suc (length t)) t
-  items_behind item close neither = none
+  items_behind item close neither = None
 
   -- each item takes a byte at least, so there are fewer than the bytes that are left
   unfoldable pub list : Taker A → (close : ℕ) → Taker (List A)
@@ -67,7 +67,7 @@ Member = Bytes × Text
 unfoldable pub colon : Reader
 colon t = do
   r ← byte 0x3A (ws t)
-  some (ws r)
+  Some (ws r)
 
 -- member = string name-separator value
 unfoldable pub member : Reader → Taker Member
@@ -76,7 +76,7 @@ member value t = do
   (name, r) ← string n
   v ← colon r
   (text, u) ← spelled value v
-  some ((name, text), u)
+  Some ((name, text), u)
 
 -- the same by its place: in the place of the value's text all that is left from the value on
 unfoldable pub member_left : Reader → Taker Member
@@ -85,7 +85,7 @@ member_left value t = do
   (name, r) ← string n
   v ← colon r
   u ← value v
-  some ((name, v), u)
+  Some ((name, v), u)
 
 -- object = begin-object [ member *( value-separator member ) ] end-object: its members, behind the brace
 unfoldable pub contents : Reader → Taker (List Member)
@@ -99,7 +99,7 @@ elements value = list (spelled value) 0x5D
 
 -- false / null / true / number / string
 unfoldable pub scalar : Reader
-scalar [] = none
+scalar [] = None
 scalar (b ∷ t) =
     elim (eqb b 0x22) [
       | true ↦ behind (string t)
@@ -121,7 +121,7 @@ scalar (b ∷ t) =
 
 -- value = false / null / true / object / array / number / string, where objects and arrays are read as given
 unfoldable pub value_by : (object array : Reader) → Reader
-value_by object array [] = none
+value_by object array [] = None
 value_by object array (b ∷ t) =
     elim (eqb b 0x7B) [
       | true ↦ object t
@@ -135,15 +135,15 @@ value_by object array (b ∷ t) =
 
 -- a value in which objects and arrays nest at most d deep
 unfoldable pub value : (d : ℕ) → Reader
-value zero = value_by (λ t. none) (λ t. none)
+value zero = value_by (λ t. None) (λ t. None)
 value (suc d) = value_by (λ t. behind (contents (value d) t)) (λ t. behind (elements (value d) t))
 
 -- ---- JSON-text = ws value ws, and nothing more
 
 module _ {A : Type 0} where
   unfoldable pub alone : Option (A × Text) → Option A
-  alone none = none
-  alone (some p) = elim (is_empty (ws p.1)) [ true ↦ some p.0 | false ↦ none ]
+  alone None = None
+  alone (Some p) = elim (is_empty (ws p.1)) [ true ↦ Some p.0 | false ↦ None ]
 
 -- a text that is one object: its members, whose values nest at most d deep
 unfoldable pub object_of : (d : ℕ) → Text → Option (List Member)
@@ -162,4 +162,4 @@ unfoldable pub members_left : (d : ℕ) → Text → Option (List Member)
 members_left d t = do
   r ← byte 0x7B (ws t)
   (ms, u) ← list (member_left (value d)) 0x7D r
-  some ms
+  Some ms

@@ -6,11 +6,11 @@ use Rattle.entries_c.proofs.Showing.{standing-place}
 use Rattle.entries_c.proofs.shows.kerumpase_path_of.Goals as goal
 
 pub overflow_sub-result : goal.overflow_sub-result
-overflow_sub-result c = (writes-standing _ (sym c.in-Writes.is ∙ c.judge.ensures)).ordered
+overflow_sub-result c = (writes-standing _ (sym c.in-Some.is ∙ c.judge.ensures)).ordered
 
-pub returns-in-Writes : goal.returns-in-Writes
-returns-in-Writes c = standing-place (writes-standing _ (sym c.in-Writes.is ∙ c.judge.ensures))
+pub returns-in-Some : goal.returns-in-Some
+returns-in-Some c = standing-place (writes-standing _ (sym c.in-Some.is ∙ c.judge.ensures))
 
-pub returns-in-Nothing : goal.returns-in-Nothing
+pub returns-in-None : goal.returns-in-None
 unfolding place_by
-returns-in-Nothing c = sym (ap place_by (nothing-place _ (sym c.in-Nothing.is ∙ c.judge.ensures)))
+returns-in-None c = sym (ap place_by (nothing-place _ (sym c.in-None.is ∙ c.judge.ensures)))

@@ -4,16 +4,16 @@ use Rattle.manifests.specs.Rooms.{kept_is}
 use Rattle.entries_c.proofs.Counting.{counted-accepted, counted-refused}
 use Rattle.entries_c.proofs.states.kerumpase_keep.Goals as goal
 
-pub returns-in-Numbers : goal.returns-in-Numbers
+pub returns-in-Ok : goal.returns-in-Ok
 unfolding kept_is
-returns-in-Numbers c = record {
-  value = counted-accepted (ap kept_is (sym c.in-Numbers.is) ∙ c.keep.ensures.answer) c.accepted.ensures;
+returns-in-Ok c = record {
+  value = counted-accepted (ap kept_is (sym c.in-Ok.is) ∙ c.keep.ensures.answer) c.accepted.ensures;
   kept_after = c.keep.ensures.holds;
 }
 
-pub returns-in-Refused : goal.returns-in-Refused
+pub returns-in-Err : goal.returns-in-Err
 unfolding kept_is
-returns-in-Refused c = record {
-  value = counted-refused (ap kept_is (sym c.in-Refused.is) ∙ c.keep.ensures.answer) c.refused_as.ensures;
+returns-in-Err c = record {
+  value = counted-refused (ap kept_is (sym c.in-Err.is) ∙ c.keep.ensures.answer) c.refused_as.ensures;
   kept_after = c.keep.ensures.holds;
 }

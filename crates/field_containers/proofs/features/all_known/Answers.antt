@@ -26,11 +26,11 @@ returns-in_default c =
     onward-none c.args.s.now c.loop-n.i left o c.in_default.ensures
 
 pub is_known-requires : goal.is_known-requires
-is_known-requires c = let q = c.in-Of.ensures in q.named
+is_known-requires c = let q = c.in-Some.ensures in q.named
 
 pub closing-requires : goal.closing-requires
 closing-requires c =
-    let q = c.in-Of.ensures in q.named.within
+    let q = c.in-Some.ensures in q.named.within
 
 pub returns-in-Neither-closing : goal.returns-in-Neither-closing
 returns-in-Neither-closing c =
@@ -39,8 +39,8 @@ returns-in-Neither-closing c =
     c.args.s.now
     c.loop-n.i
     left o
-    c.in-Of.n
-    c.in-Of.ensures
+    c.in-Some.n
+    c.in-Some.ensures
     c.in-Neither-closing.ensures
 
 pub returns-in-Closed-closing : goal.returns-in-Closed-closing
@@ -49,20 +49,20 @@ returns-in-Closed-closing c =
     (Listed c.args.s.now c.args.at)
     (Onward c.args.s.now)
     c.loop-n.i
-    (decoded (drop c.in-Of.n.at c.args.s.now))
+    (decoded (drop c.in-Some.n.at c.args.s.now))
     (known_names c.args.writer)
     c.loop-n.invariant.1
     (sym c.is_known.ensures ∙ c.if-is_known.true)
-    (λ left o. onward-closed c.args.s.now c.loop-n.i left o c.in-Of.n c.in-Of.ensures
+    (λ left o. onward-closed c.args.s.now c.loop-n.i left o c.in-Some.n c.in-Some.ensures
     c.in-Closed-closing.ensures)
 
 pub loop-n-smaller : goal.loop-n-smaller
 loop-n-smaller c =
-    let q = c.in-Of.ensures in
-    let low : c.loop-n.i + 1 ≤ c.in-Of.n.at = q.from in
-    let mid : c.in-Of.n.at + 1 ≤ c.in-Of.n.end = q.named.from in
+    let q = c.in-Some.ensures in
+    let low : c.loop-n.i + 1 ≤ c.in-Some.n.at = q.from in
+    let mid : c.in-Some.n.at + 1 ≤ c.in-Some.n.end = q.named.from in
     let f = c.in-More-closing.ensures in
-    let after : c.in-Of.n.end + 1 ≤ c.in-More-closing.k = f.1 in
+    let after : c.in-Some.n.end + 1 ≤ c.in-More-closing.k = f.1 in
     let within : c.in-More-closing.k ≤ length c.args.s.now = f.2 in
     omega arith
 
@@ -74,12 +74,12 @@ loop-n-preserved c =
           (Listed c.args.s.now c.args.at)
           (Onward c.args.s.now)
           c.loop-n.i
-          (decoded (drop c.in-Of.n.at c.args.s.now))
+          (decoded (drop c.in-Some.n.at c.args.s.now))
           (known_names c.args.writer)
           c.loop-n.invariant.1
           (sym c.is_known.ensures ∙ c.if-is_known.true)
           c.in-More-closing.k
-          (λ left o. onward-more c.args.s.now c.loop-n.i left o c.in-Of.n c.in-Of.ensures c.in-More-closing.k f),
+          (λ left o. onward-more c.args.s.now c.loop-n.i left o c.in-Some.n c.in-Some.ensures c.in-More-closing.k f),
     )
 
 pub returns-else-is_known : goal.returns-else-is_known
@@ -88,10 +88,10 @@ returns-else-is_known c =
     (Listed c.args.s.now c.args.at)
     (Onward c.args.s.now)
     c.loop-n.i
-    (decoded (drop c.in-Of.n.at c.args.s.now))
+    (decoded (drop c.in-Some.n.at c.args.s.now))
     (known_names c.args.writer)
     c.loop-n.invariant.1
-    (λ left o. onward-first c.args.s.now c.loop-n.i left o c.in-Of.n c.in-Of.ensures)
+    (λ left o. onward-first c.args.s.now c.loop-n.i left o c.in-Some.n c.in-Some.ensures)
     (sym c.is_known.ensures ∙ c.if-is_known.false)
 
 pub returns-in-Neither : goal.returns-in-Neither

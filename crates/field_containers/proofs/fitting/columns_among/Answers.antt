@@ -26,12 +26,12 @@ returns-in_default c =
 
 pub name_held-requires : goal.name_held-requires
 name_held-requires c =
-    let q = c.in-Of.ensures in
-    (c.requires.1, c.requires.2, record { end = c.in-Of.n.end; closed = q.named.closed })
+    let q = c.in-Some.ensures in
+    (c.requires.1, c.requires.2, record { end = c.in-Some.n.end; closed = q.named.closed })
 
 pub closing-requires : goal.closing-requires
 closing-requires c =
-    let q = c.in-Of.ensures in q.named.within
+    let q = c.in-Some.ensures in q.named.within
 
 pub returns-in-Neither-closing : goal.returns-in-Neither-closing
 returns-in-Neither-closing c =
@@ -40,25 +40,25 @@ returns-in-Neither-closing c =
     c.args.t.now
     c.loop-n.i
     left o
-    c.in-Of.n
-    c.in-Of.ensures
+    c.in-Some.n
+    c.in-Some.ensures
     c.in-Neither-closing.ensures
 
 pub returns-in-Closed-closing : goal.returns-in-Closed-closing
 returns-in-Closed-closing c =
-    λ xs ys w l. known-last (Listed c.args.t.now c.args.columns) (Onward c.args.t.now) c.loop-n.i (name_in c.args.t.now c.in-Of.n) xs
+    λ xs ys w l. known-last (Listed c.args.t.now c.args.columns) (Onward c.args.t.now) c.loop-n.i (name_in c.args.t.now c.in-Some.n) xs
     (c.loop-n.invariant.1 xs w) (sym (c.name_held.ensures xs w) ∙ c.if-name_held.true)
-    (λ left o. onward-closed c.args.t.now c.loop-n.i left o c.in-Of.n c.in-Of.ensures
+    (λ left o. onward-closed c.args.t.now c.loop-n.i left o c.in-Some.n c.in-Some.ensures
     c.in-Closed-closing.ensures)
     ys l
 
 pub loop-n-smaller : goal.loop-n-smaller
 loop-n-smaller c =
-    let q = c.in-Of.ensures in
+    let q = c.in-Some.ensures in
     let f = c.in-More-closing.ensures in
-    let low : c.loop-n.i + 1 ≤ c.in-Of.n.at = q.from in
-    let mid : c.in-Of.n.at + 1 ≤ c.in-Of.n.end = q.named.from in
-    let high : c.in-Of.n.end + 1 ≤ c.in-More-closing.k = f.1 in
+    let low : c.loop-n.i + 1 ≤ c.in-Some.n.at = q.from in
+    let mid : c.in-Some.n.at + 1 ≤ c.in-Some.n.end = q.named.from in
+    let high : c.in-Some.n.end + 1 ≤ c.in-More-closing.k = f.1 in
     let within : c.in-More-closing.k ≤ length c.args.t.now = f.2 in
     omega arith
 
@@ -66,15 +66,15 @@ pub loop-n-preserved : goal.loop-n-preserved
 loop-n-preserved c =
     let f = c.in-More-closing.ensures in (
       f.2,
-      λ xs w. known_more (Listed c.args.t.now c.args.columns) (Onward c.args.t.now) c.loop-n.i (name_in c.args.t.now c.in-Of.n) xs (c.loop-n.invariant.1 xs w)
+      λ xs w. known_more (Listed c.args.t.now c.args.columns) (Onward c.args.t.now) c.loop-n.i (name_in c.args.t.now c.in-Some.n) xs (c.loop-n.invariant.1 xs w)
           (sym (c.name_held.ensures xs w) ∙ c.if-name_held.true) c.in-More-closing.k
-          (λ left o. onward-more c.args.t.now c.loop-n.i left o c.in-Of.n c.in-Of.ensures c.in-More-closing.k f),
+          (λ left o. onward-more c.args.t.now c.loop-n.i left o c.in-Some.n c.in-Some.ensures c.in-More-closing.k f),
     )
 
 pub returns-else-name_held : goal.returns-else-name_held
 returns-else-name_held c =
-    λ xs ys w l. known-not (Listed c.args.t.now c.args.columns) (Onward c.args.t.now) c.loop-n.i (name_in c.args.t.now c.in-Of.n) xs (c.loop-n.invariant.1 xs w)
-    (λ left o. onward-first c.args.t.now c.loop-n.i left o c.in-Of.n c.in-Of.ensures)
+    λ xs ys w l. known-not (Listed c.args.t.now c.args.columns) (Onward c.args.t.now) c.loop-n.i (name_in c.args.t.now c.in-Some.n) xs
+    (c.loop-n.invariant.1 xs w) (λ left o. onward-first c.args.t.now c.loop-n.i left o c.in-Some.n c.in-Some.ensures)
     (sym (c.name_held.ensures xs w) ∙ c.if-name_held.false) ys l
 
 pub returns-in-Neither : goal.returns-in-Neither

@@ -10,7 +10,8 @@ spelled_alike-requires c =
     (c.requires.0.pairing.within, c.requires.1)
 
 pub returns-then-spelled_alike : goal.returns-then-spelled_alike
-returns-then-spelled_alike c = λ ps cs w l. sym (sets_same (c.spelled_alike.ensures c.if-spelled_alike.true (firsts ps) cs (pairing-object w) l))
+returns-then-spelled_alike c =
+    λ ps cs w l. c.if-spelled_alike.true ∙ sym (sets_same (c.spelled_alike.ensures c.if-spelled_alike.true (firsts ps) cs (pairing-object w) l))
 
 pub names_among-requires : goal.names_among-requires
 names_among-requires c =
@@ -26,7 +27,7 @@ returns-then-names_among c = λ ps cs w l. c.columns_among.ensures (firsts ps) c
     ∙ sym (ap (λ (b : Bool). b && all_among (firsts ps) cs)
     (sym (c.names_among.ensures (firsts ps) cs (pairing-object w) l) ∙ c.if-names_among.true))
 
-pub returns : goal.returns
+pub returns-else-names_among : goal.returns-else-names_among
 unfolding same_set
-returns c = λ ps cs w l. sym (ap (λ (b : Bool). b && all_among (firsts ps) cs)
+returns-else-names_among c = λ ps cs w l. c.if-names_among.false ∙ sym (ap (λ (b : Bool). b && all_among (firsts ps) cs)
     (sym (c.names_among.ensures (firsts ps) cs (pairing-object w) l) ∙ c.if-names_among.false))

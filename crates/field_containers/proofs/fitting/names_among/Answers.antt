@@ -26,12 +26,12 @@ returns-in_default c =
 
 pub holds_string-requires : goal.holds_string-requires
 holds_string-requires c =
-    let m = c.in-Member.ensures in
-    (c.requires.1, record { end = c.in-Member.n.end; closed = m.named.closed }, c.requires.2)
+    let m = c.in-Some.ensures in
+    (c.requires.1, record { end = c.in-Some.n.end; closed = m.named.closed }, c.requires.2)
 
 pub closing-requires : goal.closing-requires
 closing-requires c =
-    let m = c.in-Member.ensures in m.within
+    let m = c.in-Some.ensures in m.within
 
 pub returns-in-Neither-closing : goal.returns-in-Neither-closing
 returns-in-Neither-closing c =
@@ -40,27 +40,27 @@ returns-in-Neither-closing c =
     c.args.s.now
     c.loop-n.i
     left o
-    c.in-Member.n
-    c.in-Member.field-1
-    c.in-Member.e
-    c.in-Member.ensures
+    c.in-Some.n
+    c.in-Some.field-0-1
+    c.in-Some.e
+    c.in-Some.ensures
     c.in-Neither-closing.ensures
 
 pub returns-in-Closed-closing : goal.returns-in-Closed-closing
 returns-in-Closed-closing c =
-    λ xs ys w l. known-last (Object 29 c.args.s.now c.args.values) (Members 29 c.args.s.now) c.loop-n.i (name_in c.args.s.now c.in-Member.n) ys
+    λ xs ys w l. known-last (Object 29 c.args.s.now c.args.values) (Members 29 c.args.s.now) c.loop-n.i (name_in c.args.s.now c.in-Some.n) ys
     (c.loop-n.invariant.1 ys l) (sym (c.holds_string.ensures ys l) ∙ c.if-holds_string.true)
-    (λ left o. members-closed 29 c.args.s.now c.loop-n.i left o c.in-Member.n c.in-Member.field-1 c.in-Member.e c.in-Member.ensures
+    (λ left o. members-closed 29 c.args.s.now c.loop-n.i left o c.in-Some.n c.in-Some.field-0-1 c.in-Some.e c.in-Some.ensures
     c.in-Closed-closing.ensures)
     xs w
 
 pub loop-n-smaller : goal.loop-n-smaller
 loop-n-smaller c =
-    let m = c.in-Member.ensures in
+    let m = c.in-Some.ensures in
     let f = c.in-More-closing.ensures in
-    let low : c.loop-n.i + 1 ≤ c.in-Member.field-1 = m.from in
-    let mid : c.in-Member.field-1 ≤ c.in-Member.e = m.ordered in
-    let high : c.in-Member.e + 1 ≤ c.in-More-closing.k = f.1 in
+    let low : c.loop-n.i + 1 ≤ c.in-Some.field-0-1 = m.from in
+    let mid : c.in-Some.field-0-1 ≤ c.in-Some.e = m.ordered in
+    let high : c.in-Some.e + 1 ≤ c.in-More-closing.k = f.1 in
     let within : c.in-More-closing.k ≤ length c.args.s.now = f.2 in
     omega arith
 
@@ -68,16 +68,16 @@ pub loop-n-preserved : goal.loop-n-preserved
 loop-n-preserved c =
     let f = c.in-More-closing.ensures in (
       f.2,
-      λ ys l. known_more (Object 29 c.args.s.now c.args.values) (Members 29 c.args.s.now) c.loop-n.i (name_in c.args.s.now c.in-Member.n) ys
+      λ ys l. known_more (Object 29 c.args.s.now c.args.values) (Members 29 c.args.s.now) c.loop-n.i (name_in c.args.s.now c.in-Some.n) ys
           (c.loop-n.invariant.1 ys l) (sym (c.holds_string.ensures ys l) ∙ c.if-holds_string.true) c.in-More-closing.k
-          (λ left o. members-more 29 c.args.s.now c.loop-n.i left o c.in-Member.n c.in-Member.field-1 c.in-Member.e c.in-Member.ensures c.in-More-closing.k f),
+          (λ left o. members-more 29 c.args.s.now c.loop-n.i left o c.in-Some.n c.in-Some.field-0-1 c.in-Some.e c.in-Some.ensures c.in-More-closing.k f),
     )
 
 pub returns-else-holds_string : goal.returns-else-holds_string
 returns-else-holds_string c =
-    λ xs ys w l. known-not (Object 29 c.args.s.now c.args.values) (Members 29 c.args.s.now) c.loop-n.i (name_in c.args.s.now c.in-Member.n) ys
-    (c.loop-n.invariant.1 ys l) (λ left o. members-first 29 c.args.s.now c.loop-n.i left o c.in-Member.n c.in-Member.field-1 c.in-Member.e
-    c.in-Member.ensures)
+    λ xs ys w l. known-not (Object 29 c.args.s.now c.args.values) (Members 29 c.args.s.now) c.loop-n.i (name_in c.args.s.now c.in-Some.n) ys
+    (c.loop-n.invariant.1 ys l) (λ left o. members-first 29 c.args.s.now c.loop-n.i left o c.in-Some.n c.in-Some.field-0-1 c.in-Some.e
+    c.in-Some.ensures)
     (sym (c.holds_string.ensures ys l) ∙ c.if-holds_string.false) xs w
 
 pub returns-in-Neither : goal.returns-in-Neither

@@ -1,23 +1,18 @@
 -- `stands` meets its contract. As many bytes are alike as are asked for.
 use mathlib.Core.Path.{sym, ◌∙◌}
-use mathlib.Core.Bool.{false≢true}
-use Rattle.field_containers.proofs.Telling.{alike-again}
+use Prim.Native.Nat.{◌-◌, ◌≤◌}
 use native.Mathlib.Omega.{arith}
+use borrow.Author.Tests.{leb-true}
+use lib.ListN.{length}
+use Rattle.field_containers.proofs.Telling.{alike-again}
 use Rattle.field_containers.proofs.fitting.stands.Goals as goal
+use Rattle.field_containers.proofs.fitting.stands.Goals.{then-s-i-ge8, else-s-i-ge8}
 
-pub returns-then-size-gt8 : goal.returns-then-size-gt8
-returns-then-size-gt8 c = λ e. sym c.begins_with.ensures ∙ e
-
-pub returns-then-s-i-lt8 : goal.returns-then-s-i-lt8
-returns-then-s-i-lt8 c = λ e. absurd (false≢true e)
-
-pub returns-then-t-j-lt8 : goal.returns-then-t-j-lt8
-returns-then-t-j-lt8 c = λ e. absurd (false≢true e)
-
-pub returns-then-alike-size : goal.returns-then-alike-size
-returns-then-alike-size c = λ e. absurd (false≢true e)
-
-pub returns : goal.returns
-returns c =
-    λ _. alike-again c.args.s.now c.args.t.now c.args.i c.args.end c.args.j _ c.requires.0 c.requires.1
-    (omega arith) (omega (arith, c.common-alike.ensures.0)) c.common-alike.ensures.1
+pub returns-then-t-j-ge8 : goal.returns-then-t-j-ge8
+returns-then-t-j-ge8 c =
+    let room : 8 ≤ length c.args.t.now - c.args.j = elim c.if-s-i-ge8.branch [
+      | then-s-i-ge8 w ↦ leb-true _ _ (sym w.value-is ∙ c.if-t-j-ge8.true)
+      | else-s-i-ge8 w ↦ absurd (omega (arith, leb-true _ _ (sym w.value-is ∙ c.if-t-j-ge8.true)))
+    ] in
+    λ e. alike-again c.args.s.now c.args.t.now c.args.i c.args.end c.args.j _ c.requires.0 c.requires.1 (leb-true _ _ e)
+    (omega (arith, c.common.ensures.0)) c.common.ensures.1

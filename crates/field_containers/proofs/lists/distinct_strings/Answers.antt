@@ -24,7 +24,7 @@ returns-in_default c =
     onward-none c.args.s.now c.loop-n.i left o c.in_default.ensures
 
 pub closing-requires : goal.closing-requires
-closing-requires c = let q = c.in-Of.ensures in q.named.within
+closing-requires c = let q = c.in-Some.ensures in q.named.within
 
 pub returns-in-Neither-closing : goal.returns-in-Neither-closing
 returns-in-Neither-closing c =
@@ -33,8 +33,8 @@ returns-in-Neither-closing c =
     c.args.s.now
     c.loop-n.i
     left o
-    c.in-Of.n
-    c.in-Of.ensures
+    c.in-Some.n
+    c.in-Some.ensures
     c.in-Neither-closing.ensures
 
 pub returns-in-Closed-closing : goal.returns-in-Closed-closing
@@ -43,17 +43,17 @@ returns-in-Closed-closing c =
     (Listed c.args.s.now c.args.at)
     (Onward c.args.s.now)
     c.loop-n.i
-    (decoded (drop c.in-Of.n.at c.args.s.now))
+    (decoded (drop c.in-Some.n.at c.args.s.now))
     c.loop-n.invariant.1
-    (λ left o. onward-closed c.args.s.now c.loop-n.i left o c.in-Of.n
-    c.in-Of.ensures
+    (λ left o. onward-closed c.args.s.now c.loop-n.i left o c.in-Some.n
+    c.in-Some.ensures
     c.in-Closed-closing.ensures)
 
 pub held_from-requires : goal.held_from-requires
 held_from-requires c =
-    let q = c.in-Of.ensures in
+    let q = c.in-Some.ensures in
     let f = c.in-More-closing.ensures in
-    (f.2, record { end = c.in-Of.n.end; closed = q.named.closed })
+    (f.2, record { end = c.in-Some.n.end; closed = q.named.closed })
 
 pub returns-then-held_from : goal.returns-then-held_from
 returns-then-held_from c =
@@ -61,10 +61,10 @@ returns-then-held_from c =
     (Listed c.args.s.now c.args.at)
     (Onward c.args.s.now)
     c.loop-n.i
-    (decoded (drop c.in-Of.n.at c.args.s.now))
+    (decoded (drop c.in-Some.n.at c.args.s.now))
     c.loop-n.invariant.1
     c.in-More-closing.k
-    (λ left o. onward-more c.args.s.now c.loop-n.i left o c.in-Of.n c.in-Of.ensures c.in-More-closing.k
+    (λ left o. onward-more c.args.s.now c.loop-n.i left o c.in-Some.n c.in-Some.ensures c.in-More-closing.k
     c.in-More-closing.ensures)
     c.held_from.result
     c.held_from.ensures
@@ -72,11 +72,11 @@ returns-then-held_from c =
 
 pub loop-n-smaller : goal.loop-n-smaller
 loop-n-smaller c =
-    let q = c.in-Of.ensures in
-    let low : c.loop-n.i + 1 ≤ c.in-Of.n.at = q.from in
-    let mid : c.in-Of.n.at + 1 ≤ c.in-Of.n.end = q.named.from in
+    let q = c.in-Some.ensures in
+    let low : c.loop-n.i + 1 ≤ c.in-Some.n.at = q.from in
+    let mid : c.in-Some.n.at + 1 ≤ c.in-Some.n.end = q.named.from in
     let f = c.in-More-closing.ensures in
-    let after : c.in-Of.n.end + 1 ≤ c.in-More-closing.k = f.1 in
+    let after : c.in-Some.n.end + 1 ≤ c.in-More-closing.k = f.1 in
     let within : c.in-More-closing.k ≤ length c.args.s.now = f.2 in
     omega arith
 
@@ -88,10 +88,10 @@ loop-n-preserved c =
           (Listed c.args.s.now c.args.at)
           (Onward c.args.s.now)
           c.loop-n.i
-          (decoded (drop c.in-Of.n.at c.args.s.now))
+          (decoded (drop c.in-Some.n.at c.args.s.now))
           c.loop-n.invariant.1
           c.in-More-closing.k
-          (λ left o. onward-more c.args.s.now c.loop-n.i left o c.in-Of.n c.in-Of.ensures c.in-More-closing.k
+          (λ left o. onward-more c.args.s.now c.loop-n.i left o c.in-Some.n c.in-Some.ensures c.in-More-closing.k
           c.in-More-closing.ensures)
           c.held_from.result
           c.held_from.ensures

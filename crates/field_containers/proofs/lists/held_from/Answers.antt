@@ -26,8 +26,8 @@ returns-in_default c =
 
 pub same_strings-requires : goal.same_strings-requires
 same_strings-requires c =
-    let q = c.in-Of.ensures in
-    (c.requires.1, record { end = c.in-Of.n.end; closed = q.named.closed })
+    let q = c.in-Some.ensures in
+    (c.requires.1, record { end = c.in-Some.n.end; closed = q.named.closed })
 
 pub returns-then-same_strings : goal.returns-then-same_strings
 returns-then-same_strings c =
@@ -35,15 +35,15 @@ returns-then-same_strings c =
     (Onward c.args.s.now c.args.at)
     (Onward c.args.s.now)
     c.loop-n.i
-    (decoded (drop c.in-Of.n.at c.args.s.now))
+    (decoded (drop c.in-Some.n.at c.args.s.now))
     (decoded (drop c.args.j c.args.t.now))
     c.loop-n.invariant.1
-    (λ left o. onward-first c.args.s.now c.loop-n.i left o c.in-Of.n c.in-Of.ensures)
+    (λ left o. onward-first c.args.s.now c.loop-n.i left o c.in-Some.n c.in-Some.ensures)
     (sym c.same_strings.ensures ∙ c.if-same_strings.true)
 
 pub closing-requires : goal.closing-requires
 closing-requires c =
-    let q = c.in-Of.ensures in q.named.within
+    let q = c.in-Some.ensures in q.named.within
 
 pub returns-in-Neither : goal.returns-in-Neither
 returns-in-Neither c =
@@ -52,8 +52,8 @@ returns-in-Neither c =
     c.args.s.now
     c.loop-n.i
     left o
-    c.in-Of.n
-    c.in-Of.ensures
+    c.in-Some.n
+    c.in-Some.ensures
     c.in-Neither.ensures
 
 pub returns-in-Closed : goal.returns-in-Closed
@@ -62,20 +62,20 @@ returns-in-Closed c =
     (Onward c.args.s.now c.args.at)
     (Onward c.args.s.now)
     c.loop-n.i
-    (decoded (drop c.in-Of.n.at c.args.s.now))
+    (decoded (drop c.in-Some.n.at c.args.s.now))
     (decoded (drop c.args.j c.args.t.now))
     c.loop-n.invariant.1
     (sym c.same_strings.ensures ∙ c.if-same_strings.false)
-    (λ left o. onward-closed c.args.s.now c.loop-n.i left o c.in-Of.n c.in-Of.ensures
+    (λ left o. onward-closed c.args.s.now c.loop-n.i left o c.in-Some.n c.in-Some.ensures
     c.in-Closed.ensures)
 
 pub loop-n-smaller : goal.loop-n-smaller
 loop-n-smaller c =
-    let q = c.in-Of.ensures in
-    let low : c.loop-n.i + 1 ≤ c.in-Of.n.at = q.from in
-    let mid : c.in-Of.n.at + 1 ≤ c.in-Of.n.end = q.named.from in
+    let q = c.in-Some.ensures in
+    let low : c.loop-n.i + 1 ≤ c.in-Some.n.at = q.from in
+    let mid : c.in-Some.n.at + 1 ≤ c.in-Some.n.end = q.named.from in
     let f = c.in-More.ensures in
-    let after : c.in-Of.n.end + 1 ≤ c.in-More.k = f.1 in
+    let after : c.in-Some.n.end + 1 ≤ c.in-More.k = f.1 in
     let within : c.in-More.k ≤ length c.args.s.now = f.2 in
     omega arith
 
@@ -87,10 +87,10 @@ loop-n-preserved c =
           (Onward c.args.s.now c.args.at)
           (Onward c.args.s.now)
           c.loop-n.i
-          (decoded (drop c.in-Of.n.at c.args.s.now))
+          (decoded (drop c.in-Some.n.at c.args.s.now))
           (decoded (drop c.args.j c.args.t.now))
           c.loop-n.invariant.1
           (sym c.same_strings.ensures ∙ c.if-same_strings.false)
           c.in-More.k
-          (λ left o. onward-more c.args.s.now c.loop-n.i left o c.in-Of.n c.in-Of.ensures c.in-More.k f),
+          (λ left o. onward-more c.args.s.now c.loop-n.i left o c.in-Some.n c.in-Some.ensures c.in-More.k f),
     )

@@ -29,34 +29,34 @@ returns-in_default-read_name c =
 
 pub same_strings-requires : goal.same_strings-requires
 same_strings-requires c =
-    let p = c.in-Of-read_name.ensures in
-    let q = c.in-Of.ensures in
-    (record { end = c.in-Of.n.end; closed = q.named.closed }, record { end = c.in-Of-read_name.m.end; closed = p.named.closed })
+    let p = c.in-Some-read_name.ensures in
+    let q = c.in-Some.ensures in
+    (record { end = c.in-Some.n.end; closed = q.named.closed }, record { end = c.in-Some-read_name.m.end; closed = p.named.closed })
 
 pub closing-requires : goal.closing-requires
 closing-requires c =
-    let q = c.in-Of.ensures in q.named.within
+    let q = c.in-Some.ensures in q.named.within
 
 pub returns-in-Neither : goal.returns-in-Neither
 returns-in-Neither c =
-    let q = c.in-Of.ensures in
+    let q = c.in-Some.ensures in
     λ xs ys o r. let (a, b, g, u, v) = c.loop-n.invariant.2 xs ys o r in
-    onward-neither c.args.s.now c.loop-n.i a u c.in-Of.n q c.in-Neither.ensures
+    onward-neither c.args.s.now c.loop-n.i a u c.in-Some.n q c.in-Neither.ensures
 
 pub closing-requires-in-Closed : goal.closing-requires-in-Closed
 closing-requires-in-Closed c =
-    let p = c.in-Of-read_name.ensures in p.named.within
+    let p = c.in-Some-read_name.ensures in p.named.within
 
 pub returns-in-Neither-closing : goal.returns-in-Neither-closing
 returns-in-Neither-closing c =
-    let p = c.in-Of-read_name.ensures in
+    let p = c.in-Some-read_name.ensures in
     λ xs ys o r. let (a, b, g, u, v) = c.loop-n.invariant.2 xs ys o r in
-    onward-neither c.args.t.now c.loop-n.j b v c.in-Of-read_name.m p c.in-Neither-closing.ensures
+    onward-neither c.args.t.now c.loop-n.j b v c.in-Some-read_name.m p c.in-Neither-closing.ensures
 
 pub returns-in-Closed-closing : goal.returns-in-Closed-closing
 returns-in-Closed-closing c =
-    let p = c.in-Of-read_name.ensures in
-    let q = c.in-Of.ensures in
+    let p = c.in-Some-read_name.ensures in
+    let q = c.in-Some.ensures in
     pair-last
     c.args.s.now
     c.args.at
@@ -65,8 +65,8 @@ returns-in-Closed-closing c =
     c.loop-n.i
     c.loop-n.j
     c.loop-n.invariant.2
-    c.in-Of.n
-    c.in-Of-read_name.m
+    c.in-Some.n
+    c.in-Some-read_name.m
     q p
     (sym c.same_strings.ensures ∙ c.if-same_strings.true)
     c.in-Closed.ensures
@@ -74,8 +74,8 @@ returns-in-Closed-closing c =
 
 pub returns-in-More-closing : goal.returns-in-More-closing
 returns-in-More-closing c =
-    let p = c.in-Of-read_name.ensures in
-    let q = c.in-Of.ensures in
+    let p = c.in-Some-read_name.ensures in
+    let q = c.in-Some.ensures in
     pair-short
     c.args.s.now
     c.args.at
@@ -84,8 +84,8 @@ returns-in-More-closing c =
     c.loop-n.i
     c.loop-n.j
     c.loop-n.invariant.2
-    c.in-Of.n
-    c.in-Of-read_name.m
+    c.in-Some.n
+    c.in-Some-read_name.m
     q p
     (sym c.same_strings.ensures ∙ c.if-same_strings.true)
     c.in-Closed.ensures
@@ -93,18 +93,18 @@ returns-in-More-closing c =
 
 pub closing-requires-in-More : goal.closing-requires-in-More
 closing-requires-in-More c =
-    let p = c.in-Of-read_name.ensures in p.named.within
+    let p = c.in-Some-read_name.ensures in p.named.within
 
 pub returns-in-Neither-closing-2 : goal.returns-in-Neither-closing-2
 returns-in-Neither-closing-2 c =
-    let p = c.in-Of-read_name.ensures in
+    let p = c.in-Some-read_name.ensures in
     λ xs ys o r. let (a, b, g, u, v) = c.loop-n.invariant.2 xs ys o r in
-    onward-neither c.args.t.now c.loop-n.j b v c.in-Of-read_name.m p c.in-Neither-closing-2.ensures
+    onward-neither c.args.t.now c.loop-n.j b v c.in-Some-read_name.m p c.in-Neither-closing-2.ensures
 
 pub returns-in-Closed-closing-2 : goal.returns-in-Closed-closing-2
 returns-in-Closed-closing-2 c =
-    let p = c.in-Of-read_name.ensures in
-    let q = c.in-Of.ensures in
+    let p = c.in-Some-read_name.ensures in
+    let q = c.in-Some.ensures in
     pair-long
     c.args.s.now
     c.args.at
@@ -113,8 +113,8 @@ returns-in-Closed-closing-2 c =
     c.loop-n.i
     c.loop-n.j
     c.loop-n.invariant.2
-    c.in-Of.n
-    c.in-Of-read_name.m
+    c.in-Some.n
+    c.in-Some-read_name.m
     q p
     (sym c.same_strings.ensures ∙ c.if-same_strings.true)
     c.in-More.k
@@ -123,18 +123,18 @@ returns-in-Closed-closing-2 c =
 
 pub loop-n-smaller : goal.loop-n-smaller
 loop-n-smaller c =
-    let q = c.in-Of.ensures in
-    let low : c.loop-n.i + 1 ≤ c.in-Of.n.at = q.from in
-    let mid : c.in-Of.n.at + 1 ≤ c.in-Of.n.end = q.named.from in
+    let q = c.in-Some.ensures in
+    let low : c.loop-n.i + 1 ≤ c.in-Some.n.at = q.from in
+    let mid : c.in-Some.n.at + 1 ≤ c.in-Some.n.end = q.named.from in
     let f = c.in-More.ensures in
-    let after : c.in-Of.n.end + 1 ≤ c.in-More.k = f.1 in
+    let after : c.in-Some.n.end + 1 ≤ c.in-More.k = f.1 in
     let within : c.in-More.k ≤ length c.args.s.now = f.2 in
     omega arith
 
 pub loop-n-preserved : goal.loop-n-preserved
 loop-n-preserved c =
-    let p = c.in-Of-read_name.ensures in
-    let q = c.in-Of.ensures in
+    let p = c.in-Some-read_name.ensures in
+    let q = c.in-Some.ensures in
     let f = c.in-More.ensures in
     let g = c.in-More-closing-2.ensures in (
       f.2,
@@ -147,8 +147,8 @@ loop-n-preserved c =
           c.loop-n.i
           c.loop-n.j
           c.loop-n.invariant.2
-          c.in-Of.n
-          c.in-Of-read_name.m
+          c.in-Some.n
+          c.in-Some-read_name.m
           q p
           (sym c.same_strings.ensures ∙ c.if-same_strings.true)
           c.in-More.k
@@ -159,8 +159,8 @@ loop-n-preserved c =
 
 pub returns-else-same_strings : goal.returns-else-same_strings
 returns-else-same_strings c =
-    let p = c.in-Of-read_name.ensures in
-    let q = c.in-Of.ensures in
+    let p = c.in-Some-read_name.ensures in
+    let q = c.in-Some.ensures in
     pair-other
     c.args.s.now
     c.args.at
@@ -169,7 +169,7 @@ returns-else-same_strings c =
     c.loop-n.i
     c.loop-n.j
     c.loop-n.invariant.2
-    c.in-Of.n
-    c.in-Of-read_name.m
+    c.in-Some.n
+    c.in-Some-read_name.m
     q p
     (sym c.same_strings.ensures ∙ c.if-same_strings.false)

@@ -15,27 +15,21 @@ loop-x-init c =
 pub read_name-requires : goal.read_name-requires
 read_name-requires c = c.loop-x.invariant.0
 
-pub returns-in_default : goal.returns-in_default
-returns-in_default c =
-    λ d. collected-none d
-    c.args.s.now
-    c.args.at
-    c.loop-x.n
-    c.loop-x.i
-    (c.loop-x.invariant.2 d)
-    c.in_default.ensures
+pub returns-in_err-x-in-More : goal.returns-in_err-x-in-More
+returns-in_err-x-in-More c =
+    rw c.from_residual.ensures (λ d. collected-none d c.args.s.now c.args.at c.loop-x.n c.loop-x.i (c.loop-x.invariant.2 d) c.in_err-x-in-More.ensures)
 
 pub overflow_add-n : goal.overflow_add-n
 overflow_add-n c =
-    let q = c.in-Of.ensures in
+    let q = c.in_ok-x-in-More.ensures in
     let few : c.loop-x.n ≤ c.loop-x.i = c.loop-x.invariant.1 in
-    let low : c.loop-x.i + 1 ≤ c.in-Of.x.at = q.from in
-    let mid : c.in-Of.x.at + 1 ≤ c.in-Of.x.end = q.named.from in
-    let high : c.in-Of.x.end ≤ length c.args.s.now = q.named.within in
+    let low : c.loop-x.i + 1 ≤ c.in_ok-x-in-More.x.at = q.from in
+    let mid : c.in_ok-x-in-More.x.at + 1 ≤ c.in_ok-x-in-More.x.end = q.named.from in
+    let high : c.in_ok-x-in-More.x.end ≤ length c.args.s.now = q.named.within in
     search rules
 
 pub closing-requires : goal.closing-requires
-closing-requires c = let q = c.in-Of.ensures in q.named.within
+closing-requires c = c.in_ok-x-in-More.ensures.named.within
 
 pub returns-in-Neither-closing : goal.returns-in-Neither-closing
 returns-in-Neither-closing c =
@@ -45,8 +39,8 @@ returns-in-Neither-closing c =
     c.loop-x.n
     c.loop-x.i
     (c.loop-x.invariant.2 d)
-    c.in-Of.x
-    c.in-Of.ensures
+    c.in_ok-x-in-More.x
+    c.in_ok-x-in-More.ensures
     c.in-Neither-closing.ensures
 
 pub returns-in-Closed-closing : goal.returns-in-Closed-closing
@@ -57,35 +51,38 @@ returns-in-Closed-closing c =
     c.loop-x.n
     c.loop-x.i
     (c.loop-x.invariant.2 d)
-    c.in-Of.x
-    c.in-Of.ensures
+    c.in_ok-x-in-More.x
+    c.in_ok-x-in-More.ensures
     c.requires
     c.in-Closed-closing.e
     c.in-Closed-closing.ensures
 
 pub loop-x-smaller : goal.loop-x-smaller
 loop-x-smaller c =
-    let q = c.in-Of.ensures in
+    let q = c.in_ok-x-in-More.ensures in
     let few : c.loop-x.n ≤ c.loop-x.i = c.loop-x.invariant.1 in
-    let low : c.loop-x.i + 1 ≤ c.in-Of.x.at = q.from in
-    let mid : c.in-Of.x.at + 1 ≤ c.in-Of.x.end = q.named.from in
-    let high : c.in-Of.x.end ≤ length c.args.s.now = q.named.within in
+    let low : c.loop-x.i + 1 ≤ c.in_ok-x-in-More.x.at = q.from in
+    let mid : c.in_ok-x-in-More.x.at + 1 ≤ c.in_ok-x-in-More.x.end = q.named.from in
+    let high : c.in_ok-x-in-More.x.end ≤ length c.args.s.now = q.named.within in
     let f = c.in-More-closing.ensures in
-    let after : c.in-Of.x.end + 1 ≤ c.in-More-closing.j = f.1 in
+    let after : c.in_ok-x-in-More.x.end + 1 ≤ c.in-More-closing.j = f.1 in
     let within : c.in-More-closing.j ≤ length c.args.s.now = f.2 in
     omega arith
 
 pub loop-x-preserved : goal.loop-x-preserved
 loop-x-preserved c =
-    let q = c.in-Of.ensures in
+    let q = c.in_ok-x-in-More.ensures in
     let few : c.loop-x.n ≤ c.loop-x.i = c.loop-x.invariant.1 in
-    let low : c.loop-x.i + 1 ≤ c.in-Of.x.at = q.from in
-    let mid : c.in-Of.x.at + 1 ≤ c.in-Of.x.end = q.named.from in
-    let high : c.in-Of.x.end ≤ length c.args.s.now = q.named.within in
+    let low : c.loop-x.i + 1 ≤ c.in_ok-x-in-More.x.at = q.from in
+    let mid : c.in_ok-x-in-More.x.at + 1 ≤ c.in_ok-x-in-More.x.end = q.named.from in
+    let high : c.in_ok-x-in-More.x.end ≤ length c.args.s.now = q.named.within in
     let f = c.in-More-closing.ensures in
-    let after : c.in-Of.x.end + 1 ≤ c.in-More-closing.j = f.1 in
-    let within : c.in-More-closing.j ≤ length c.args.s.now = f.2 in
-    (within, omega arith, λ d. collected-more d c.args.s.now c.args.at c.loop-x.n c.loop-x.i (c.loop-x.invariant.2 d) c.in-Of.x q c.in-More-closing.j f)
+    let after : c.in_ok-x-in-More.x.end + 1 ≤ c.in-More-closing.j = f.1 in
+    let within : c.in-More-closing.j ≤ length c.args.s.now = f.2 in (
+      within,
+      omega arith,
+      λ d. collected-more d c.args.s.now c.args.at c.loop-x.n c.loop-x.i (c.loop-x.invariant.2 d) c.in_ok-x-in-More.x q c.in-More-closing.j f,
+    )
 
 pub returns-in-Neither : goal.returns-in-Neither
 returns-in-Neither c =

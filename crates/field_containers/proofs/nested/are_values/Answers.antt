@@ -10,32 +10,26 @@ use Rattle.field_containers.proofs.nested.are_values.Goals as goal
 pub read_member-requires : goal.read_member-requires
 read_member-requires c = let o = c.in-More.ensures in o.2
 
-pub returns-in_default : goal.returns-in_default
+pub returns-in_err-n-in-More : goal.returns-in_err-n-in-More
 unfolding in_field
-returns-in_default c =
-    λ w. first-none
-    c.args.s.now
-    c.args.at
-    w
-    c.in-More.first
-    c.in-More.ensures
-    c.in_default.ensures
+returns-in_err-n-in-More c =
+    rw c.from_residual.ensures (λ w. first-none c.args.s.now c.args.at w c.in-More.first c.in-More.ensures c.in_err-n-in-More.ensures)
 
 pub string_or_null-requires : goal.string_or_null-requires
 unfolding in_field
 string_or_null-requires c =
-    let m = c.in-Member.ensures in
+    let m = c.in_ok-n-in-More.ensures in
     (m.ordered, m.within, member-valued in_field _ _ _ m.read)
 
 pub closing-requires : goal.closing-requires
 closing-requires c =
-    let m = c.in-Member.ensures in
+    let m = c.in_ok-n-in-More.ensures in
     m.within
 
 pub values_from-requires : goal.values_from-requires
 unfolding in_field
 values_from-requires c =
-    let m = c.in-Member.ensures in (
+    let m = c.in_ok-n-in-More.ensures in (
       c.requires.0,
       first_more c.args.s.now c.args.at c.requires.1 c.in-More.first c.in-More.ensures _ _ _ m
           (subst (Told _) c.if-string_or_null.true c.string_or_null.ensures)
@@ -64,13 +58,13 @@ returns-in-Neither-closing c =
     c.in-More.first
     c.in-More.ensures
     _ _ _
-    c.in-Member.ensures
+    c.in_ok-n-in-More.ensures
     c.in-Neither-closing.ensures
 
 pub returns-in-Closed-closing : goal.returns-in-Closed-closing
 unfolding in_field
 returns-in-Closed-closing c =
-    let m = c.in-Member.ensures in
+    let m = c.in_ok-n-in-More.ensures in
     let y = subst (Told _) c.if-string_or_null.true c.string_or_null.ensures in
     let f = c.in-Closed-closing.ensures in
     λ w. (
@@ -96,5 +90,5 @@ returns-else-string_or_null c =
     c.in-More.first
     c.in-More.ensures
     _ _ _
-    c.in-Member.ensures
+    c.in_ok-n-in-More.ensures
     (subst (Told _) c.if-string_or_null.false c.string_or_null.ensures)

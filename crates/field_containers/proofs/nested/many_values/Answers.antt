@@ -4,7 +4,7 @@ use Rattle.rules.specs.Actions.{in_field}
 use Rattle.rules.specs.Bytes.{firsts}
 use Rattle.field_objects.proofs.Meeting.{contents-object}
 use Rattle.field_scalars.specs.Texts.{Told}
-use Rattle.field_containers.proofs.Few.{many-told, many-refused}
+use Rattle.field_containers.proofs.Few.{many-told}
 use Rattle.field_containers.proofs.nested.many_values.Goals as goal
 
 pub distinct_names-requires : goal.distinct_names-requires
@@ -20,6 +20,3 @@ returns-then-strings_or_nulls c =
     _
     (subst (Told _) c.if-strings_or_nulls.true (c.strings_or_nulls.ensures w))
     (c.distinct_names.ensures (firsts w.ms) (record { ms = w.ms; left = w.left; all = w.all; each = refl }))
-
-pub returns : goal.returns
-returns c = λ w. many-refused w.ms (subst (Told _) c.if-strings_or_nulls.false (c.strings_or_nulls.ensures w))

@@ -29,40 +29,40 @@ returns-in_default c =
 pub string_or_null-requires : goal.string_or_null-requires
 unfolding in_field
 string_or_null-requires c =
-    let m = c.in-Member.ensures in
+    let m = c.in-Some.ensures in
     (m.ordered, m.within, member-valued in_field _ _ _ m.read)
 
 pub closing-requires : goal.closing-requires
 closing-requires c =
-    let m = c.in-Member.ensures in m.within
+    let m = c.in-Some.ensures in m.within
 
 pub returns-in-Neither-closing : goal.returns-in-Neither-closing
 unfolding in_field
 returns-in-Neither-closing c =
-    let m = c.in-Member.ensures in
+    let m = c.in-Some.ensures in
     λ w. paired-broken
     c.args.s.now
     c.args.at
     c.loop-v.i
     c.loop-v.invariant
-    c.in-Member.field-0
-    c.in-Member.v
-    c.in-Member.e
+    c.in-Some.field-0-0
+    c.in-Some.v
+    c.in-Some.e
     m w
     c.in-Neither-closing.ensures
 
 pub returns-in-Closed-closing : goal.returns-in-Closed-closing
 unfolding in_field
 returns-in-Closed-closing c =
-    let m = c.in-Member.ensures in
+    let m = c.in-Some.ensures in
     λ w. paired-closed
     c.args.s.now
     c.args.at
     c.loop-v.i
     c.loop-v.invariant
-    c.in-Member.field-0
-    c.in-Member.v
-    c.in-Member.e
+    c.in-Some.field-0-0
+    c.in-Some.v
+    c.in-Some.e
     m
     (subst (Told _) c.if-string_or_null.true c.string_or_null.ensures)
     c.in-Closed-closing.ensures
@@ -70,26 +70,26 @@ returns-in-Closed-closing c =
 
 pub loop-v-smaller : goal.loop-v-smaller
 loop-v-smaller c =
-    let m = c.in-Member.ensures in
+    let m = c.in-Some.ensures in
     let f = c.in-More-closing.ensures in
-    let low : c.loop-v.i + 1 ≤ c.in-Member.v = m.from in
-    let mid : c.in-Member.v ≤ c.in-Member.e = m.ordered in
-    let high : c.in-Member.e + 1 ≤ c.in-More-closing.k = f.1 in
+    let low : c.loop-v.i + 1 ≤ c.in-Some.v = m.from in
+    let mid : c.in-Some.v ≤ c.in-Some.e = m.ordered in
+    let high : c.in-Some.e + 1 ≤ c.in-More-closing.k = f.1 in
     let within : c.in-More-closing.k ≤ length c.args.s.now = f.2 in
     omega arith
 
 pub loop-v-preserved : goal.loop-v-preserved
 unfolding in_field
 loop-v-preserved c =
-    let m = c.in-Member.ensures in
+    let m = c.in-Some.ensures in
     paired-more
     c.args.s.now
     c.args.at
     c.loop-v.i
     c.loop-v.invariant
-    c.in-Member.field-0
-    c.in-Member.v
-    c.in-Member.e
+    c.in-Some.field-0-0
+    c.in-Some.v
+    c.in-Some.e
     m
     (subst (Told _) c.if-string_or_null.true c.string_or_null.ensures)
     c.in-More-closing.k
@@ -98,15 +98,15 @@ loop-v-preserved c =
 pub returns-else-string_or_null : goal.returns-else-string_or_null
 unfolding in_field
 returns-else-string_or_null c =
-    let m = c.in-Member.ensures in
+    let m = c.in-Some.ensures in
     λ w. paired-refused
     c.args.s.now
     c.args.at
     c.loop-v.i
     c.loop-v.invariant
-    c.in-Member.field-0
-    c.in-Member.v
-    c.in-Member.e
+    c.in-Some.field-0-0
+    c.in-Some.v
+    c.in-Some.e
     m
     (subst (Told _) c.if-string_or_null.false c.string_or_null.ensures)
     w

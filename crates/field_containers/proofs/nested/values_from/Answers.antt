@@ -6,28 +6,21 @@ use Rattle.field_containers.proofs.Valued.{member-valued}
 use Rattle.field_containers.proofs.Few.{usual-none, second_none, second-refused, second-same, second-neither, second-closed, second-usual}
 use Rattle.field_containers.proofs.nested.values_from.Goals as goal
 
-pub returns-in_default : goal.returns-in_default
+pub returns-in_err-m : goal.returns-in_err-m
 unfolding in_field
-returns-in_default c =
-    λ w. second_none
-    c.args.s.now
-    c.args.at
-    c.args.n
-    c.args.i
-    c.requires.1
-    w
-    c.in_default.ensures
+returns-in_err-m c =
+    rw c.from_residual.ensures (λ w. second_none c.args.s.now c.args.at c.args.n c.args.i c.requires.1 w c.in_err-m.ensures)
 
 pub string_or_null-requires : goal.string_or_null-requires
 unfolding in_field
 string_or_null-requires c =
-    let m = c.in-Member.ensures in
+    let m = c.in_ok-m.ensures in
     (m.ordered, m.within, member-valued in_field _ _ _ m.read)
 
 pub same_names-requires : goal.same_names-requires
 same_names-requires c = (
   c.requires.1.named,
-  c.in-Member.ensures.named,
+  c.in_ok-m.ensures.named,
 )
 
 pub returns-then-same_names : goal.returns-then-same_names
@@ -40,12 +33,12 @@ returns-then-same_names c =
     c.args.i
     c.requires.1
     w _ _ _
-    c.in-Member.ensures
+    c.in_ok-m.ensures
     (sym c.same_names.ensures ∙ c.if-same_names.true)
 
 pub closing-requires : goal.closing-requires
 closing-requires c =
-    let m = c.in-Member.ensures in
+    let m = c.in_ok-m.ensures in
     m.within
 
 pub returns-then-many_values : goal.returns-then-many_values
@@ -62,13 +55,13 @@ returns-in-Neither c =
     c.args.i
     c.requires.1
     w _ _ _
-    c.in-Member.ensures
+    c.in_ok-m.ensures
     c.in-Neither.ensures
 
 pub returns-in-Closed : goal.returns-in-Closed
 unfolding in_field
 returns-in-Closed c =
-    let m = c.in-Member.ensures in
+    let m = c.in_ok-m.ensures in
     let f = c.in-Closed.ensures in
     λ w. (
       second-closed
@@ -97,5 +90,5 @@ returns-else-string_or_null c =
     c.args.i
     c.requires.1
     w _ _ _
-    c.in-Member.ensures
+    c.in_ok-m.ensures
     (subst (Told _) c.if-string_or_null.false c.string_or_null.ensures)

@@ -1,6 +1,6 @@
 -- `values_in` meets its contract. One field, an object, whose members are partition values.
-use mathlib.Core.Path.{sym, subst}
-use Rattle.field_containers.specs.Nested.{values_of, JudgedIs}
+use mathlib.Core.Path.{sym}
+use Rattle.field_containers.specs.Nested.{values_of}
 use Rattle.field_scalars.proofs.Single.{proper-single, text-not-single}
 use Rattle.field_containers.proofs.Partitions.{values-no-object, values-opened, values-refused, values-there}
 use native.Mathlib.Omega.{arith}
@@ -14,37 +14,24 @@ pub skip_byte-requires : goal.skip_byte-requires
 skip_byte-requires c =
     let b = proper-single c.args.s.now c.args.slot c.if-slot-ne1.false c.requires in omega (arith, b.0, b.1)
 
-pub returns-in_default : goal.returns-in_default
-returns-in_default c =
-    values-no-object
-    c.args.s.now
-    c.args.slot
-    c.requires
-    c.if-slot-ne1.false
-    c.in_default.ensures
+pub returns-in_err-at : goal.returns-in_err-at
+returns-in_err-at c =
+    rw c.from_residual.ensures (values-no-object c.args.s.now c.args.slot c.requires c.if-slot-ne1.false c.in_err-at.ensures)
 
 pub are_values-requires : goal.are_values-requires
 are_values-requires c =
-    let q = c.in-At.ensures in
-    (q.2, values-opened c.args.s.now c.args.slot c.requires c.if-slot-ne1.false c.in-At.at q.2 q.0)
+    let q = c.in_ok-at.ensures in
+    (q.2, values-opened c.args.s.now c.args.slot c.requires c.if-slot-ne1.false c.in_ok-at.at q.2 q.0)
 
-pub returns-in_default-are_values : goal.returns-in_default-are_values
-returns-in_default-are_values c =
-    let q = c.in-At.ensures in
-    values-refused
-    c.args.s.now
-    c.args.slot
-    c.requires
-    c.if-slot-ne1.false
-    c.in-At.at
-    q.2
-    q.0
-    (subst (JudgedIs _ _ _) c.in_default-are_values.is
-    (c.are_values.ensures (values-opened c.args.s.now c.args.slot c.requires c.if-slot-ne1.false c.in-At.at q.2 q.0)))
+pub returns-in_err-usual : goal.returns-in_err-usual
+returns-in_err-usual c =
+    let q = c.in_ok-at.ensures in
+    rw c.from_residual-in_err-usual.ensures
+    (values-refused c.args.s.now c.args.slot c.requires c.if-slot-ne1.false c.in_ok-at.at q.2 q.0
+    (c.in_err-usual.ensures (values-opened c.args.s.now c.args.slot c.requires c.if-slot-ne1.false c.in_ok-at.at q.2 q.0)))
 
 pub returns : goal.returns
 returns c =
-    let q = c.in-At.ensures in
-    let j = subst (JudgedIs _ _ _) c.in-Good.is
-    (c.are_values.ensures (values-opened c.args.s.now c.args.slot c.requires c.if-slot-ne1.false c.in-At.at q.2 q.0)) in
-    values-there c.args.s.now c.args.slot c.requires c.if-slot-ne1.false c.in-At.at q.2 q.0 j.0 j.1
+    let q = c.in_ok-at.ensures in
+    let j = c.in_ok-usual.ensures (values-opened c.args.s.now c.args.slot c.requires c.if-slot-ne1.false c.in_ok-at.at q.2 q.0) in
+    values-there c.args.s.now c.args.slot c.requires c.if-slot-ne1.false c.in_ok-at.at q.2 q.0 j.0 j.1

@@ -1,44 +1,28 @@
--- `place_of` meets its contract. By the kind that it is.
-use mathlib.Core.Path.{◌≡◌, sym, ap, ◌∙◌}
-use Prim.Native.Nat.{ℕ}
+-- `place_of` meets its contract. The first name that is the bytes is the one that is sought.
+use Rattle.std.proofs.Common.{rules, tests, ◌≡◌, map, ◌+◌, List, ◌∷◌, true, false, sym, ap, ◌∙◌, add-one}
+use Rattle.std.proofs.lemmas.Iterator.{YieldsList-from_slice, IsFirst-from_position, index_from_first}
+use Rattle.std.proofs.lemmas.Slice.Eq.{bytes_eq-Decides}
+use Rattle.std.specs.Str.{bytes_eq}
 use Rattle.rules.specs.Bytes.{Bytes}
-use Rattle.field_names.specs.Kinds.{names_of, seek}
-use Rattle.field_names.specs.declared.kinds.Kind.{Kind}
+use Rattle.rules.proofs.Tests.{true-not-false}
+use Rattle.rules.proofs.Order.{eq-same, ne_same}
+use Rattle.field_names.specs.Kinds.{seek}
+use Rattle.field_names.proofs.Seeking.{seek-none, seek-here, seek-past}
 use Rattle.field_names.proofs.kinds.place_of.Goals as goal
 
--- a place among the names of the kind that it is
-told : {kind k : Kind} (x : Bytes) {r : ℕ} → kind ≡ k → r ≡ seek x (names_of k) → r ≡ seek x (names_of kind)
-told x e f = f ∙ ap (λ (j : Kind). seek x (names_of j)) (sym e)
+-- by what `==` says of a name
+here : (name k : Bytes) (ks : List Bytes) → bytes_eq k name ≡ true → seek name (k ∷ ks) ≡ 0
+here name k ks e = seek-here name k ks (eq-same (sym ((bytes_eq-Decides k name).0 e)))
 
-pub returns-in-Line : goal.returns-in-Line
-returns-in-Line c = told c.args.name.now c.in-Line.is c.which_line.ensures
+past : (name k : Bytes) (ks : List Bytes) → bytes_eq k name ≡ false → seek name (k ∷ ks) ≡ seek name ks + 1
+past name k ks e = rw add-one (seek-past name k ks (ne_same name k (λ h. true-not-false ((bytes_eq-Decides k name).1 (sym h)) e)))
 
-pub returns-in-Add : goal.returns-in-Add
-returns-in-Add c = told c.args.name.now c.in-Add.is c.which_add.ensures
-
-pub returns-in-Remove : goal.returns-in-Remove
-returns-in-Remove c = told c.args.name.now c.in-Remove.is c.which_remove.ensures
-
-pub returns-in-Protocol : goal.returns-in-Protocol
-returns-in-Protocol c = told c.args.name.now c.in-Protocol.is c.which_protocol.ensures
-
-pub returns-in-MetaData : goal.returns-in-MetaData
-returns-in-MetaData c = told c.args.name.now c.in-MetaData.is c.which_meta_data.ensures
-
-pub returns-in-Mergeskip : goal.returns-in-Mergeskip
-returns-in-Mergeskip c = told c.args.name.now c.in-Mergeskip.is c.which_mergeskip.ensures
-
-pub returns-in-Marker : goal.returns-in-Marker
-returns-in-Marker c = told c.args.name.now c.in-Marker.is c.which_marker.ensures
-
-pub returns-in-State : goal.returns-in-State
-returns-in-State c = told c.args.name.now c.in-State.is c.which_state.ensures
-
-pub returns-in-Manifest : goal.returns-in-Manifest
-returns-in-Manifest c = told c.args.name.now c.in-Manifest.is c.which_manifest.ensures
-
-pub returns-in-Bounds : goal.returns-in-Bounds
-returns-in-Bounds c = told c.args.name.now c.in-Bounds.is c.which_bounds.ensures
-
-pub returns-in-Condition : goal.returns-in-Condition
-returns-in-Condition c = told c.args.name.now c.in-Condition.is c.which_condition.ensures
+pub returns : goal.returns
+returns c =
+    let first = IsFirst-from_position _ _ _ (λ x. bytes_eq x.now c.args.name.now ≡ true) (λ x. bytes_eq x.now c.args.name.now ≡ false) c.position.ensures.ran
+    (YieldsList-from_slice c.names-names.result.now cc) (λ x q k. search (rules, tests)) (λ x q k. search (rules, tests)) in
+    c.unwrap_or.ensures
+    ∙ sym (index_from_first (λ ks. seek c.args.name.now (map (λ k. k.now) ks)) (λ x. bytes_eq x.now c.args.name.now ≡ true)
+    (λ x. bytes_eq x.now c.args.name.now ≡ false) (seek-none c.args.name.now) (λ x xs e. here c.args.name.now x.now (map (λ k. k.now) xs) e)
+    (λ x xs e. past c.args.name.now x.now (map (λ k. k.now) xs) e) c.names-names.result.now c.position.result first)
+    ∙ ap (seek c.args.name.now) c.names-names.ensures

@@ -1,10 +1,10 @@
 -- `place_spelled` meets its contract. The bytes gathered and those to come are the string's.
-use mathlib.Core.Path.{refl, sym, ap, subst, ◌∙◌}
+use mathlib.Core.Path.{refl, sym, ap, ◌∙◌}
 use native.Mathlib.Omega.{arith}
 use lib.ListN.{length, length-set}
 use lib.Seq.{length-take-le}
 use Rattle.rules.specs.Bytes.{Bytes}
-use Rattle.json_strings.specs.Ahead.{Stepped, fresh}
+use Rattle.json_strings.specs.Ahead.{fresh}
 use Rattle.json_strings.proofs.Ahead.{ahead-fresh, sound-fresh}
 use Rattle.json_strings.proofs.Gathered.{gathered-more, gathered-all, gathered-long}
 use Rattle.json_strings.proofs.Raw.{well-flat, well-within}
@@ -16,7 +16,6 @@ use Rattle.field_names.proofs.places.place_spelled.Goals as goal
 pub loop-n-init : goal.loop-n-init
 loop-n-init c = (
   sound-fresh c.args.s.now c.args.at (omega (arith, well-within c.requires)),
-  omega arith,
   refl,
   sym (well-flat c.requires) ∙ sym (ahead-fresh c.args.s.now (fresh c.args.at) refl),
 )
@@ -35,22 +34,12 @@ pub returns-in_default : goal.returns-in_default
 returns-in_default c =
     c.place_of.ensures
     ∙ ap (λ (x : Bytes). seek x (names_of c.args.kind))
-    (sym (gathered-all c.loop-n.name _ _ c.loop-n.n c.loop-n.invariant.3
-    (subst (Stepped _ _) c.in_default.is c.next.ensures)))
-
-pub bounds-name-n : goal.bounds-name-n
-bounds-name-n c = omega arith
-
-pub overflow_add-n : goal.overflow_add-n
-overflow_add-n c = omega arith
-
-pub loop-n-smaller : goal.loop-n-smaller
-loop-n-smaller c = omega arith
+    (sym (gathered-all c.loop-n.name _ _ c.loop-n.n c.loop-n.invariant.2 c.in_default.ensures))
 
 pub loop-n-preserved : goal.loop-n-preserved
 loop-n-preserved c =
-    let w = subst (Stepped _ _) c.in-Byte.is c.next.ensures in
-    (w.sound, omega arith, simp length-set c.loop-n.invariant.2, gathered-more c.loop-n.name _ _ _ c.loop-n.n _ (omega arith) c.loop-n.invariant.3 w.more)
+    let w = c.in-Some.ensures in
+    (w.sound, simp length-set c.loop-n.invariant.1, gathered-more c.loop-n.name _ _ _ c.loop-n.n _ (omega arith) c.loop-n.invariant.2 w.more)
 
 pub returns : goal.returns
 returns c =
@@ -60,5 +49,5 @@ returns c =
       arith,
       name-short c.args.kind k h,
       ap length e,
-      gathered-long c.loop-n.name _ _ c.loop-n.n (omega arith) c.loop-n.invariant.3,
+      gathered-long c.loop-n.name _ _ c.loop-n.n (omega arith) c.loop-n.invariant.2,
     )))

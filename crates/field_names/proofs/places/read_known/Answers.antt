@@ -1,20 +1,18 @@
 -- `read_known` meets its contract. A name of the kind before a quote, or what a name that is read says.
-use mathlib.Core.Path.{ap, subst}
-use mathlib.Core.Option.{Option}
+use mathlib.Core.Path.{ap}
+use Rattle.std.specs.Prelude.{Option}
 use native.Mathlib.Omega.{arith}
 use Rattle.rules.specs.Bytes.{◌>>=◌}
 use Rattle.rules.specs.Json.Text.{Text}
 use Rattle.rules.specs.Json.Strings.{string}
-use Rattle.json_tokens.specs.Answers.{Answer}
-use Rattle.field_names.specs.Spelled.{NameIs}
 use Rattle.field_names.proofs.Quotes.{name-stands}
 use Rattle.field_names.proofs.places.read_known.Goals as goal
 
-pub returns-in_default : goal.returns-in_default
-returns-in_default c = ap (λ (o : Option Text). o >>= string) (subst (Answer _ _ _) c.in_default.is c.skip_byte.ensures)
+pub returns-in_err-i : goal.returns-in_err-i
+returns-in_err-i c = rw c.from_residual.ensures (ap (λ (o : Option Text). o >>= string) c.in_err-i.ensures)
 
 pub size_at-size-requires : goal.size_at-size-requires
-size_at-size-requires c = let q = subst (Answer _ _ _) c.in-At.is c.skip_byte.ensures in q.2
+size_at-size-requires c = let q = c.in_ok-i.ensures in q.2
 
 pub overflow_add-last : goal.overflow_add-last
 overflow_add-last c = omega (arith, (c.size_at-size.ensures c.if-size-gt0.true).0)
@@ -33,17 +31,17 @@ overflow_add-result c = omega (arith, (c.size_at-size.ensures c.if-size-gt0.true
 
 pub returns-then-k-names_in : goal.returns-then-k-names_in
 returns-then-k-names_in c =
-    let q = subst (Answer _ _ _) c.in-At.is c.skip_byte.ensures in
+    let q = c.in_ok-i.ensures in
     let size = c.size_at-size.ensures c.if-size-gt0.true in
-    let (named, place) = name-stands c.args.s.now c.in-At.i _ (omega arith) size.0 size.1 c.args.kind c.place_of-k.result c.place_of-k.ensures
+    let (named, place) = name-stands c.args.s.now c.in_ok-i.i _ (omega arith) size.0 size.1 c.args.kind c.place_of-k.result c.place_of-k.ensures
     (omega (arith, c.if-k-names_in.true, c.names_in.ensures)) in
     (record { quote = q.0; from = q.1; named = named }, place)
 
-pub returns-in_default-read_name : goal.returns-in_default-read_name
-returns-in_default-read_name c = subst (NameIs _ _) c.in_default-read_name.is c.read_name.ensures
+pub returns-in_err-n : goal.returns-in_err-n
+returns-in_err-n c = rw c.from_residual-in_err-n.ensures c.in_err-n.ensures
 
 pub which-k-requires : goal.which-k-requires
-which-k-requires c = let q = subst (NameIs _ _) c.in-Of.is c.read_name.ensures in q.named
+which-k-requires c = c.in_ok-n.ensures.named
 
 pub returns : goal.returns
-returns c = (subst (NameIs _ _) c.in-Of.is c.read_name.ensures, c.which-k.ensures)
+returns c = (c.in_ok-n.ensures, c.which-k.ensures)

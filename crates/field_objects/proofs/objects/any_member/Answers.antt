@@ -1,62 +1,45 @@
 -- `any_member` meets its contract. A name, a colon and a value, each from where the one before ends.
-use mathlib.Core.Path.{subst}
 use lib.ListN.{drop}
 use Rattle.rules.specs.Json.Values.{value as rule_value}
-use Rattle.json_tokens.specs.Answers.{Answer}
-use Rattle.field_names.specs.Spelled.{NameIs}
 use Rattle.field_names.proofs.Quoting.{named-string}
 use Rattle.field_objects.proofs.Members.{member-nameless, member-no-colon, member-no-value, member-stands}
 use Rattle.field_objects.proofs.objects.any_member.Goals as goal
 
-pub returns-in_default : goal.returns-in_default
-returns-in_default c =
-    member-nameless
-    (rule_value c.args.depth)
-    (drop c.args.at c.args.s.now)
-    (subst (NameIs _ _) c.in_default.is c.read_name.ensures)
+pub returns-in_err-n : goal.returns-in_err-n
+returns-in_err-n c =
+    rw c.from_residual.ensures (member-nameless (rule_value c.args.depth) (drop c.args.at c.args.s.now) c.in_err-n.ensures)
 
 pub skip_colon-requires : goal.skip_colon-requires
-skip_colon-requires c = let q = subst (NameIs _ _) c.in-Of.is c.read_name.ensures in q.named.within
+skip_colon-requires c = c.in_ok-n.ensures.named.within
 
-pub returns-in_default-skip_colon : goal.returns-in_default-skip_colon
-returns-in_default-skip_colon c =
-    let q = subst (NameIs _ _) c.in-Of.is c.read_name.ensures in
-    member-no-colon
-    (rule_value c.args.depth)
-    (drop c.args.at c.args.s.now)
-    q.quote
-    (named-string c.args.s.now c.in-Of.n q.named)
-    (subst (Answer _ _ _) c.in_default-skip_colon.is c.skip_colon.ensures)
+pub returns-in_err-v : goal.returns-in_err-v
+returns-in_err-v c =
+    let q = c.in_ok-n.ensures in
+    rw c.from_residual-in_err-v.ensures
+    (member-no-colon (rule_value c.args.depth) (drop c.args.at c.args.s.now) q.quote (named-string c.args.s.now c.in_ok-n.n q.named) c.in_err-v.ensures)
 
 pub value-requires : goal.value-requires
-value-requires c = let c2 = subst (Answer _ _ _) c.in-At.is c.skip_colon.ensures in c2.2
+value-requires c = c.in_ok-v.ensures.2
 
-pub returns-in_default-value : goal.returns-in_default-value
-returns-in_default-value c =
-    let q = subst (NameIs _ _) c.in-Of.is c.read_name.ensures in
-    let colon =
-    subst (Answer _ _ _) c.in-At.is c.skip_colon.ensures in
-    member-no-value
-    (rule_value c.args.depth)
-    (drop c.args.at c.args.s.now)
-    q.quote
-    (named-string c.args.s.now c.in-Of.n q.named)
-    colon.0
-    (subst (Answer _ _ _) c.in_default-value.is c.value.ensures)
+pub returns-in_err-e : goal.returns-in_err-e
+returns-in_err-e c =
+    let q = c.in_ok-n.ensures in
+    rw c.from_residual-in_err-e.ensures
+    (member-no-value (rule_value c.args.depth) (drop c.args.at c.args.s.now) q.quote (named-string c.args.s.now c.in_ok-n.n q.named) c.in_ok-v.ensures.0
+    c.in_err-e.ensures)
 
 pub returns : goal.returns
 returns c =
-    let q = subst (NameIs _ _) c.in-Of.is c.read_name.ensures in
-    let colon = subst (Answer _ _ _) c.in-At.is c.skip_colon.ensures in
-    let read = subst (Answer _ _ _) c.in-At-value.is c.value.ensures in
+    let colon = c.in_ok-v.ensures in
+    let read = c.in_ok-e.ensures in
     member-stands
     (rule_value c.args.depth)
     c.args.s.now
     c.args.at
-    c.in-Of.n
-    c.in-At.v
-    c.in-At-value.e
-    q
+    c.in_ok-n.n
+    c.in_ok-v.v
+    c.in_ok-e.e
+    c.in_ok-n.ensures
     colon.1
     read.1
     read.2

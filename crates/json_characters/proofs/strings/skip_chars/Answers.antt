@@ -1,9 +1,7 @@
 -- `skip_chars` meets its contract. The characters from `at` on go on at i.
 use Prim.Native.Nat.{◌≤◌, ◌+◌}
-use mathlib.Core.Path.{subst}
 use native.Mathlib.Omega.{arith}
 use Rattle.json_characters.proofs.Inside.{inside-start, inside-ended, inside-quote, inside-none, inside-more, inside-run}
-use Rattle.json_tokens.specs.Answers.{Answer}
 use Rattle.json_characters.proofs.strings.skip_chars.Goals as goal
 
 pub loop-i-init : goal.loop-i-init
@@ -37,26 +35,21 @@ loop-i-preserved-then-is_literal_escape c =
 pub skip_char-requires : goal.skip_char-requires
 skip_char-requires c = c.loop-i.invariant.within
 
-pub returns-in_default : goal.returns-in_default
-returns-in_default c =
-    inside-none
-    c.loop-i.invariant
-    c.loop-i-test.true
-    c.if-s-i-eq-QUOTE.false
-    (subst (Answer _ _ _) c.in_default.is c.skip_char.ensures)
+pub returns-in_err-j : goal.returns-in_err-j
+returns-in_err-j c =
+    rw c.from_residual.ensures (inside-none c.loop-i.invariant c.loop-i-test.true c.if-s-i-eq-QUOTE.false c.in_err-j.ensures)
 
 pub skip_plain-i-requires-else-is_literal_escape : goal.skip_plain-i-requires-else-is_literal_escape
-skip_plain-i-requires-else-is_literal_escape c = (subst (Answer _ _ _) c.in-At.is c.skip_char.ensures).2
+skip_plain-i-requires-else-is_literal_escape c = c.in_ok-j.ensures.2
 
 pub loop-i-smaller : goal.loop-i-smaller
 loop-i-smaller c =
-    let e = subst (Answer _ _ _) c.in-At.is c.skip_char.ensures in
-    let further : c.loop-i.i + 1 ≤ c.in-At.j = e.1 in
+    let further : c.loop-i.i + 1 ≤ c.in_ok-j.j = c.in_ok-j.ensures.1 in
     omega (arith, c.skip_plain-i-else-is_literal_escape.ensures.0, c.skip_plain-i-else-is_literal_escape.ensures.1)
 
 pub loop-i-preserved : goal.loop-i-preserved
 loop-i-preserved c =
-    let e = subst (Answer _ _ _) c.in-At.is c.skip_char.ensures in
+    let e = c.in_ok-j.ensures in
     let run = c.skip_plain-i-else-is_literal_escape.ensures in
     inside-run (inside-more c.loop-i.invariant c.loop-i-test.true c.if-s-i-eq-QUOTE.false e.0 e.1 e.2) (run.0, run.1, run.2)
 

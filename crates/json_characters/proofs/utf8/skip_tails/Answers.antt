@@ -1,34 +1,26 @@
--- `skip_tails` meets its contract. Of the n tails from `at` on, k are left at i.
-use mathlib.Core.Path.{subst}
+-- `skip_tails` meets its contract. Of the n tails from `at` on, those that are not counted are left at i.
+use mathlib.Core.Path.{◌≡◌, subst}
+use Prim.Native.Nat.{◌+◌, ◌-◌}
 use native.Mathlib.Omega.{arith}
-use Rattle.rules.proofs.Json.Tails.{tailing-start, tailing-more, tailing-none, tailing-end}
-use Rattle.json_tokens.specs.Answers.{Answer}
+use Rattle.rules.proofs.Json.Tails.{Tailing, tailing-start, tailing-more, tailing-none, tailing-end}
 use Rattle.json_characters.proofs.utf8.skip_tails.Goals as goal
 
-pub loop-k-init : goal.loop-k-init
-loop-k-init c = tailing-start c.requires
+pub loop-init : goal.loop-init
+loop-init c =
+    let all : c.args.n ≡ c.args.n - 0 = omega arith in
+    subst (Tailing c.args.n c.args.s.now c.args.at c.args.at) all (tailing-start c.requires)
 
 pub skip_in-requires : goal.skip_in-requires
-skip_in-requires c = c.loop-k.invariant.within
+skip_in-requires c = c.loop.invariant.within
 
-pub returns-in_default : goal.returns-in_default
-returns-in_default c =
-    tailing-none
-    c.loop-k.invariant
-    c.loop-k-test.true
-    (subst (Answer _ _ _) c.in_default.is c.skip_in.ensures)
+pub returns-in_err-i : goal.returns-in_err-i
+returns-in_err-i c = rw c.from_residual.ensures (tailing-none c.loop.invariant (omega arith) c.in_err-i.ensures)
 
-pub overflow_sub-k : goal.overflow_sub-k
-overflow_sub-k c = omega arith
-
-pub loop-k-smaller : goal.loop-k-smaller
-loop-k-smaller c = omega arith
-
-pub loop-k-preserved : goal.loop-k-preserved
-loop-k-preserved c =
-    let e = subst (Answer _ _ _) c.in-At.is c.skip_in.ensures in
-    tailing-more c.loop-k.invariant c.loop-k-test.true e.0 e.1 e.2
+pub loop-preserved : goal.loop-preserved
+loop-preserved c =
+    let e = c.in_ok-i.ensures in
+    let fewer : c.args.n - c.loop.counter - 1 ≡ c.args.n - (c.loop.counter + 1) = omega arith in
+    subst (Tailing c.args.n c.args.s.now c.args.at c.in_ok-i.i) fewer (tailing-more c.loop.invariant (omega arith) e.0 e.1 e.2)
 
 pub returns : goal.returns
-returns c =
-    (tailing-end c.loop-k.invariant c.loop-k-test.false, c.loop-k.invariant.from, c.loop-k.invariant.within)
+returns c = (tailing-end c.loop.invariant (omega arith), c.loop.invariant.from, c.loop.invariant.within)

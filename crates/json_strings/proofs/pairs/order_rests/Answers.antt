@@ -1,10 +1,10 @@
 -- `order_rests` meets its contract. What is to come of one stands to what is to come of the other as the strings do.
 use lib.ListN.{drop}
-use mathlib.Core.Path.{refl, sym, ap, subst, ◌∙◌}
+use mathlib.Core.Path.{refl, sym, ap, ◌∙◌}
 use native.Mathlib.Omega.{arith}
 use Rattle.rules.specs.Bytes.{Bytes, order}
 use Rattle.bytes_values.specs.Answers.{order_is}
-use Rattle.json_strings.specs.Ahead.{Stepped, ahead, fresh}
+use Rattle.json_strings.specs.Ahead.{ahead, fresh}
 use Rattle.json_strings.specs.Flat.{flat}
 use Rattle.json_strings.proofs.Ahead.{ahead-fresh, sound-fresh}
 use Rattle.json_strings.proofs.Orders.{order-some-none, order-next-less, order-next-more, order-next-equal}
@@ -29,7 +29,7 @@ returns-in_default c =
     c.order_ended.ensures
     ∙ ap order_is
     (ap (λ (x : Bytes). order x (ahead c.args.t.now c.loop-x.d))
-    (sym (subst (Stepped _ _) c.in_default.is c.next.ensures)) ∙ c.loop-x.invariant.2)
+    (sym c.in_default.ensures) ∙ c.loop-x.invariant.2)
 
 pub next-requires-in-loop-x : goal.next-requires-in-loop-x
 next-requires-in-loop-x c = c.loop-x.invariant.1
@@ -37,32 +37,32 @@ next-requires-in-loop-x c = c.loop-x.invariant.1
 pub returns-in_default-next : goal.returns-in_default-next
 unfolding order_is
 returns-in_default-next c =
-    let w = subst (Stepped _ _) c.in-Byte.is c.next.ensures in
+    let w = c.in-Some.ensures in
     ap order_is
-    (sym (order-some-none w.more (subst (Stepped _ _) c.in_default-next.is c.next-in-loop-x.ensures))
+    (sym (order-some-none w.more c.in_default-next.ensures)
     ∙ c.loop-x.invariant.2)
 
 pub returns-then-x-y : goal.returns-then-x-y
 unfolding order_is
 returns-then-x-y c =
-    let w = subst (Stepped _ _) c.in-Byte.is c.next.ensures in
-    let v = subst (Stepped _ _) c.in-Byte-next.is c.next-in-loop-x.ensures in
+    let w = c.in-Some.ensures in
+    let v = c.in-Some-next.ensures in
     ap order_is (sym (order-next-less w.more v.more c.if-x-y.true) ∙ c.loop-x.invariant.2)
 
 pub returns-then-y-x : goal.returns-then-y-x
 unfolding order_is
 returns-then-y-x c =
-    let w = subst (Stepped _ _) c.in-Byte.is c.next.ensures in
-    let v = subst (Stepped _ _) c.in-Byte-next.is c.next-in-loop-x.ensures in
+    let w = c.in-Some.ensures in
+    let v = c.in-Some-next.ensures in
     ap order_is (sym (order-next-more w.more v.more c.if-y-x.true) ∙ c.loop-x.invariant.2)
 
 pub loop-x-smaller : goal.loop-x-smaller
 loop-x-smaller c =
-    let w = subst (Stepped _ _) c.in-Byte.is c.next.ensures in
+    let w = c.in-Some.ensures in
     w.nearer
 
 pub loop-x-preserved : goal.loop-x-preserved
 loop-x-preserved c =
-    let w = subst (Stepped _ _) c.in-Byte.is c.next.ensures in
-    let v = subst (Stepped _ _) c.in-Byte-next.is c.next-in-loop-x.ensures in
+    let w = c.in-Some.ensures in
+    let v = c.in-Some-next.ensures in
     (w.sound, v.sound, sym (order-next-equal w.more v.more (omega arith)) ∙ c.loop-x.invariant.2)

@@ -1,9 +1,8 @@
 -- `decoded_size` meets its contract. What was counted and what is to come are the whole.
 use Prim.Native.Nat.{◌+◌, ◌≤◌}
 use lib.ListN.{length}
-use mathlib.Core.Path.{ap, subst, ◌∙◌}
+use mathlib.Core.Path.{ap, ◌∙◌}
 use native.Mathlib.Omega.{arith}
-use Rattle.json_characters.specs.Codes.{Taken}
 use Rattle.json_strings.proofs.Raw.{well-flat, well-within}
 use Rattle.json_strings.proofs.Sizes.{counted_start, counted-ended, counted-quote, counted_none, counted-itself, counted-room, counted-escape}
 use Rattle.json_strings.proofs.single.decoded_size.Goals as goal
@@ -29,26 +28,26 @@ pub returns-in_default : goal.returns-in_default
 returns-in_default c =
     counted_none c.loop-i.invariant
     c.loop-i-test.true c.if-first-eq-BACKSLASH.true
-    (subst (Taken _ _ _ _) c.in_default.is c.escape.ensures) ∙ ap length (well-flat c.requires)
+    c.in_default.ensures ∙ ap length (well-flat c.requires)
 
 pub overflow_add-n : goal.overflow_add-n
 overflow_add-n c =
-    let e = subst (Taken _ _ _ _) c.in-Point.is c.escape.ensures in
-    let l : c.loop-i.i + 1 + 1 ≤ c.in-Point.j = e.1 in
-    let w : c.in-Point.j ≤ length c.args.s.now = e.2 in
+    let e = c.in-Some.ensures in
+    let l : c.loop-i.i + 1 + 1 ≤ c.in-Some.j = e.1 in
+    let w : c.in-Some.j ≤ length c.args.s.now = e.2 in
     omega (arith, counted-room c.loop-i.invariant c.loop-i-test.true _ _ c.utf8_size-n.result e.0 (omega arith) w c.utf8_size-n.ensures)
 
 pub loop-i-smaller-then-first-eq-BACKSLASH : goal.loop-i-smaller-then-first-eq-BACKSLASH
 loop-i-smaller-then-first-eq-BACKSLASH c =
-    let e = subst (Taken _ _ _ _) c.in-Point.is c.escape.ensures in
-    let l : c.loop-i.i + 1 + 1 ≤ c.in-Point.j = e.1 in
-    let w : c.in-Point.j ≤ length c.args.s.now = e.2 in
+    let e = c.in-Some.ensures in
+    let l : c.loop-i.i + 1 + 1 ≤ c.in-Some.j = e.1 in
+    let w : c.in-Some.j ≤ length c.args.s.now = e.2 in
     omega arith
 
 pub loop-i-preserved-then-first-eq-BACKSLASH : goal.loop-i-preserved-then-first-eq-BACKSLASH
 loop-i-preserved-then-first-eq-BACKSLASH c =
-    let e = subst (Taken _ _ _ _) c.in-Point.is c.escape.ensures in
-    let l : c.loop-i.i + 1 + 1 ≤ c.in-Point.j = e.1 in
+    let e = c.in-Some.ensures in
+    let l : c.loop-i.i + 1 + 1 ≤ c.in-Some.j = e.1 in
     counted-escape
     c.loop-i.invariant
     c.loop-i-test.true

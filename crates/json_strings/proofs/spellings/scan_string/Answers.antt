@@ -3,7 +3,7 @@ use Prim.Native.Nat.{◌+◌, ◌≤◌}
 use native.Mathlib.Omega.{arith}
 use Rattle.rules.specs.Json.Text.{behind}
 use Rattle.rules.specs.Json.Strings.{unescaped, string}
-use Rattle.json_tokens.specs.declared.tokens.Next.TheVariants.{At, Bad}
+use Rattle.std.specs.Prelude.{Some, None}
 use Rattle.json_tokens.proofs.Anew.{within-anew, answer-anew}
 use Rattle.json_strings.proofs.Scanning.{scanning-start, scanning-no-rest, scanning-ended, scanning-quote}
 use Rattle.json_strings.proofs.Scanning.{scanning-backslash, scanning-bad, scanning-more, scanning-run}
@@ -37,16 +37,16 @@ skip_chars-requires c =
 
 pub returns-in_default : goal.returns-in_default
 returns-in_default c =
-    scanning-no-rest c.loop-i.invariant (answer-anew (λ t. behind (string t)) c.args.s.now c.loop-i.i Bad c.in_default.ensures)
+    scanning-no-rest c.loop-i.invariant (answer-anew (λ t. behind (string t)) c.args.s.now c.loop-i.i None c.in_default.ensures)
 
 pub returns-then-b-eq-BACKSLASH : goal.returns-then-b-eq-BACKSLASH
 returns-then-b-eq-BACKSLASH c =
     scanning-backslash
     c.loop-i.invariant
     c.loop-i-test.true
-    c.in-At.j
+    c.in-Some.j
     c.if-b-eq-BACKSLASH.true
-    (answer-anew (λ t. behind (string t)) c.args.s.now c.loop-i.i (At c.in-At.j) c.in-At.ensures)
+    (answer-anew (λ t. behind (string t)) c.args.s.now c.loop-i.i (Some c.in-Some.j) c.in-Some.ensures)
 
 pub skip_unescaped-requires : goal.skip_unescaped-requires
 skip_unescaped-requires c =
@@ -59,20 +59,20 @@ returns-in_default-skip_unescaped c =
     c.loop-i-test.true
     c.if-b-eq-QUOTE.false
     c.if-b-eq-BACKSLASH.false
-    (answer-anew unescaped c.args.s.now c.loop-i.i Bad c.in_default-skip_unescaped.ensures)
+    (answer-anew unescaped c.args.s.now c.loop-i.i None c.in_default-skip_unescaped.ensures)
 
 pub skip_plain-i-requires-in-loop-i : goal.skip_plain-i-requires-in-loop-i
-skip_plain-i-requires-in-loop-i c = (answer-anew unescaped c.args.s.now c.loop-i.i (At c.in-At-skip_unescaped.k) c.in-At-skip_unescaped.ensures).2
+skip_plain-i-requires-in-loop-i c = (answer-anew unescaped c.args.s.now c.loop-i.i (Some c.in-Some-skip_unescaped.k) c.in-Some-skip_unescaped.ensures).2
 
 pub loop-i-smaller : goal.loop-i-smaller
 loop-i-smaller c =
-    let e = answer-anew unescaped c.args.s.now c.loop-i.i (At c.in-At-skip_unescaped.k) c.in-At-skip_unescaped.ensures in
-    let further : c.loop-i.i + 1 ≤ c.in-At-skip_unescaped.k = e.1 in
+    let e = answer-anew unescaped c.args.s.now c.loop-i.i (Some c.in-Some-skip_unescaped.k) c.in-Some-skip_unescaped.ensures in
+    let further : c.loop-i.i + 1 ≤ c.in-Some-skip_unescaped.k = e.1 in
     omega (arith, c.skip_plain-i-in-loop-i.ensures.0, c.skip_plain-i-in-loop-i.ensures.1)
 
 pub loop-i-preserved : goal.loop-i-preserved
 loop-i-preserved c =
-    let e = answer-anew unescaped c.args.s.now c.loop-i.i (At c.in-At-skip_unescaped.k) c.in-At-skip_unescaped.ensures in
+    let e = answer-anew unescaped c.args.s.now c.loop-i.i (Some c.in-Some-skip_unescaped.k) c.in-Some-skip_unescaped.ensures in
     let more = scanning-more c.loop-i.invariant c.loop-i-test.true c.if-b-eq-QUOTE.false c.if-b-eq-BACKSLASH.false _ e.0 e.1 e.2 in
     scanning-run more (c.skip_plain-i-in-loop-i.ensures.0, c.skip_plain-i-in-loop-i.ensures.1, c.skip_plain-i-in-loop-i.ensures.2)
 

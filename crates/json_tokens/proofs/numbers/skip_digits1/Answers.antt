@@ -1,5 +1,5 @@
 -- `skip_digits1` meets its contract. The first digit, and the run behind it.
-use mathlib.Core.Option.{some}
+use Rattle.std.specs.Prelude.{Some}
 use mathlib.Core.Path.{sym, ap, ◌∙◌}
 use Rattle.rules.specs.Json.Numbers.{digits1}
 use Rattle.json_tokens.proofs.Places.{here, ended}
@@ -14,7 +14,7 @@ unfolding digits1
 returns-then-is_digit c = (
   rw
       (here _ _ c.if-s-at.false, digits1, sym c.is_digit.ensures ∙ c.if-is_digit.true)
-      (ap some c.skip_digits.ensures.left),
+      (ap Some c.skip_digits.ensures.left),
   c.skip_digits.ensures.from,
   c.skip_digits.ensures.within,
 )

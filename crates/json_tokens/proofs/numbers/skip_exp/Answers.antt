@@ -4,6 +4,7 @@ use borrow.Author.Tests.{ne_eqb}
 use native.Mathlib.Nat.{le_trans}
 use native.Mathlib.Omega.{arith}
 use lib.ListN.{get_or}
+use mathlib.Core.Logic.{inl, inr}
 use Rattle.rules.specs.Bytes.{first}
 use Rattle.rules.specs.Json.Numbers.{exp}
 use Rattle.json_tokens.proofs.Places.{here, here-is, ended, answer-from}
@@ -12,12 +13,6 @@ use Rattle.json_tokens.proofs.numbers.skip_exp.Goals as goal
 pub returns-then-s-at : goal.returns-then-s-at
 unfolding exp
 returns-then-s-at c = (rw (ended _ _ c.if-s-at.true), omega arith, c.requires)
-
-pub overflow_add-at : goal.overflow_add-at
-overflow_add-at c = omega arith
-
-pub overflow_add-at-in-69 : goal.overflow_add-at-in-69
-overflow_add-at-in-69 c = omega arith
 
 pub returns-in-101 : goal.returns-in-101
 unfolding exp first
@@ -29,22 +24,13 @@ returns-in-101 c =
     c.skip_digits1.result
     c.skip_digits1.ensures
     (omega arith)
-    (rw (here-is _ _ 0x65 c.if-s-at.false c.in-101.is, c.skip_sign.ensures.left))
-
-pub returns-in-69 : goal.returns-in-69
-unfolding exp first
-returns-in-69 c =
-    let l : c.args.at ≤ c.skip_sign-in-69.result = le_trans (omega arith) c.skip_sign-in-69.ensures.from in
-    answer-from _ _
-    c.args.s.now
-    _ _
-    c.skip_digits1-in-69.result
-    c.skip_digits1-in-69.ensures
-    (omega arith)
-    (rw (here-is _ _ 0x45 c.if-s-at.false c.in-69.is, c.skip_sign-in-69.ensures.left))
+    (elim c.in-101.is [
+      | inl e ↦ rw (here-is _ _ 0x45 c.if-s-at.false e, c.skip_sign.ensures.left)
+      | inr e ↦ rw (here-is _ _ 0x65 c.if-s-at.false e, c.skip_sign.ensures.left)
+    ])
 
 pub returns-in_default : goal.returns-in_default
 unfolding exp first
 returns-in_default c =
     let b = get_or c.args.s.now c.args.at 0 in
-    (rw (here _ _ c.if-s-at.false, exp, first, ne_eqb b 0x65 (omega arith), ne_eqb b 0x45 (omega arith)), omega arith, c.requires)
+    (rw (here _ _ c.if-s-at.false, exp, first, ne_eqb b 0x65 (grind arith), ne_eqb b 0x45 (grind arith)), omega arith, c.requires)

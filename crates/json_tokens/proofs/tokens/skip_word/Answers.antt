@@ -1,39 +1,20 @@
--- `skip_word` meets its contract. The word has been met up to its byte j and the position i.
-use native.Mathlib.Omega.{arith}
-use Rattle.json_tokens.proofs.Words.{met_start, met-more, met-other, met-short, met-whole}
+-- `skip_word` meets its contract. The word has been met up to its byte b and the position i.
+use Rattle.json_tokens.proofs.Words.{met_start, met-more, met-none, met-whole}
 use Rattle.json_tokens.proofs.tokens.skip_word.Goals as goal
 
-pub loop-j-init : goal.loop-j-init
-loop-j-init c = met_start c.requires
+pub loop-b-init : goal.loop-b-init
+loop-b-init c = met_start c.requires
 
-pub returns-then-s-i : goal.returns-then-s-i
-returns-then-s-i c = met-short c.loop-j.invariant c.loop-j-test.true c.if-s-i.true
+pub skip_byte-requires : goal.skip_byte-requires
+skip_byte-requires c = c.loop-b.invariant.within
 
-pub returns-then-s-i-2 : goal.returns-then-s-i-2
-returns-then-s-i-2 c =
-    met-other
-    c.loop-j.invariant
-    c.loop-j-test.true
-    c.if-s-i.false
-    c.if-s-i-2.true
+pub returns-in_err-i : goal.returns-in_err-i
+returns-in_err-i c = rw c.from_residual.ensures (met-none c.loop-b.invariant c.loop-b-test.true c.in_err-i.ensures)
 
-pub overflow_add-i : goal.overflow_add-i
-overflow_add-i c = omega arith
-
-pub overflow_add-j : goal.overflow_add-j
-overflow_add-j c = omega arith
-
-pub loop-j-smaller : goal.loop-j-smaller
-loop-j-smaller c = omega arith
-
-pub loop-j-preserved : goal.loop-j-preserved
-loop-j-preserved c =
-    met-more
-    c.loop-j.invariant
-    c.loop-j-test.true
-    c.if-s-i.false
-    c.if-s-i-2.false
+pub loop-b-preserved : goal.loop-b-preserved
+loop-b-preserved c =
+    let e = c.in_ok-i.ensures in
+    met-more c.loop-b.invariant c.loop-b-test.true e.0 e.1 e.2
 
 pub returns : goal.returns
-returns c =
-    (met-whole c.loop-j.invariant c.loop-j-test.false, c.loop-j.invariant.from, c.loop-j.invariant.within)
+returns c = (met-whole c.loop-b.invariant c.loop-b-test.false, c.loop-b.invariant.from, c.loop-b.invariant.within)

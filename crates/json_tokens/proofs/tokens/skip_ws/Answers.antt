@@ -1,6 +1,5 @@
 -- `skip_ws` meets its contract. The run of white space from `at` on goes on at i.
-use mathlib.Core.Path.{sym, ◌∙◌}
-use native.Mathlib.Omega.{arith}
+use mathlib.Core.Path.{sym}
 use Rattle.json_tokens.proofs.Runs.{ws-run, ws-above, running-start, running_more, running-stop, running-ended}
 use Rattle.json_tokens.proofs.tokens.skip_ws.Goals as goal
 
@@ -10,25 +9,11 @@ returns-then-s-at-gt32 c = running-stop ws-run (running-start c.requires) c.if-a
 pub loop-i-init : goal.loop-i-init
 loop-i-init c = running-start c.requires
 
-pub overflow_add-i : goal.overflow_add-i
-overflow_add-i c = omega arith
-
-pub loop-i-smaller : goal.loop-i-smaller
-loop-i-smaller c = omega arith
+pub returns-then-not-is_ws : goal.returns-then-not-is_ws
+returns-then-not-is_ws c = running-stop ws-run c.loop-i.invariant c.loop-i-test.true (sym c.if-not-is_ws.ensures)
 
 pub loop-i-preserved : goal.loop-i-preserved
-loop-i-preserved c =
-    running_more ws-run
-    c.loop-i.invariant
-    c.loop-i-test.true
-    (sym c.is_ws.ensures ∙ c.if-is_ws.true)
-
-pub returns-else-is_ws : goal.returns-else-is_ws
-returns-else-is_ws c =
-    running-stop ws-run
-    c.loop-i.invariant
-    c.loop-i-test.true
-    (sym c.is_ws.ensures ∙ c.if-is_ws.false)
+loop-i-preserved c = running_more ws-run c.loop-i.invariant c.loop-i-test.true (sym c.if-not-is_ws.ensures)
 
 pub returns : goal.returns
 returns c = running-ended ws-run c.loop-i.invariant c.loop-i-test.false

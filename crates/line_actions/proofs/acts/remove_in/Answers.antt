@@ -1,7 +1,5 @@
 -- `remove_in` meets its contract. The path of its field.
-use mathlib.Core.Path.{subst}
 use Rattle.field_names.specs.Kinds.{names_of}
-use Rattle.field_scalars.specs.Texts.{PathIs}
 use Rattle.line_actions.proofs.Slotted.{lined-proper}
 use Rattle.line_actions.proofs.Assembled.{remove-no-path, remove-there}
 use native.Mathlib.Omega.{arith}
@@ -11,14 +9,8 @@ pub path_in-requires : goal.path_in-requires
 unfolding names_of
 path_in-requires c = lined-proper c.args.s.now 1 c.requires 0 (omega arith)
 
-pub returns-in_default : goal.returns-in_default
-returns-in_default c =
-    remove-no-path c.args.s.now c.requires (subst (PathIs _ _ _) c.in_default.is c.path_in.ensures)
+pub returns-in_err-p : goal.returns-in_err-p
+returns-in_err-p c = rw c.from_residual.ensures (remove-no-path c.args.s.now c.requires c.in_err-p.ensures)
 
 pub returns : goal.returns
-returns c =
-    remove-there
-    c.args.s.now
-    c.requires
-    c.in-Spelled.p
-    (subst (PathIs _ _ _) c.in-Spelled.is c.path_in.ensures)
+returns c = remove-there c.args.s.now c.requires c.in_ok-p.p c.in_ok-p.ensures

@@ -1,32 +1,12 @@
 -- `protocol_of` meets its contract: what the line says by its action, or none by each other action.
-use mathlib.Core.Path.{ap, subst}
-use Rattle.line_actions.specs.Line.{ActionIs}
+use mathlib.Core.Path.{ap}
 use Rattle.line_actions.specs.Asked.{protocol_in}
+use Rattle.line_actions.proofs.Sole.{no_protocol-here}
 use Rattle.line_actions.proofs.asked.protocol_of.Goals as goal
 
-pub returns-in-Protocol : goal.returns-in-Protocol
-returns-in-Protocol c = subst (ActionIs _ _) c.in-Protocol.is c.classify.ensures
-
-pub returns-in-Add : goal.returns-in-Add
+pub returns-in_err-p : goal.returns-in_err-p
 unfolding protocol_in
-returns-in-Add c = ap protocol_in (subst (ActionIs _ _) c.in-Add.is c.classify.ensures).1
+returns-in_err-p c = rw c.from_residual.ensures (ap protocol_in c.in_err-p.ensures)
 
-pub returns-in-Remove : goal.returns-in-Remove
-unfolding protocol_in
-returns-in-Remove c = ap protocol_in (subst (ActionIs _ _) c.in-Remove.is c.classify.ensures).0
-
-pub returns-in-MetaData : goal.returns-in-MetaData
-unfolding protocol_in
-returns-in-MetaData c = ap protocol_in (subst (ActionIs _ _) c.in-MetaData.is c.classify.ensures).1
-
-pub returns-in-Mergeskip : goal.returns-in-Mergeskip
-unfolding protocol_in
-returns-in-Mergeskip c = ap protocol_in (subst (ActionIs _ _) c.in-Mergeskip.is c.classify.ensures).says
-
-pub returns-in-Other : goal.returns-in-Other
-unfolding protocol_in
-returns-in-Other c = ap protocol_in (subst (ActionIs _ _) c.in-Other.is c.classify.ensures)
-
-pub returns-in-Malformed : goal.returns-in-Malformed
-unfolding protocol_in
-returns-in-Malformed c = ap protocol_in (subst (ActionIs _ _) c.in-Malformed.is c.classify.ensures)
+pub returns-in_default : goal.returns-in_default
+returns-in_default c = no_protocol-here _ c.args.line.now c.in_ok-p.field-0 c.in_ok-p.ensures c.in_default.not-Protocol

@@ -1,33 +1,15 @@
 -- `speaks` meets its contract. A line is well formed where it says anything.
-use mathlib.Core.Path.{sym, ap, subst}
+use mathlib.Core.Path.{sym, ap, ◌∙◌}
 use Rattle.line_actions.specs.Asked.{spoken_is}
-use Rattle.line_actions.specs.Line.{ActionIs}
+use Rattle.line_actions.proofs.Sole.{spoken-else, spoken-table}
 use Rattle.line_actions.proofs.asked.speaks.Goals as goal
 
+pub returns-in_err-classify : goal.returns-in_err-classify
+unfolding spoken_is
+returns-in_err-classify c = c.from_residual.ensures ∙ sym (ap spoken_is c.in_err-classify.ensures)
+
 pub returns-in-MetaData : goal.returns-in-MetaData
-unfolding spoken_is
-returns-in-MetaData c = let a = subst (ActionIs _ _) c.in-MetaData.is c.classify.ensures in sym (ap spoken_is a.1)
+returns-in-MetaData c = spoken-table _ c.args.line.now c.in_ok-classify.field-0 c.in_ok-classify.ensures c.in-MetaData.is
 
-pub returns-in-Add : goal.returns-in-Add
-unfolding spoken_is
-returns-in-Add c = let a = subst (ActionIs _ _) c.in-Add.is c.classify.ensures in sym (ap spoken_is a.1)
-
-pub returns-in-Remove : goal.returns-in-Remove
-unfolding spoken_is
-returns-in-Remove c = let a = subst (ActionIs _ _) c.in-Remove.is c.classify.ensures in sym (ap spoken_is a.0)
-
-pub returns-in-Protocol : goal.returns-in-Protocol
-unfolding spoken_is
-returns-in-Protocol c = let a = subst (ActionIs _ _) c.in-Protocol.is c.classify.ensures in sym (ap spoken_is a.1)
-
-pub returns-in-Mergeskip : goal.returns-in-Mergeskip
-unfolding spoken_is
-returns-in-Mergeskip c = let a = subst (ActionIs _ _) c.in-Mergeskip.is c.classify.ensures in sym (ap spoken_is a.says)
-
-pub returns-in-Other : goal.returns-in-Other
-unfolding spoken_is
-returns-in-Other c = sym (ap spoken_is (subst (ActionIs _ _) c.in-Other.is c.classify.ensures))
-
-pub returns-in-Malformed : goal.returns-in-Malformed
-unfolding spoken_is
-returns-in-Malformed c = sym (ap spoken_is (subst (ActionIs _ _) c.in-Malformed.is c.classify.ensures))
+pub returns-in_default : goal.returns-in_default
+returns-in_default c = spoken-else _ c.args.line.now c.in_ok-classify.field-0 c.in_ok-classify.ensures c.in_default.not-MetaData

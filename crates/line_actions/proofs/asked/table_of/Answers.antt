@@ -1,32 +1,12 @@
 -- `table_of` meets its contract: what the line says by its action, or none by each other action.
-use mathlib.Core.Path.{ap, subst}
-use Rattle.line_actions.specs.Line.{ActionIs}
+use mathlib.Core.Path.{ap}
 use Rattle.line_actions.specs.Asked.{meta_data_in}
+use Rattle.line_actions.proofs.Sole.{no_table-here}
 use Rattle.line_actions.proofs.asked.table_of.Goals as goal
 
-pub returns-in-MetaData : goal.returns-in-MetaData
-returns-in-MetaData c = subst (ActionIs _ _) c.in-MetaData.is c.classify.ensures
-
-pub returns-in-Add : goal.returns-in-Add
+pub returns-in_err-m : goal.returns-in_err-m
 unfolding meta_data_in
-returns-in-Add c = ap meta_data_in (subst (ActionIs _ _) c.in-Add.is c.classify.ensures).1
+returns-in_err-m c = rw c.from_residual.ensures (ap meta_data_in c.in_err-m.ensures)
 
-pub returns-in-Remove : goal.returns-in-Remove
-unfolding meta_data_in
-returns-in-Remove c = ap meta_data_in (subst (ActionIs _ _) c.in-Remove.is c.classify.ensures).0
-
-pub returns-in-Protocol : goal.returns-in-Protocol
-unfolding meta_data_in
-returns-in-Protocol c = ap meta_data_in (subst (ActionIs _ _) c.in-Protocol.is c.classify.ensures).1
-
-pub returns-in-Mergeskip : goal.returns-in-Mergeskip
-unfolding meta_data_in
-returns-in-Mergeskip c = ap meta_data_in (subst (ActionIs _ _) c.in-Mergeskip.is c.classify.ensures).says
-
-pub returns-in-Other : goal.returns-in-Other
-unfolding meta_data_in
-returns-in-Other c = ap meta_data_in (subst (ActionIs _ _) c.in-Other.is c.classify.ensures)
-
-pub returns-in-Malformed : goal.returns-in-Malformed
-unfolding meta_data_in
-returns-in-Malformed c = ap meta_data_in (subst (ActionIs _ _) c.in-Malformed.is c.classify.ensures)
+pub returns-in_default : goal.returns-in_default
+returns-in_default c = no_table-here _ c.args.line.now c.in_ok-m.field-0 c.in_ok-m.ensures c.in_default.not-MetaData

@@ -12,7 +12,4 @@ same_stated-requires c = (
 
 pub returns : goal.returns
 unfolding part line_at
-returns c =
-    c.same_stated.ensures _ _
-    c.stated_at-x.ensures
-    c.stated_at-y.ensures
+returns c = c.same_stated.ensures _ _ c.stated_at-x.ensures c.stated_at-y.ensures

@@ -1,6 +1,8 @@
 -- `same_tabled` meets its contract: the ids, and then the columns.
-use mathlib.Core.Path.{sym, ◌∙◌}
-use Rattle.log_agreement.proofs.Tabled.{ids-differ, ids-same}
+use mathlib.Core.Path.{ap₂, ◌∙◌}
+use Rattle.rules.specs.Bytes.{same, same_each}
+use Rattle.rules.specs.Agreement.{agree_tables}
+use Rattle.log_agreement.proofs.Stated.{and-then, and-else}
 use Rattle.log_agreement.proofs.tables.same_tabled.Goals as goal
 
 pub same_strings-requires : goal.same_strings-requires
@@ -15,9 +17,12 @@ same_lists-requires c = (
 )
 
 pub returns-then-same_strings : goal.returns-then-same_strings
+unfolding agree_tables
 returns-then-same_strings c m n a b =
-    c.same_lists.ensures m.partition_columns n.partition_columns a.columns b.columns
-    ∙ sym (ids-same a b (sym c.same_strings.ensures ∙ c.if-same_strings.true))
+    and-then (c.same_strings.ensures ∙ ap₂ same a.id b.id) (c.same_lists.ensures m.partition_columns n.partition_columns a.columns b.columns)
+    c.if-same_strings.true
 
-pub returns : goal.returns
-returns c m n a b = sym (ids-differ a b (sym c.same_strings.ensures ∙ c.if-same_strings.false))
+pub returns-else-same_strings : goal.returns-else-same_strings
+unfolding agree_tables
+returns-else-same_strings c m n a b =
+    and-else (same_each m.partition_columns n.partition_columns) (c.same_strings.ensures ∙ ap₂ same a.id b.id) c.if-same_strings.false

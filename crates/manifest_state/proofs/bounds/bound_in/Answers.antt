@@ -1,32 +1,21 @@
 -- `bound_in` meets its contract. By what the field says.
-use mathlib.Core.Path.{subst}
 use Rattle.rules.specs.Json.Fields.{string_of}
-use Rattle.field_scalars.specs.Texts.{StringIs}
-use Rattle.field_scalars.specs.Optionals.{OptionalIs}
 use Rattle.field_scalars.proofs.Optionals.{there-twice, there-missing, there-none}
 use Rattle.manifest_state.proofs.Bounded.{bound-spelled}
 use Rattle.manifest_state.proofs.bounds.bound_in.Goals as goal
 
-pub string_at-requires : goal.string_at-requires
-string_at-requires c =
-    let o = subst (OptionalIs _ _ _) c.in-At.is c.optional_in.ensures in
-    (o.ordered, o.within)
+pub returns-in_err-v : goal.returns-in_err-v
+returns-in_err-v c = rw c.from_residual.ensures (there-twice string_of c.in_err-v.ensures)
 
-pub returns-in-Twice : goal.returns-in-Twice
-returns-in-Twice c = there-twice string_of (subst (OptionalIs _ _ _) c.in-Twice.is c.optional_in.ensures)
+pub returns-in_default : goal.returns-in_default
+returns-in_default c = there-missing string_of (rw c.in_default.is at c.in_ok-v.ensures)
 
-pub returns-in-Missing : goal.returns-in-Missing
-returns-in-Missing c = there-missing string_of (subst (OptionalIs _ _ _) c.in-Missing.is c.optional_in.ensures)
+pub returns-in_err-p : goal.returns-in_err-p
+returns-in_err-p c =
+    let o = rw c.in-Some.is at c.in_ok-v.ensures in
+    rw c.from_residual-in_err-p.ensures (there-none string_of o.says c.in_err-p.ensures)
 
-pub returns-in-Sized : goal.returns-in-Sized
-returns-in-Sized c =
-    let o = subst (OptionalIs _ _ _) c.in-At.is
-    c.optional_in.ensures in
-    let r = subst (StringIs _ _ _) c.in-Sized.is c.string_at.ensures in
-    bound-spelled c.args.t.now c.in-Sized.p o.says r.0
-
-pub returns-in-NoString : goal.returns-in-NoString
-returns-in-NoString c =
-    let o =
-    subst (OptionalIs _ _ _) c.in-At.is c.optional_in.ensures in
-    there-none string_of o.says (subst (StringIs _ _ _) c.in-NoString.is c.string_at.ensures)
+pub returns : goal.returns
+returns c =
+    let o = rw c.in-Some.is at c.in_ok-v.ensures in
+    bound-spelled c.args.t.now c.in_ok-p.p o.says c.in_ok-p.ensures.0

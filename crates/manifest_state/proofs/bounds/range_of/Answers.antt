@@ -1,90 +1,50 @@
 -- `range_of` meets its contract. By what the two fields say.
-use mathlib.Core.Path.{subst}
+use mathlib.Core.Path.{◌≡◌}
 use native.Mathlib.Omega.{arith}
-use Rattle.rules.specs.Json.Values.{object_of}
 use lib.ListN.{get_or}
+use Rattle.rules.specs.Manifests.{bounds_of}
 use Rattle.field_names.specs.Kinds.{names_of}
 use Rattle.field_objects.specs.Slots.{missing}
 use Rattle.field_names.specs.declared.kinds.Kind.TheVariants.{Bounds}
 use Rattle.field_scalars.proofs.Stated.{each-inside}
-use Rattle.manifest_state.specs.Ranges.{optional_string_in, BoundIs}
-use Rattle.field_objects.proofs.Whole.{object-good, object-bad}
-use Rattle.manifest_state.proofs.Bounded.{bounds-none, bounds-by, range-no-min, range-no-max, range-min-missing, range-max-missing, range-both}
+use Rattle.manifest_state.specs.Ranges.{optional_string_in}
+use Rattle.manifest_state.proofs.Bounded.{bounds_by, bounds-none, bounds-by, range-no-min, range-no-max, range-zipped}
 use Rattle.manifest_state.proofs.bounds.range_of.Goals as goal
+use Rattle.manifest_state.proofs.bounds.range_of.Goals.{In_ok-f}
 
-pub returns-then-not-f : goal.returns-then-not-f
-returns-then-not-f c =
-    bounds-none _
-    (object-bad (object_of 27 c.args.t.now) c.args.t.now (names_of Bounds) c.object_of-f.result c.object_of-f.ensures
-    c.if-not-f.true)
+-- the bounds are those of the two fields
+stated : (c : In_ok-f) → bounds_of c.args.t.now
+    ≡ bounds_by (optional_string_in c.args.t.now (get_or c.in_ok-f.f.slots 0 missing)) (optional_string_in c.args.t.now (get_or c.in_ok-f.f.slots 1 missing))
+stated c = let ob = c.in_ok-f.ensures in bounds-by c.args.t.now ob.ms c.in_ok-f.f.slots ob.all ob.each
 
-pub bound_in-min-requires : goal.bound_in-min-requires
+pub returns-in_err-f : goal.returns-in_err-f
+returns-in_err-f c = rw c.from_residual.ensures (bounds-none _ c.in_err-f.ensures)
+
+pub bound_in-requires : goal.bound_in-requires
 unfolding names_of
-bound_in-min-requires c =
-    let ob = object-good (object_of 27 c.args.t.now) c.args.t.now (names_of Bounds) c.object_of-f.result c.object_of-f.ensures
-    c.if-not-f.false in
-    each-inside c.args.t.now (names_of Bounds) ob.ms c.object_of-f.result.slots 0 (omega arith) ob.each
+bound_in-requires c =
+    let ob = c.in_ok-f.ensures in
+    each-inside c.args.t.now (names_of Bounds) ob.ms c.in_ok-f.f.slots 0 (omega arith) ob.each
 
-pub bound_in-max-requires : goal.bound_in-max-requires
+pub returns-in_err-min : goal.returns-in_err-min
+returns-in_err-min c =
+    rw c.from_residual-in_err-min.ensures
+    (range-no-min _ (optional_string_in c.args.t.now (get_or c.in_ok-f.f.slots 1 missing)) (stated (goal.at.returns-in_err-min c).In_ok-f)
+    c.in_err-min.ensures)
+
+pub bound_in-requires-2 : goal.bound_in-requires-2
 unfolding names_of
-bound_in-max-requires c =
-    let ob = object-good (object_of 27 c.args.t.now) c.args.t.now (names_of Bounds) c.object_of-f.result c.object_of-f.ensures
-    c.if-not-f.false in
-    each-inside c.args.t.now (names_of Bounds) ob.ms c.object_of-f.result.slots 1 (omega arith) ob.each
+bound_in-requires-2 c =
+    let ob = c.in_ok-f.ensures in
+    each-inside c.args.t.now (names_of Bounds) ob.ms c.in_ok-f.f.slots 1 (omega arith) ob.each
 
-pub returns-in-Bad : goal.returns-in-Bad
-returns-in-Bad c =
-    let ob = object-good (object_of 27 c.args.t.now) c.args.t.now (names_of Bounds) c.object_of-f.result c.object_of-f.ensures
-    c.if-not-f.false in
-    let both = bounds-by c.args.t.now ob.ms c.object_of-f.result.slots ob.all ob.each in
-    let lo = subst (BoundIs _ _) c.in-Bad.is c.bound_in-min.ensures in
-    range-no-min _ (optional_string_in c.args.t.now (get_or c.object_of-f.result.slots 1 missing)) both lo
+pub returns-in_err-max : goal.returns-in_err-max
+returns-in_err-max c =
+    rw c.from_residual-in_err-max.ensures
+    (range-no-max (optional_string_in c.args.t.now (get_or c.in_ok-f.f.slots 0 missing)) _ (stated (goal.at.returns-in_err-max c).In_ok-f)
+    c.in_err-max.ensures)
 
-pub returns-in-Bad-max : goal.returns-in-Bad-max
-returns-in-Bad-max c =
-    let ob = object-good (object_of 27 c.args.t.now) c.args.t.now (names_of Bounds) c.object_of-f.result c.object_of-f.ensures c.if-not-f.false in
-    let both = bounds-by c.args.t.now ob.ms c.object_of-f.result.slots ob.all ob.each in
-    let lo = subst (BoundIs _ _) c.in-Missing.is c.bound_in-min.ensures in
-    let hi = subst (BoundIs _ _) c.in-Bad-max.is c.bound_in-max.ensures in
-    range-no-max _ _ both _ lo hi
-
-pub returns-in-Missing-max : goal.returns-in-Missing-max
-returns-in-Missing-max c =
-    let ob = object-good (object_of 27 c.args.t.now) c.args.t.now (names_of Bounds) c.object_of-f.result c.object_of-f.ensures c.if-not-f.false in
-    let both = bounds-by c.args.t.now ob.ms c.object_of-f.result.slots ob.all ob.each in
-    let lo = subst (BoundIs _ _) c.in-Missing.is c.bound_in-min.ensures in
-    let hi = subst (BoundIs _ _) c.in-Missing-max.is c.bound_in-max.ensures in
-    range-min-missing _ _ both _ lo hi
-
-pub returns-in-Spelled-max : goal.returns-in-Spelled-max
-returns-in-Spelled-max c =
-    let ob = object-good (object_of 27 c.args.t.now) c.args.t.now (names_of Bounds) c.object_of-f.result c.object_of-f.ensures c.if-not-f.false in
-    let both = bounds-by c.args.t.now ob.ms c.object_of-f.result.slots ob.all ob.each in
-    let lo = subst (BoundIs _ _) c.in-Missing.is c.bound_in-min.ensures in
-    let hi = subst (BoundIs _ _) c.in-Spelled-max.is c.bound_in-max.ensures in
-    range-min-missing _ _ both _ lo hi.1
-
-pub returns-in-Bad-max-2 : goal.returns-in-Bad-max-2
-returns-in-Bad-max-2 c =
-    let ob = object-good (object_of 27 c.args.t.now) c.args.t.now (names_of Bounds) c.object_of-f.result c.object_of-f.ensures c.if-not-f.false in
-    let both = bounds-by c.args.t.now ob.ms c.object_of-f.result.slots ob.all ob.each in
-    let lo = subst (BoundIs _ _) c.in-Spelled.is c.bound_in-min.ensures in
-    let hi = subst (BoundIs _ _) c.in-Bad-max-2.is c.bound_in-max.ensures in
-    range-no-max _ _ both _ lo.1 hi
-
-pub returns-in-Missing-max-2 : goal.returns-in-Missing-max-2
-returns-in-Missing-max-2 c =
-    let ob = object-good (object_of 27 c.args.t.now) c.args.t.now (names_of Bounds) c.object_of-f.result c.object_of-f.ensures c.if-not-f.false in
-    let both = bounds-by c.args.t.now ob.ms c.object_of-f.result.slots ob.all ob.each in
-    let lo = subst (BoundIs _ _) c.in-Spelled.is c.bound_in-min.ensures in
-    let hi = subst (BoundIs _ _) c.in-Missing-max-2.is c.bound_in-max.ensures in
-    range-max-missing _ _ both _ lo.1 hi
-
-pub returns-in-Spelled-max-2 : goal.returns-in-Spelled-max-2
-returns-in-Spelled-max-2 c =
-    let ob = object-good (object_of 27 c.args.t.now) c.args.t.now (names_of Bounds) c.object_of-f.result c.object_of-f.ensures c.if-not-f.false in
-    let both = bounds-by c.args.t.now ob.ms c.object_of-f.result.slots ob.all ob.each in
-    let lo =
-    subst (BoundIs _ _) c.in-Spelled.is c.bound_in-min.ensures in
-    let hi = subst (BoundIs _ _) c.in-Spelled-max-2.is c.bound_in-max.ensures in
-    range-both _ _ both _ _ _ lo hi
+pub returns : goal.returns
+returns c =
+    rw c.zip.ensures
+    (range-zipped _ _ (stated (goal.at.returns c).In_ok-f) c.args.t.now c.in_ok-min.min c.in_ok-max.max c.in_ok-min.ensures c.in_ok-max.ensures)

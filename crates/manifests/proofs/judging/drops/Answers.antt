@@ -1,111 +1,58 @@
 -- `drops` meets its contract. By the member that has the column's name, and by the bounds that it states.
-use mathlib.Core.Path.{subst}
 use Prim.Native.Nat.{◌-◌, ◌≤◌}
-use native.Mathlib.Omega.{arith}
 use borrow.Author.Rules.{rules}
 use lib.ListN.{length, take, drop}
-use Rattle.field_objects.specs.Lookup.{FoundIs}
 use Rattle.query_conditions.specs.Conditions.{condition_of}
-use Rattle.manifest_state.specs.Ranges.{RangeIs}
-use Rattle.manifests.proofs.Excluding.{drops-missing, drops-between, drops-open, drops-malformed}
+use Rattle.manifests.proofs.Excluding.{drops-missing, range-both, drops-by, drops-open}
 use Rattle.manifests.proofs.judging.drops.Goals as goal
+use Rattle.manifests.proofs.judging.drops.Goals.{In-Some}
+
+-- where the value of the column's member stands
+inside : (c : In-Some) → (c.in-Some.v ≤ c.in-Some.e) × (c.in-Some.e ≤ length c.args.t.now)
+inside c =
+    let w = c.requires.1.1 in
+    let f = c.in-Some.ensures (record { ms = w.ms; left = w.left; all = w.all }) in
+    (f.1, f.2)
 
 pub returns-in_default : goal.returns-in_default
 returns-in_default c =
-    λ columns w. drops-missing
+    λ columns w. drops-missing (condition_of c.args.q.now c.args.c) w.ms columns w.each
+    (c.in_default.ensures (record { ms = w.ms; left = w.left; all = w.all }))
+
+pub slice_bounds-bounds-count : goal.slice_bounds-bounds-count
+slice_bounds-bounds-count c = (inside (goal.at.slice_bounds-bounds-count c).In-Some).0
+
+pub slice_bounds-bounds-start : goal.slice_bounds-bounds-start
+slice_bounds-bounds-start c = let within = inside (goal.at.slice_bounds-bounds-start c).In-Some in search rules
+
+pub slice_bounds-bounds-end : goal.slice_bounds-bounds-end
+slice_bounds-bounds-end c = let within = inside (goal.at.slice_bounds-bounds-end c).In-Some in search rules
+
+pub returns-in-Some-flatten : goal.returns-in-Some-flatten
+returns-in-Some-flatten c =
+    λ columns w. let f = c.in-Some.ensures (record { ms = w.ms; left = w.left; all = w.all }) in
+    drops-by
     (condition_of c.args.q.now c.args.c)
     w.ms
     columns
     w.each
-    (subst (FoundIs _ _) c.in_default.is (c.find_name.ensures (record { ms = w.ms; left = w.left; all = w.all })))
-
-pub slice_bounds-range_of-count : goal.slice_bounds-range_of-count
-slice_bounds-range_of-count c =
-    let f =
-    subst (FoundIs _ _) c.in-At.is (c.find_name.ensures (record { ms = c.requires.1.1.ms; left = c.requires.1.1.left; all = c.requires.1.1.all })) in
-    let ordered : c.in-At.v ≤ c.in-At.e = f.1 in
-    let within : c.in-At.e ≤ length c.args.t.now = f.2 in
-    omega arith
-
-pub slice_bounds-range_of-start : goal.slice_bounds-range_of-start
-slice_bounds-range_of-start c =
-    let f =
-    subst (FoundIs _ _) c.in-At.is (c.find_name.ensures (record { ms = c.requires.1.1.ms; left = c.requires.1.1.left; all = c.requires.1.1.all })) in
-    let ordered : c.in-At.v ≤ c.in-At.e = f.1 in
-    let within : c.in-At.e ≤ length c.args.t.now = f.2 in
-    search rules
-
-pub slice_bounds-range_of-end : goal.slice_bounds-range_of-end
-slice_bounds-range_of-end c =
-    let f =
-    subst (FoundIs _ _) c.in-At.is (c.find_name.ensures (record { ms = c.requires.1.1.ms; left = c.requires.1.1.left; all = c.requires.1.1.all })) in
-    let ordered : c.in-At.v ≤ c.in-At.e = f.1 in
-    let within : c.in-At.e ≤ length c.args.t.now = f.2 in
-    search rules
-
-pub slice_bounds-outside_at-count : goal.slice_bounds-outside_at-count
-slice_bounds-outside_at-count c =
-    let f = subst (FoundIs _ _) c.in-At.is (c.find_name.ensures (record { ms = c.requires.1.1.ms; left = c.requires.1.1.left; all = c.requires.1.1.all })) in
-    let ordered : c.in-At.v ≤ c.in-At.e = f.1 in
-    let within : c.in-At.e ≤ length c.args.t.now = f.2 in
-    omega arith
-
-pub slice_bounds-outside_at-start : goal.slice_bounds-outside_at-start
-slice_bounds-outside_at-start c =
-    let f = subst (FoundIs _ _) c.in-At.is (c.find_name.ensures (record { ms = c.requires.1.1.ms; left = c.requires.1.1.left; all = c.requires.1.1.all })) in
-    let ordered : c.in-At.v ≤ c.in-At.e = f.1 in
-    let within : c.in-At.e ≤ length c.args.t.now = f.2 in
-    search rules
-
-pub slice_bounds-outside_at-end : goal.slice_bounds-outside_at-end
-slice_bounds-outside_at-end c =
-    let f = subst (FoundIs _ _) c.in-At.is (c.find_name.ensures (record { ms = c.requires.1.1.ms; left = c.requires.1.1.left; all = c.requires.1.1.all })) in
-    let ordered : c.in-At.v ≤ c.in-At.e = f.1 in
-    let within : c.in-At.e ≤ length c.args.t.now = f.2 in
-    search rules
-
-pub outside_at-requires : goal.outside_at-requires
-outside_at-requires c =
-    let r = subst (RangeIs _ _) c.in-Closed.is c.range_of.ensures in
-    (c.requires.0, r.least, r.greatest)
-
-pub returns-in-Closed : goal.returns-in-Closed
-returns-in-Closed c =
-    let r = subst (RangeIs _ _) c.in-Closed.is c.range_of.ensures in
-    λ columns w. let f = subst (FoundIs _ _) c.in-At.is (c.find_name.ensures (record { ms = w.ms; left = w.left; all = w.all })) in
-    drops-between
-    (condition_of c.args.q.now c.args.c)
-    w.ms
-    columns
-    w.each
-    (take (c.in-At.e - c.in-At.v) (drop c.in-At.v c.args.t.now))
+    (take (c.in-Some.e - c.in-Some.v) (drop c.in-Some.v c.args.t.now))
     f.0
-    c.in-Closed.lo
-    c.in-Closed.hi
-    r
+    c.in-Some-flatten.lo
+    c.in-Some-flatten.hi
+    (range-both _ _ c.range_of.result c.range_of.ensures c.in-Some-flatten.lo c.in-Some-flatten.hi c.in-Some-flatten.ensures)
     c.outside_at.ensures
 
-pub returns-in-Open : goal.returns-in-Open
-returns-in-Open c =
-    let r = subst (RangeIs _ _) c.in-Open.is c.range_of.ensures in
-    λ columns w. let f = subst
-    (FoundIs _ _)
-    c.in-At.is
-    (c.find_name.ensures (record { ms = w.ms; left = w.left; all = w.all })) in
-    drops-open (condition_of c.args.q.now c.args.c) w.ms columns w.each (take (c.in-At.e - c.in-At.v) (drop c.in-At.v c.args.t.now)) f.0 r
-
-pub returns-in-Malformed : goal.returns-in-Malformed
-returns-in-Malformed c =
-    let r = subst (RangeIs _ _) c.in-Malformed.is c.range_of.ensures in
-    λ columns w. let f = subst
-    (FoundIs _ _)
-    c.in-At.is
-    (c.find_name.ensures (record { ms = w.ms; left = w.left; all = w.all })) in
-    drops-malformed
+pub returns-in-None : goal.returns-in-None
+returns-in-None c =
+    λ columns w. let f = c.in-Some.ensures (record { ms = w.ms; left = w.left; all = w.all }) in
+    drops-open
     (condition_of c.args.q.now c.args.c)
     w.ms
     columns
     w.each
-    (take (c.in-At.e - c.in-At.v) (drop c.in-At.v c.args.t.now))
+    (take (c.in-Some.e - c.in-Some.v) (drop c.in-Some.v c.args.t.now))
     f.0
-    r
+    c.range_of.result
+    c.range_of.ensures
+    c.in-None.ensures

@@ -14,7 +14,7 @@ use Rattle.manifests.proofs.notes.note_all.Given as goal
 abbrev pub invariant-loop-e : goal.invariant-loop-e
 invariant-loop-e l =
     (ms : List Manifest) × Gathered (spelled (rule_value 30)) 0x5D manifest_of l.u l.at l.i ms × (length ms ≡ l.k)
-    × Noted (conditions_of l.q l.count l.conditions) ms l.n l.initial.kept l.kept × (l.k ≤ l.i)
+    × Noted (conditions_of l.q l.asked.count l.asked.conditions) ms l.n l.initial.kept l.kept × (l.k ≤ l.i)
 
 abbrev pub decreases-loop-e : goal.decreases-loop-e
 decreases-loop-e l = length l.u - l.i

@@ -5,61 +5,50 @@ use Rattle.query_conditions.specs.Words.{as_is}
 use Rattle.json_strings.specs.Decoded.{decoded}
 use Rattle.rules.specs.Query.{as_of, op_of}
 use lib.ListN.{drop}
-use mathlib.Core.Path.{sym, ◌∙◌}
 use Rattle.query_conditions.proofs.conditions.condition_by.Goals as goal
 
-pub kind_at-requires : goal.kind_at-requires
-kind_at-requires c = c.requires.1
-
-pub returns-in_default : goal.returns-in_default
-returns-in_default c =
-    from-no-kind
+pub returns-in_err-k : goal.returns-in_err-k
+returns-in_err-k c =
+    rw c.from_residual.ensures
+    (from-no-kind
     (decoded (drop c.args.column c.args.q.now))
     (decoded (drop c.args.kind c.args.q.now))
     (decoded (drop c.args.op c.args.q.now))
     (decoded (drop c.args.bound c.args.q.now))
-    (kind-unsaid (as_of (decoded (drop c.args.kind c.args.q.now))) (sym c.in_default.is ∙ c.kind_at.ensures))
+    (kind-unsaid (as_of (decoded (drop c.args.kind c.args.q.now))) c.in_err-k.ensures))
 
-pub operator_at-requires : goal.operator_at-requires
-operator_at-requires c = c.requires.2
-
-pub returns-in_default-operator_at : goal.returns-in_default-operator_at
-returns-in_default-operator_at c =
-    from-no-operator
+pub returns-in_err-o : goal.returns-in_err-o
+returns-in_err-o c =
+    rw c.from_residual-in_err-o.ensures
+    (from-no-operator
     (decoded (drop c.args.column c.args.q.now))
     (decoded (drop c.args.kind c.args.q.now))
     (decoded (drop c.args.op c.args.q.now))
     (decoded (drop c.args.bound c.args.q.now))
-    (kind-said (as_of (decoded (drop c.args.kind c.args.q.now)))
-    (sym c.in-Of.is ∙ c.kind_at.ensures))
-    (operator-unsaid (op_of (decoded (drop c.args.op c.args.q.now))) (sym c.in_default-operator_at.is ∙ c.operator_at.ensures))
+    (kind-said (as_of (decoded (drop c.args.kind c.args.q.now))) c.in_ok-k.ensures)
+    (operator-unsaid (op_of (decoded (drop c.args.op c.args.q.now))) c.in_err-o.ensures))
 
-pub fit_at-requires : goal.fit_at-requires
-fit_at-requires c = c.requires.3
-
-pub returns-in_default-fit_at : goal.returns-in_default-fit_at
-returns-in_default-fit_at c =
-    from-unfit
+pub returns-in_err-number : goal.returns-in_err-number
+returns-in_err-number c =
+    rw c.from_residual-in_err-number.ensures
+    (from-unfit
     (decoded (drop c.args.column c.args.q.now))
     (decoded (drop c.args.kind c.args.q.now))
     (decoded (drop c.args.op c.args.q.now))
     (decoded (drop c.args.bound c.args.q.now))
-    (kind-said (as_of (decoded (drop c.args.kind c.args.q.now))) (sym c.in-Of.is ∙ c.kind_at.ensures))
-    (operator-said (op_of (decoded (drop c.args.op c.args.q.now)))
-    (sym c.in-Of-operator_at.is ∙ c.operator_at.ensures))
-    (fit-unfits (as_is c.in-Of.k) (decoded (drop c.args.bound c.args.q.now)) (sym c.in_default-fit_at.is ∙ c.fit_at.ensures))
+    (kind-said (as_of (decoded (drop c.args.kind c.args.q.now))) c.in_ok-k.ensures)
+    (operator-said (op_of (decoded (drop c.args.op c.args.q.now))) c.in_ok-o.ensures)
+    (fit-unfits (as_is c.in_ok-k.k) (decoded (drop c.args.bound c.args.q.now)) c.in_err-number.ensures))
 
 pub returns : goal.returns
-returns c =
-    let says = sym c.in-Fits.is ∙ c.fit_at.ensures in (
-      record { column = c.requires.0; bound = c.requires.3; number = says },
-      from-words
-          (decoded (drop c.args.column c.args.q.now))
-          (decoded (drop c.args.kind c.args.q.now))
-          (decoded (drop c.args.op c.args.q.now))
-          (decoded (drop c.args.bound c.args.q.now))
-          (kind-said (as_of (decoded (drop c.args.kind c.args.q.now))) (sym c.in-Of.is ∙ c.kind_at.ensures))
-          (operator-said (op_of (decoded (drop c.args.op c.args.q.now)))
-          (sym c.in-Of-operator_at.is ∙ c.operator_at.ensures))
-          (fit-fits (as_is c.in-Of.k) (decoded (drop c.args.bound c.args.q.now)) says),
-    )
+returns c = (
+  record { column = c.requires.0; bound = c.requires.3; number = c.in_ok-number.ensures },
+  from-words
+      (decoded (drop c.args.column c.args.q.now))
+      (decoded (drop c.args.kind c.args.q.now))
+      (decoded (drop c.args.op c.args.q.now))
+      (decoded (drop c.args.bound c.args.q.now))
+      (kind-said (as_of (decoded (drop c.args.kind c.args.q.now))) c.in_ok-k.ensures)
+      (operator-said (op_of (decoded (drop c.args.op c.args.q.now))) c.in_ok-o.ensures)
+      (fit-fits (as_is c.in_ok-k.k) (decoded (drop c.args.bound c.args.q.now)) c.in_ok-number.ensures),
+)

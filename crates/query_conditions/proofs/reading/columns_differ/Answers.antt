@@ -10,7 +10,7 @@ use Rattle.rules.specs.Bytes.{holds}
 use lib.ListN.{length, take, drop, get_or}
 use Prim.Native.Nat.{ℕ, ◌+◌, ◌-◌}
 use mathlib.Core.List.{List}
-use mathlib.Core.Path.{◌≡◌, refl, sym, ap, ◌∙◌, subst}
+use mathlib.Core.Path.{◌≡◌, sym, ap, ◌∙◌, subst}
 use native.Mathlib.Omega.{arith}
 use Rattle.query_conditions.proofs.reading.columns_differ.Goals as goal
 
@@ -18,9 +18,6 @@ use Rattle.query_conditions.proofs.reading.columns_differ.Goals as goal
 lent : (ps : List ℕ) (k : ℕ) → take (length ps - k) (drop k ps) ≡ drop k ps
 unfolding part
 lent ps k = part-behind ps k (length ps) (omega arith)
-
-pub loop-k-init : goal.loop-k-init
-loop-k-init c = (omega arith, refl)
 
 pub holds_column-requires : goal.holds_column-requires
 holds_column-requires c =
@@ -34,18 +31,15 @@ returns-then-holds_column c =
     columns-twice c.args.q.now c.args.columns.now c.loop-k.k c.loop-k-test.true
     (ap (λ (xs : List ℕ). holds (decoded (drop (get_or c.args.columns.now c.loop-k.k 0) c.args.q.now)) (names_at c.args.q.now xs))
     (sym (lent c.args.columns.now (c.loop-k.k + 1)))
-    ∙ sym c.holds_column.ensures ∙ c.if-holds_column.true) ∙ sym c.loop-k.invariant.1
+    ∙ sym c.if-holds_column.ensures) ∙ sym c.loop-k.invariant
 
 pub loop-k-preserved : goal.loop-k-preserved
-loop-k-preserved c = (
-  omega arith,
-  c.loop-k.invariant.1
-      ∙ columns-past c.args.q.now c.args.columns.now c.loop-k.k c.loop-k-test.true
-      (ap (λ (xs : List ℕ). holds (decoded (drop (get_or c.args.columns.now c.loop-k.k 0) c.args.q.now)) (names_at c.args.q.now xs))
-      (sym (lent c.args.columns.now (c.loop-k.k + 1)))
-      ∙ sym c.holds_column.ensures ∙ c.if-holds_column.false),
-)
+loop-k-preserved c =
+    c.loop-k.invariant
+    ∙ columns-past c.args.q.now c.args.columns.now c.loop-k.k c.loop-k-test.true
+    (ap (λ (xs : List ℕ). holds (decoded (drop (get_or c.args.columns.now c.loop-k.k 0) c.args.q.now)) (names_at c.args.q.now xs))
+    (sym (lent c.args.columns.now (c.loop-k.k + 1)))
+    ∙ sym c.if-holds_column.ensures)
 
 pub returns : goal.returns
-returns c =
-    columns-none c.args.q.now c.args.columns.now c.loop-k.k c.loop-k-test.false ∙ sym c.loop-k.invariant.1
+returns c = columns-none c.args.q.now c.args.columns.now c.loop-k.k c.loop-k-test.false ∙ sym c.loop-k.invariant

@@ -1,33 +1,26 @@
--- `holds_column` meets its contract: what is asked of all columns is asked of those from k on.
-use Rattle.query_conditions.proofs.Columns.{column-none, column-held, column-past}
+-- `holds_column` meets its contract: the strings behind the columns are asked one after another, as the rules ask names.
+use Rattle.query_conditions.proofs.Columns.{any-held}
 use Rattle.json_strings.specs.Decoded.{decoded, WellSpelled}
 use Rattle.facts.proofs.Lists.{All-at}
+use Rattle.rules.specs.Bytes.{same}
+use Rattle.std.proofs.Common.{rules, tests}
+use Rattle.std.proofs.lemmas.Iterator.{YieldsList-from_slice}
+use Rattle.std.proofs.lemmas.Iterator.Adapters.{serves_from_places}
+use Rattle.std.proofs.lemmas.Iterator.Search.{any_from_yields_List}
 use lib.ListN.{drop}
-use mathlib.Core.Path.{refl, sym, ◌∙◌}
-use native.Mathlib.Omega.{arith}
+use Prim.Native.Nat.{ℕ}
+use mathlib.Core.Path.{sym, ◌∙◌, subst}
 use Rattle.query_conditions.proofs.reading.holds_column.Goals as goal
 
-pub loop-k-init : goal.loop-k-init
-loop-k-init c = (omega arith, refl)
-
-pub same_strings-requires : goal.same_strings-requires
-same_strings-requires c =
-    (c.requires.1, All-at (WellSpelled c.args.q.now) c.args.columns.now c.loop-k.k 0 c.loop-k-test.true c.requires.0)
-
-pub returns-then-same_strings : goal.returns-then-same_strings
-returns-then-same_strings c =
-    column-held c.args.q.now c.args.columns.now (decoded (drop c.args.at c.args.q.now)) c.loop-k.k c.loop-k-test.true
-    (sym c.same_strings.ensures ∙ c.if-same_strings.true) ∙ sym c.loop-k.invariant.1
-
-pub loop-k-preserved : goal.loop-k-preserved
-loop-k-preserved c = (
-  omega arith,
-  c.loop-k.invariant.1
-      ∙ column-past c.args.q.now c.args.columns.now (decoded (drop c.args.at c.args.q.now)) c.loop-k.k c.loop-k-test.true
-      (sym c.same_strings.ensures ∙ c.if-same_strings.false),
-)
+pub any-requires-clause-callable : goal.any-requires-clause-callable
+any-requires-clause-callable c =
+    serves_from_places (YieldsList-from_slice c.args.columns.now cc) (λ x q k. search (rules, tests)) (λ x k h e.
+    let spelled : WellSpelled c.args.q.now x.now =
+    subst (WellSpelled c.args.q.now) (sym e) (All-at (WellSpelled c.args.q.now) c.args.columns.now k x.now h c.requires.0) in
+    search rules)
 
 pub returns : goal.returns
 returns c =
-    column-none c.args.q.now c.args.columns.now (decoded (drop c.args.at c.args.q.now)) c.loop-k.k c.loop-k-test.false
-    ∙ sym c.loop-k.invariant.1
+    any_from_yields_List (λ (p : ℕ). same (decoded (drop c.args.at c.args.q.now)) (decoded (drop p c.args.q.now))) _ _ c.any.result c.any.ensures.ran
+    (YieldsList-from_slice c.args.columns.now cc) (λ x b q k. search (rules, tests))
+    ∙ any-held c.args.q.now (decoded (drop c.args.at c.args.q.now)) c.args.columns.now

@@ -1,5 +1,4 @@
 -- `numeral_in` meets its contract. The bytes gathered and those to come are the string's.
-use Prim.Native.Nat.{◌-◌, ◌≤◌}
 use lib.ListN.{length, take, drop}
 use mathlib.Core.List.{◌++◌}
 use mathlib.Core.Path.{◌≡◌}
@@ -8,7 +7,4 @@ use Rattle.json_strings.specs.Decoded.{decoded}
 use Rattle.query_conditions.proofs.words.numeral_in.Given as goal
 
 abbrev pub invariant-loop-n : goal.invariant-loop-n
-invariant-loop-n l = Sound l.s l.c × (l.n ≤ 22) × (length l.digits ≡ 24) × (decoded (drop l.at l.s) ≡ take l.n l.digits ++ ahead l.s l.c)
-
-abbrev pub decreases-loop-n : goal.decreases-loop-n
-decreases-loop-n l = 22 - l.n
+invariant-loop-n l = Sound l.s l.c × (length l.digits ≡ 24) × (decoded (drop l.at l.s) ≡ take l.n l.digits ++ ahead l.s l.c)

@@ -34,14 +34,14 @@ loop-k-preserved c = (
       c.loop-k.k
       (c.loop-k.invariant.1 l names w)
       c.loop-k-test.true
-      (sym (c.holds_string.ensures names w) ∙ c.if-holds_string.true),
+      (sym (c.holds_string.ensures names w) ∙ c.if-not-holds_string.false),
 )
 
-pub returns-else-holds_string : goal.returns-else-holds_string
-returns-else-holds_string c = λ names w.
+pub returns-then-not-holds_string : goal.returns-then-not-holds_string
+returns-then-not-holds_string c = λ names w.
     let l : c.args.n ≤ length c.args.conditions = let size : length c.args.conditions ≡ 8 = search rules in omega (arith, c.requires.2.few) in
     sym (among-not c.args.q.now c.args.n c.args.conditions l names c.loop-k.k (c.loop-k.invariant.1 l names w) c.loop-k-test.true
-    (sym (c.holds_string.ensures names w) ∙ c.if-holds_string.false))
+    (sym (c.holds_string.ensures names w) ∙ c.if-not-holds_string.true))
 
 pub returns : goal.returns
 returns c = λ names w.

@@ -1,6 +1,6 @@
 -- `all_held` meets its contract: what is asked of all columns is asked of those from k on.
 use mathlib.Core.List.{List}
-use Prim.Native.Nat.{◌≤◌, ◌-◌}
+use Prim.Native.Nat.{◌≤◌}
 use lib.ListN.{length}
 use Rattle.rules.specs.Bytes.{Bytes}
 use Rattle.field_containers.specs.Strung.{Listed}
@@ -11,6 +11,3 @@ abbrev pub invariant-loop-k : goal.invariant-loop-k
 invariant-loop-k l =
     (l.k ≤ l.n)
     × ((few : l.n ≤ length l.conditions) (names : List Bytes) → Listed l.line l.at names → Among l.q l.n l.conditions few names l.k)
-
-abbrev pub decreases-loop-k : goal.decreases-loop-k
-decreases-loop-k l = l.n - l.k

@@ -22,18 +22,18 @@ none q n conditions names few e = none-among q n conditions few ∙ sym (ap (λ 
 pub all_held-requires : goal.all_held-requires
 unfolding line_at part
 all_held-requires c =
-    let x = c.in-Table.ensures in
+    let x = c.in-Some.ensures in
     (x.2.within, record { ss = x.0.partition_columns; listed = x.2.columns }, c.requires.1)
 
-pub returns-in-Table : goal.returns-in-Table
+pub returns-in-Some : goal.returns-in-Some
 unfolding line_at part
-returns-in-Table c =
-    let x = c.in-Table.ensures in
+returns-in-Some c =
+    let x = c.in-Some.ensures in
     c.all_held.ensures x.0.partition_columns x.2.columns
     ∙ sym (ap (λ (names : List Bytes). all_among names (columns_of c.args.q.now c.args.n c.args.conditions)) (table-columns c.args.src.now c.args.at x.1))
 
-pub returns-in-NoTable : goal.returns-in-NoTable
+pub returns-in-None : goal.returns-in-None
 unfolding line_at part
-returns-in-NoTable c =
+returns-in-None c =
     let size : length c.args.conditions ≡ 8 = search rules in
-    none c.args.q.now c.args.n c.args.conditions _ (omega (arith, size, c.requires.1.few)) (no-columns c.args.src.now c.args.at c.in-NoTable.ensures)
+    none c.args.q.now c.args.n c.args.conditions _ (omega (arith, size, c.requires.1.few)) (no-columns c.args.src.now c.args.at c.in-None.ensures)

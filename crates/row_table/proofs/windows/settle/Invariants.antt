@@ -1,10 +1,6 @@
 -- `settle` meets its contract: each turn writes one row in its place, as `Settling` says.
-use Prim.Native.Nat.{◌-◌}
 use Rattle.row_table.proofs.Settling.{Settling}
 use Rattle.row_table.proofs.windows.settle.Given as goal
 
 abbrev pub invariant-loop-k : goal.invariant-loop-k
 invariant-loop-k l = Settling l.base l.n l.initial.t l.t l.k
-
-abbrev pub decreases-loop-k : goal.decreases-loop-k
-decreases-loop-k l = l.n - l.k

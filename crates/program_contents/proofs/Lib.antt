@@ -1,1 +1,0 @@
--- Laws of the program: none are needed.

@@ -1,1 +1,0 @@
--- The requests left fall.
