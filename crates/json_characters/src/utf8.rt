@@ -4,11 +4,13 @@ ghost use Rattle.rules.specs.Json.Text.{byte_in};
 ghost use Rattle.rules.specs.Json.Strings.{is_plain, leads, tails, multibyte, unescaped};
 ghost use Rattle.json_tokens.specs.Answers.{Answer};
 
+use json_tokens::{BACKSLASH, QUOTE};
+
 // Whether a byte is a character by itself in a string: ASCII but controls, the quote and the backslash.
 pub fn is_plain(b: u8) -> bool
     ensures { result ≡ is_plain b }
 {
-    matches!(b, 0x20..=0x21 | 0x23..=0x5B | 0x5D..=0x7F)
+    matches!(b, 0x20..=0x7F) && b != QUOTE && b != BACKSLASH
 }
 
 // The seven kinds of first bytes, and that any other byte begins no longer character.

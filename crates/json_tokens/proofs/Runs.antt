@@ -59,10 +59,10 @@ module _ {run : Text → Text} {test : ℕ → Bool} (kind : Run run test) {s : 
         within = r.within;
       }
 
-  pub running-ended : length s ≤ i → Skips (run (drop at s)) s at (length s)
+  pub running-ended : length s ≤ i → Skips (run (drop at s)) s at i
   running-ended h =
       record {
-        left = r.same ∙ ap run (ended s i h) ∙ kind.empty ∙ sym (ended s (length s) (omega arith));
-        from = omega arith;
-        within = omega arith;
+        left = r.same ∙ ap run (ended s i h) ∙ kind.empty ∙ sym (ended s i h);
+        from = r.from;
+        within = r.within;
       }

@@ -3,7 +3,7 @@ use Rattle.std.specs.Prelude.{◌≡◌, ℕ, ◌≤◌, length, drop}
 use Rattle.std.specs.Prelude.{Option, None, Some}
 use Rattle.rules.specs.Json.Text.{Text}
 
--- o is what a reader says of a text within s: where it is none the answer is Bad, and else the position of what is left, no earlier than lo
+-- o is what a reader says of a text within s: where it is none the answer is None, and else the position of what is left, no earlier than lo
 abbrev pub Answer : Option Text → (s : Text) → (lo : ℕ) → Option ℕ → Type 0
 Answer o s lo (Some i) = (o ≡ Some (drop i s)) × (lo ≤ i) × (i ≤ length s)
 Answer o s lo None = o ≡ None

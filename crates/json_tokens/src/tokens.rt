@@ -8,7 +8,7 @@ ghost use Rattle.json_tokens.specs.Answers.{Answer, Skips};
 fn is_ws(b: u8) -> bool
     ensures { result ≡ is_ws b }
 {
-    matches!(b, b' ' | b'\t' | b'\n' | b'\r')
+    b == b' ' || b == b'\t' || b == b'\n' || b == b'\r'
 }
 
 // White space, as much as there is.
@@ -19,12 +19,11 @@ pub fn skip_ws(s: &[u8], at: usize) -> usize
     if at < s.len() && b' ' < s[at] {
         return at; // none, as mostly
     }
-    for i in at..s.len() {
-        if !is_ws(s[i]) {
-            return i;
-        }
+    let mut i = at;
+    while i < s.len() && is_ws(s[i]) {
+        i += 1;
     }
-    s.len()
+    i
 }
 
 // The byte b.

@@ -1,33 +1,13 @@
--- `is_plain` meets its contract: the same ranges.
+-- `is_plain` meets its contract: the same range, without the same two bytes.
 use native.Mathlib.Omega.{arith}
 use Rattle.rules.specs.Bytes.{first, among}
 use Rattle.rules.specs.Json.Strings.{is_plain}
 use Rattle.json_characters.proofs.utf8.is_plain.Goals as goal
 
-pub returns-in-32-to-33 : goal.returns-in-32-to-33
+pub returns-then-b-ne-QUOTE : goal.returns-then-b-ne-QUOTE
 unfolding is_plain first among
-returns-in-32-to-33 c = grind arith
+returns-then-b-ne-QUOTE c = grind arith
 
-pub returns-in-32-to-33-2 : goal.returns-in-32-to-33-2
+pub returns-else-b-ne-QUOTE : goal.returns-else-b-ne-QUOTE
 unfolding is_plain first among
-returns-in-32-to-33-2 c = grind arith
-
-pub returns-in-32-to-33-3 : goal.returns-in-32-to-33-3
-unfolding is_plain first among
-returns-in-32-to-33-3 c = grind arith
-
-pub returns-in_default : goal.returns-in_default
-unfolding is_plain first among
-returns-in_default c = grind arith
-
-pub returns-in_default-2 : goal.returns-in_default-2
-unfolding is_plain first among
-returns-in_default-2 c = grind arith
-
-pub returns-in_default-3 : goal.returns-in_default-3
-unfolding is_plain first among
-returns-in_default-3 c = grind arith
-
-pub returns-in_default-4 : goal.returns-in_default-4
-unfolding is_plain first among
-returns-in_default-4 c = grind arith
+returns-else-b-ne-QUOTE c = grind arith

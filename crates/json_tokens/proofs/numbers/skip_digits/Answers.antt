@@ -1,5 +1,8 @@
 -- `skip_digits` meets its contract. The run of digits from `at` on goes on at i.
-use mathlib.Core.Path.{sym}
+use mathlib.Core.Path.{◌≡◌, sym, subst}
+use native.Mathlib.Omega.{arith}
+use lib.ListN.{length}
+use Rattle.json_tokens.specs.Answers.{Skips}
 use Rattle.json_tokens.proofs.Runs.{digits-run, running_more, running-stop, running-ended}
 use Rattle.json_tokens.proofs.Eights.{passed-running}
 use Rattle.json_tokens.proofs.numbers.skip_digits.Goals as goal
@@ -14,4 +17,6 @@ pub loop-i-preserved : goal.loop-i-preserved
 loop-i-preserved c = running_more digits-run c.loop-i.invariant c.loop-i-test.true (sym c.if-not-is_digit.ensures)
 
 pub returns : goal.returns
-returns c = running-ended digits-run c.loop-i.invariant c.loop-i-test.false
+returns c =
+    let end : c.loop-i.i ≡ length c.args.s.now = omega arith in
+    subst (Skips _ _ _) end (running-ended digits-run c.loop-i.invariant c.loop-i-test.false)

@@ -4,18 +4,10 @@ use Rattle.rules.specs.Bytes.{first}
 use Rattle.rules.specs.Json.Text.{is_ws}
 use Rattle.json_tokens.proofs.tokens.is_ws.Goals as goal
 
-pub returns-in_default : goal.returns-in_default
+pub returns-then-b-eq10 : goal.returns-then-b-eq10
 unfolding is_ws first
-returns-in_default c = grind arith
+returns-then-b-eq10 c = grind arith
 
-pub returns-in_default-2 : goal.returns-in_default-2
+pub returns-else-b-eq10 : goal.returns-else-b-eq10
 unfolding is_ws first
-returns-in_default-2 c = grind arith
-
-pub returns-in-32 : goal.returns-in-32
-unfolding is_ws first
-returns-in-32 c = grind arith
-
-pub returns-in-32-2 : goal.returns-in-32-2
-unfolding is_ws first
-returns-in-32-2 c = grind arith
+returns-else-b-eq10 c = grind arith

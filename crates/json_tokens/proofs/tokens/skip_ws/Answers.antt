@@ -9,11 +9,11 @@ returns-then-s-at-gt32 c = running-stop ws-run (running-start c.requires) c.if-a
 pub loop-i-init : goal.loop-i-init
 loop-i-init c = running-start c.requires
 
-pub returns-then-not-is_ws : goal.returns-then-not-is_ws
-returns-then-not-is_ws c = running-stop ws-run c.loop-i.invariant c.loop-i-test.true (sym c.if-not-is_ws.ensures)
-
 pub loop-i-preserved : goal.loop-i-preserved
-loop-i-preserved c = running_more ws-run c.loop-i.invariant c.loop-i-test.true (sym c.if-not-is_ws.ensures)
+loop-i-preserved c = running_more ws-run c.loop-i.invariant c.loop-i-test.true (sym c.if-is_ws.ensures)
 
-pub returns : goal.returns
-returns c = running-ended ws-run c.loop-i.invariant c.loop-i-test.false
+pub returns-else-is_ws : goal.returns-else-is_ws
+returns-else-is_ws c = running-stop ws-run c.loop-i.invariant c.loop-i-test.true (sym c.if-is_ws.ensures)
+
+pub returns-after-loop-i : goal.returns-after-loop-i
+returns-after-loop-i c = running-ended ws-run c.loop-i.invariant c.loop-i-test.false
