@@ -1,15 +1,25 @@
 // The sum that is printed of bytes and of lent rooms: from 7 on, `h = (h * 257 + b) % 4294967291` for each byte b, numbers as little-endian bytes.
+ghost use Rattle.std.specs.Prelude.{◌<◌};
 
 const FIRST: u32 = 7;
 
 const MODULUS: u64 = 4294967291;
 
-fn with_byte(h: u32, b: &u8) -> u32 {
-    ((u64::from(h) * 257 + u64::from(*b)) % MODULUS) as u32
+fn with_byte(h: u32, b: u8) -> u32
+    ensures { result < 4294967291 }
+{
+    ((u64::from(h) * 257 + u64::from(b)) % MODULUS) as u32
 }
 
-fn with_bytes(h: u32, s: &[u8]) -> u32 {
-    s.iter().fold(h, with_byte)
+// h with these bytes.
+fn with_bytes(h: u32, s: &[u8]) -> u32
+    ensures { h < 4294967291 → result < 4294967291 }
+{
+    let mut sum = h;
+    for &b in s {
+        sum = with_byte(sum, b);
+    }
+    sum
 }
 
 pub fn of_bytes(s: &[u8]) -> u32 {
