@@ -2,7 +2,7 @@
 use mathlib.Core.Path.{◌≡◌, refl, sym, ap, ◌∙◌}
 use mathlib.Core.List.{◌∷◌, ◌++◌}
 use Rattle.std.specs.Prelude.{Some}
-use Prim.Native.Nat.{ℕ, zero, suc, ◌+◌, ◌-◌, ◌≤◌, ◌<◌, min}
+use Prim.Native.Nat.{ℕ, zero, suc, ◌+◌, ◌-◌, ◌≤◌, ◌<◌}
 use native.Mathlib.Omega.{arith}
 use lib.Dec.{eqb, ltb}
 use lib.ListN.{length, drop, get_or}
@@ -137,10 +137,10 @@ module _ (s : Text) (i : ℕ) {t : Text} {j end : ℕ} (w : Raw t j end) where
       here k q x f = let p : n ≡ k = omega arith in x (ap (λ (m : ℕ). get_or t (j + m) 0) p ∙ f)
 
   -- as far as both are looked at, `room` bytes, n are alike, and m of them are whole
-  pub common-whole : {room n m : ℕ} → i < length s → room ≡ min (end - j) (length s - i) → (n ≤ room) × Alike s i t j n → (m ≤ n) × Whole t j m
+  pub common-whole : {room n m : ℕ} → i < length s → (room ≤ end - j) × (room ≤ length s - i) → (n ≤ room) × Alike s i t j n → (m ≤ n) × Whole t j m
       → Common s i t j m
   common-whole {room} {n} {m} h r a v =
-      common-raw m (omega (arith, r, a.0, v.0)) (omega (arith, w.low, r, a.0, v.0)) (λ k l. a.1 k (omega (arith, v.0))) v.1
+      common-raw m (omega (arith, r.1, a.0, v.0)) (omega (arith, w.low, r.0, a.0, v.0)) (λ k l. a.1 k (omega (arith, v.0))) v.1
 
   module _ {n : ℕ} (h : i + n < length s) (l : j + n < end) (a : Alike s i t j n) (b : Tells (get_or s (i + n) 0) (get_or t (j + n) 0)) where
     common-told : Common s i t j n

@@ -42,7 +42,8 @@ returns c =
     let m = c.whole-m.result in
     let e = c.common-n.ensures in
     -- what they begin with in common
-    let passed = common-whole s c.args.i c.requires.2 (well-within c.requires.0) c.min-room.ensures (e.0, e.1) c.whole-m.ensures in
+    let passed = common-whole s c.args.i c.requires.2 (well-within c.requires.0)
+    (omega (arith, c.min-room.ensures), omega (arith, c.min-room.ensures)) (e.0, e.1) c.whole-m.ensures in
     c.order_rests.ensures
     ∙ ap order_is
     (order-anew s t (c.args.i + m) (c.args.j + m) ∙ sym passed.same ∙ order-decoded c.requires.0 c.requires.1)

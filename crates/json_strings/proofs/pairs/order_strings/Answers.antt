@@ -24,12 +24,14 @@ order_rests-requires c =
     -- what they begin with in common
     let e = c.common-n.ensures in
     let passed =
-    common-whole c.args.s.now c.args.i c.raw_end-end.ensures (well-within c.requires.0) c.min-room.ensures (e.0, e.1) c.whole-m.ensures in
+    common-whole c.args.s.now c.args.i c.raw_end-end.ensures (well-within c.requires.0)
+    (omega (arith, c.min-room.ensures), omega (arith, c.min-room.ensures)) (e.0, e.1) c.whole-m.ensures in
     (passed.first, passed.second)
 
 pub returns : goal.returns
 returns c =
     let e = c.common-n.ensures in
     let passed =
-    common-whole c.args.s.now c.args.i c.raw_end-end.ensures (well-within c.requires.0) c.min-room.ensures (e.0, e.1) c.whole-m.ensures in
+    common-whole c.args.s.now c.args.i c.raw_end-end.ensures (well-within c.requires.0)
+    (omega (arith, c.min-room.ensures), omega (arith, c.min-room.ensures)) (e.0, e.1) c.whole-m.ensures in
     c.order_rests.ensures ∙ ap order_is (sym passed.same ∙ order-decoded c.requires.0 c.requires.1)
